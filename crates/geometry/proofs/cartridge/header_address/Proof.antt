@@ -1,0 +1,62 @@
+use Rattle.geometry.proofs.Table.{upto, at-index}
+use Rattle.geometry.specs.Pick.{pick}
+use Rattle.geometry.specs.declared.address.Address.{Address}
+use lib.ListN.{getD}
+use lib.Dec.{T, eqb, eqb→eq}
+use native.Mathlib.Omega.{arith}
+use Prim.Native.Nat.{ℕ, _+_, _%_, _<_}
+use mathlib.Core.List.{List, [], _∷_}
+use mathlib.Core.Bool.{Bool}
+use mathlib.Core.Path.{_≡_}
+use borrow.Author.Needs.{needs}
+use Rattle.geometry.proofs.cartridge.header_address.Statement.{statement}
+use Rattle.geometry.proofs.cartridge.header_address.Tie as tie
+use Rattle.geometry.proofs.cartridge.header_address.Reads as reads
+use Rattle.geometry.proofs.cartridge.header_address.Lts as lts
+
+abbrev at : ℕ → Address
+at n = record { 0 = n }
+
+-- the table, and its rule
+abbrev headers : List (List Address)
+headers =
+    (at 5 ∷ at 6 ∷ at 7 ∷ at 8 ∷ at 9 ∷ [])
+    ∷ (at 2990 ∷ at 2991 ∷ at 2992 ∷ at 2993 ∷ at 2994 ∷ [])
+    ∷ []
+
+right : ℕ → ℕ → Bool
+right g c = eqb (getD (getD headers g []) c (at 0) .0) (pick (eqb g 0) 5 2990 + c)
+
+-- src/cartridge.rt:88:13
+cast-g : tie.Need-cast-g
+cast-g c = search needs
+
+-- src/cartridge.rt:89:13
+cast-c : tie.Need-cast-c
+cast-c c = search needs
+
+-- src/cartridge.rt:90:5
+mul-result : tie.Need-mul-result
+mul-result c = search needs
+
+-- src/cartridge.rt:90:5
+mul-result-2 : tie.Need-mul-result-2
+mul-result-2 c = search needs
+
+-- src/cartridge.rt:90:5
+index-1-result : tie.Need-index-1-result
+index-1-result c = search needs
+
+-- src/cartridge.rt:90:5
+index-2-result : tie.Need-index-2-result
+index-2-result c = search needs
+
+-- src/cartridge.rt:85:1
+returns : tie.Need-returns
+unfolding right
+returns c = eqb→eq _ _ (at-index 5 (right (c .before .args .group % 2)) (at-index 2 (λ g. upto 5 (right g)) tt (c .before .args .group % 2) (omega arith)) (c .before .args .copy % 5) (omega arith))
+
+pub header-address-spec : {M : Type 1} → statement M
+header-address-spec =
+    tie.close
+    (tie.spec cast-g cast-c mul-result mul-result-2 index-1-result index-2-result returns)

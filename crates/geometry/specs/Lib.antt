@@ -1,0 +1,6 @@
+pub mod Pick
+pub mod Refused
+pub mod Said
+pub mod Cartridge
+pub mod Target
+pub mod Edges

@@ -1,0 +1,13 @@
+-- An address or a refusal, in 01's numbers.
+use Prim.Native.Nat.{ℕ}
+use Rattle.geometry.specs.declared.address.Place.{Place}
+use Rattle.geometry.specs.declared.address.Place.the-variants.{At, Refused}
+use Rattle.geometry.specs.Refused.{refusalNumber}
+
+pub data Said : Type 0 where
+  address : ℕ → Said
+  refused : ℕ → Said
+
+abbrev pub placeSaid : Place → Said
+placeSaid (At a) = address (a .0)
+placeSaid (Refused r) = refused (refusalNumber r)

@@ -1,0 +1,85 @@
+// The frames of a cartridge: how many, which hold user data, and where the headers stand.
+ghost use mathlib.Core.Path.{_≡_};
+ghost use Rattle.geometry.specs.Said.{placeSaid};
+ghost use Rattle.geometry.specs.Cartridge.{trackFrames, framesOf, lastOf, isUser, headerAddress};
+use crate::address::Address;
+use crate::address::Place;
+use crate::refusal::Refusal;
+
+// Where the cartridge is loaded.
+pub enum LoadPoint {
+    Beginning,
+    Centre,
+}
+
+// SEGTRK, frames per track, and TRKS, tracks, as the drive reports them.
+pub struct Geometry {
+    pub segtrk: u16,
+    pub trks: u16,
+    pub load: LoadPoint,
+}
+
+// The header frames' addresses, by group and copy.
+const HEADERS: [[Address; 5]; 2] = [
+    [Address(5), Address(6), Address(7), Address(8), Address(9)],
+    [
+        Address(2990),
+        Address(2991),
+        Address(2992),
+        Address(2993),
+        Address(2994),
+    ],
+];
+
+impl Geometry {
+    // The frames of a track that can be used.
+    fn track_frames(self) -> u16
+        ensures { λ r. ⌜ r ≡ trackFrames (self .load) (self .segtrk) ⌝ }
+    {
+        let load = self.load;
+        match load {
+            LoadPoint::Beginning => self.segtrk,
+            LoadPoint::Centre => {
+                if self.segtrk < 99 {
+                    0
+                } else {
+                    self.segtrk - 99
+                }
+            }
+        }
+    }
+
+    // The frames on tape; 0 where a cartridge loaded at its centre has too short tracks.
+    pub fn frames(self) -> u32
+        ensures { λ r. ⌜ r ≡ framesOf self ⌝ }
+    {
+        (self.track_frames() as u32) * (self.trks as u32)
+    }
+
+    // LAST, the highest address; refused with 2 where there are too few frames.
+    pub fn last(self) -> Place
+        ensures { λ r. ⌜ placeSaid r ≡ lastOf self ⌝ }
+    {
+        let n = self.frames();
+        if n < 3001 {
+            return Place::Refused(Refusal::Geometry);
+        }
+        Place::At(Address(n - 1))
+    }
+}
+
+// Whether an address is a user frame's, on a cartridge with this LAST.
+pub fn is_user(last: Address, a: Address) -> bool
+    ensures { λ r. ⌜ r ≡ isUser (last .0) (a .0) ⌝ }
+{
+    ((10 <= a.0) & (a.0 <= 2989)) | ((3000 <= a.0) & (a.0 <= last.0))
+}
+
+// The address of a header copy. Groups count modulo 2 and copies modulo 5, so that every number has its place.
+pub fn header_address(group: u8, copy: u8) -> Address
+    ensures { λ r. ⌜ r .0 ≡ headerAddress group copy ⌝ }
+{
+    let g = (group % 2) as usize;
+    let c = (copy % 5) as usize;
+    HEADERS[g][c]
+}

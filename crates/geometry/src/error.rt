@@ -1,0 +1,36 @@
+// Where writing goes on after an address that was skipped.
+ghost use mathlib.Core.Path.{_≡_};
+ghost use Rattle.geometry.specs.Said.{placeSaid};
+ghost use Rattle.geometry.specs.Cartridge.{pastReserved};
+ghost use Rattle.geometry.specs.Target.{stepOf, targetOf};
+use crate::address::Address;
+use crate::address::Place;
+use crate::refusal::Refusal;
+
+// An address moved out of the second header group and the defect map behind it.
+pub fn past_reserved(t: u64) -> u64
+    ensures { λ r. ⌜ r ≡ pastReserved t ⌝ }
+{
+    if t < 2990 {
+        return t;
+    }
+    if t < 3000 { 3000 } else { t }
+}
+
+// The addresses that an error skips: at least one.
+fn step(skip: u8) -> u8
+    ensures { λ r. ⌜ r ≡ stepOf skip ⌝ }
+{
+    if skip == 0 { 1 } else { skip }
+}
+
+// The target of a write error at p. `limit` is the address one past END.
+pub fn target(p: Address, skip: u8, limit: Address) -> Place
+    ensures { λ r. ⌜ placeSaid r ≡ targetOf (p .0) skip (limit .0) ⌝ }
+{
+    let t = past_reserved((p.0 as u64) + (step(skip) as u64));
+    if t < (limit.0 as u64) {
+        return Place::At(Address(t as u32));
+    }
+    Place::Refused(Refusal::TapeFull)
+}

@@ -1,0 +1,18 @@
+// Addresses and sequence numbers, the cartridge's geometry, and the refusals: what every other crate speaks of.
+mod address;
+mod cartridge;
+mod error;
+mod refusal;
+
+pub use address::Address;
+pub use address::Place;
+pub use address::Seq;
+pub use cartridge::Geometry;
+pub use cartridge::LoadPoint;
+pub use cartridge::header_address;
+pub use cartridge::is_user;
+pub use error::past_reserved;
+pub use error::target;
+pub use refusal::Refusal;
+pub use refusal::Verdict;
+pub use refusal::number;
