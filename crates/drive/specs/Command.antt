@@ -1,0 +1,17 @@
+-- The commands by their operation codes (table 4-1 of the standard) and addresses.
+use Prim.Native.Nat.{ℕ}
+use Rattle.drive.specs.declared.command.Command.{Command}
+use Rattle.drive.specs.declared.command.Command.the-variants.{Read, Write, Locate, ReadPosition}
+
+abbrev pub commandCode : Command → ℕ
+commandCode (Read a) = 0x08
+commandCode (Write a) = 0x0A
+commandCode (Locate a) = 0x2B
+commandCode ReadPosition = 0x34
+
+-- READ POSITION has no address
+abbrev pub commandAddress : Command → ℕ
+commandAddress (Read a) = a .0
+commandAddress (Write a) = a .0
+commandAddress (Locate a) = a .0
+commandAddress ReadPosition = 0
