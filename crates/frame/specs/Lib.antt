@@ -1,0 +1,5 @@
+pub mod Bytes
+pub mod Aux
+pub mod Frame
+pub mod Header
+pub mod Sent

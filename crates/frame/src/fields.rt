@@ -1,0 +1,67 @@
+// The 512 AUX bytes of a frame.
+ghost use mathlib.Core.Path.{_≡_};
+ghost use lib.Dec.{eqb};
+ghost use lib.ListN.{length};
+ghost use Rattle.geometry.specs.Pick.{pick};
+ghost use Rattle.geometry.specs.Refused.{verdictNumber};
+ghost use Rattle.frame.specs.Aux.{auxBytes};
+use crate::access::build_access_table;
+use crate::bytes::clear;
+use crate::bytes::put_be16;
+use crate::bytes::put_be32;
+use geometry::Address;
+use geometry::Refusal;
+use geometry::Seq;
+use geometry::Verdict;
+
+// The fields of figure 3-1 that differ between frames.
+pub struct Fields {
+    pub update: u32,
+    // The frame type.
+    pub kind: u16,
+    pub partition: u8,
+    pub pass: u16,
+    pub first: Address,
+    pub last: Address,
+    // The frame sequence number and the logical block address, which are one number.
+    pub seq: Seq,
+    // The access table: number of entries, block size and flags of the one entry.
+    pub entries: u8,
+    pub size: u32,
+    pub flags: u8,
+    // Filemarks before this frame, and the address of the latest of their markers.
+    pub filemarks: u32,
+    pub marker: Address,
+}
+
+pub(crate) fn fill_aux(aux: &mut [u8], f: Fields)
+    requires { ⌜ length (now aux) ≡ 512 ⌝ }
+    ensures { λ _. ⌜ now (aux .exit) ≡ auxBytes f ⌝ }
+{
+    clear(aux);
+    put_be32(aux, 12, f.update);
+    put_be16(aux, 16, f.kind);
+    aux[20] = f.partition;
+    aux[21] = 1;
+    put_be16(aux, 22, f.pass);
+    put_be32(aux, 24, f.first.0);
+    put_be32(aux, 28, f.last.0);
+    put_be32(aux, 44, f.seq.0);
+    put_be32(aux, 52, f.seq.0);
+    build_access_table(&mut aux[56..188], f.entries, f.size, f.flags);
+    put_be32(aux, 192, f.filemarks);
+    put_be32(aux, 196, 0xFFFFFFFF);
+    put_be32(aux, 200, f.marker.0);
+}
+
+// Fills a buffer of 512 bytes; one of another length is refused with 1 and left alone.
+pub fn build_aux(aux: &mut [u8], f: Fields) -> Verdict
+    ensures answer { λ r. ⌜ verdictNumber r ≡ pick (eqb (length (now (aux .entry))) 512) 0 1 ⌝ }
+    ensures bytes { λ _. ⌜ now (aux .exit) ≡ pick (eqb (length (now (aux .entry))) 512) (auxBytes f) (now (aux .entry)) ⌝ }
+{
+    if aux.len() != 512 {
+        return Verdict::Refused(Refusal::Length);
+    }
+    fill_aux(aux, f);
+    Verdict::Accepted
+}

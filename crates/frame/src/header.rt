@@ -1,0 +1,79 @@
+// Header frames.
+ghost use mathlib.Core.Path.{_≡_};
+ghost use lib.Dec.{eqb};
+ghost use lib.ListN.{length, replicate};
+ghost use Rattle.geometry.specs.Pick.{pick};
+ghost use Rattle.geometry.specs.Refused.{verdictNumber};
+ghost use Rattle.frame.specs.Header.{headerFields, headerFrame};
+use crate::bytes::clear;
+use crate::bytes::put_be16;
+use crate::bytes::put_be32;
+use crate::fields::Fields;
+use crate::fields::fill_aux;
+use geometry::Address;
+use geometry::Refusal;
+use geometry::Seq;
+use geometry::Verdict;
+
+// What a header tells of the cartridge.
+pub struct Header {
+    pub last: Address,
+    pub pass: u16,
+    // The address of EOD, 0 while the recording is not closed.
+    pub eod: Address,
+    pub update: u32,
+}
+
+// The named data bytes.
+fn fill_fields(front: &mut [u8], h: Header)
+    requires { ⌜ now front ≡ replicate 36 0 ⌝ }
+    ensures { λ _. ⌜ now (front .exit) ≡ headerFields h ⌝ }
+{
+    put_be32(front, 0, 0x4144525F);
+    put_be32(front, 4, 0x53455100);
+    front[8] = 1;
+    front[9] = 3;
+    front[16] = 1;
+    front[21] = 1;
+    put_be16(front, 22, h.pass);
+    put_be32(front, 24, 10);
+    put_be32(front, 28, h.last.0);
+    put_be32(front, 32, h.eod.0);
+}
+
+fn fill_header(frame: &mut [u8], h: Header)
+    requires { ⌜ length (now frame) ≡ 33280 ⌝ }
+    ensures { λ _. ⌜ now (frame .exit) ≡ headerFrame h ⌝ }
+{
+    clear(&mut frame[..32768]);
+    fill_fields(&mut frame[..36], h);
+    fill_aux(
+        &mut frame[32768..],
+        Fields {
+            update: h.update,
+            kind: 0x0800,
+            partition: 0xFF,
+            pass: 0xFFFF,
+            first: Address(0),
+            last: Address(2999),
+            seq: Seq(0),
+            entries: 0,
+            size: 0,
+            flags: 0,
+            filemarks: 0,
+            marker: Address(0xFFFFFFFF),
+        },
+    );
+}
+
+// Fills a frame of 33,280 bytes; one of another length is refused with 1 and left alone.
+pub fn build_header(frame: &mut [u8], h: Header) -> Verdict
+    ensures answer { λ r. ⌜ verdictNumber r ≡ pick (eqb (length (now (frame .entry))) 33280) 0 1 ⌝ }
+    ensures bytes { λ _. ⌜ now (frame .exit) ≡ pick (eqb (length (now (frame .entry))) 33280) (headerFrame h) (now (frame .entry)) ⌝ }
+{
+    if frame.len() != 33280 {
+        return Verdict::Refused(Refusal::Length);
+    }
+    fill_header(frame, h);
+    Verdict::Accepted
+}

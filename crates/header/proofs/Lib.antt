@@ -1,0 +1,4 @@
+pub mod Choices
+pub mod Facts
+pub mod Built
+pub mod AsRead

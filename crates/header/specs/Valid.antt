@@ -1,0 +1,43 @@
+-- 01, "AUX bytes": when a header that was read is valid. Bytes not named here are ignored.
+use Prim.Native.Nat.{ℕ}
+use mathlib.Core.Bool.{Bool, _&&_, _||_}
+use mathlib.Core.List.{List}
+use lib.Dec.{eqb, leb}
+use lib.ListN.{getD}
+use Rattle.geometry.specs.Cartridge.{isUser}
+use Rattle.frame.specs.Bytes.{get16, get32}
+use Rattle.frame.specs.declared.header.Header.{Header}
+
+-- "ADR_SEQ" and a zero byte; major 1, minor 2 or 3; partition count 1
+abbrev pub isNamed : List ℕ → Bool
+isNamed h =
+    eqb (get32 h 0) 0x4144525F && eqb (get32 h 4) 0x53455100
+    && eqb (getD h 8 0) 1 && (eqb (getD h 9 0) 2 || eqb (getD h 9 0) 3)
+    && eqb (getD h 16 0) 1
+
+-- partition 0, version 1, a pass of at most 65,534, first address 10, LAST, and an EOD address that is 0 or a user frame
+abbrev pub isPartition : ℕ → List ℕ → Bool
+isPartition last h =
+    eqb (getD h 20 0) 0 && eqb (getD h 21 0) 1 && leb (get16 h 22) 65534 && eqb (get32 h 24) 10 && eqb (get32 h 28) last
+    && (eqb (get32 h 32) 0 || isUser last (get32 h 32))
+
+-- AUX 0-3 are 0, the type is 08 00, the partition FF
+abbrev pub isHeaderAux : List ℕ → Bool
+isHeaderAux h = eqb (get32 h 32768) 0 && eqb (get16 h 32784) 0x0800 && eqb (getD h 32788 0) 0xFF
+
+-- valid on a cartridge with this LAST
+unfoldable pub validHeader : ℕ → List ℕ → Bool
+validHeader last h = isNamed h && isPartition last h && isHeaderAux h
+
+-- AUX 12-15
+unfoldable pub updateOf : List ℕ → ℕ
+updateOf h = get32 h 32780
+
+-- what the header tells
+abbrev pub headerOf : List ℕ → Header
+headerOf h = record {
+  last = record { 0 = get32 h 28 };
+  pass = get16 h 22;
+  eod = record { 0 = get32 h 32 };
+  update = updateOf h;
+}

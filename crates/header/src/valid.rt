@@ -1,0 +1,69 @@
+// Whether a header frame is valid, and its fields.
+ghost use mathlib.Core.Path.{_≡_};
+ghost use Rattle.header.specs.Valid.{isNamed, isPartition, isHeaderAux, validHeader, headerOf};
+use frame::Header;
+use frame::be16_at;
+use frame::be32_at;
+use frame::byte_at;
+use geometry::Address;
+use geometry::is_user;
+
+fn is_named(h: &[u8]) -> bool
+    ensures { λ r. ⌜ r ≡ isNamed (now (h .entry)) ⌝ }
+{
+    let start = be32_at(h, 0) == 0x4144525F;
+    let rest = be32_at(h, 4) == 0x53455100;
+    let major = byte_at(h, 8);
+    let minor = byte_at(h, 9);
+    let partitions = byte_at(h, 16);
+    start & rest & (major == 1) & ((minor == 2) | (minor == 3)) & (partitions == 1)
+}
+
+fn is_partition(last: Address, h: &[u8]) -> bool
+    ensures { λ r. ⌜ r ≡ isPartition (last .0) (now (h .entry)) ⌝ }
+{
+    let number = byte_at(h, 20);
+    let version = byte_at(h, 21);
+    let pass = be16_at(h, 22);
+    let first = be32_at(h, 24);
+    let end = be32_at(h, 28);
+    let eod = be32_at(h, 32);
+    let user = is_user(last, Address(eod));
+    (number == 0)
+        & (version == 1)
+        & (pass <= 65534)
+        & (first == 10)
+        & (end == last.0)
+        & ((eod == 0) | user)
+}
+
+fn is_header_aux(h: &[u8]) -> bool
+    ensures { λ r. ⌜ r ≡ isHeaderAux (now (h .entry)) ⌝ }
+{
+    let format = be32_at(h, 32768);
+    let kind = be16_at(h, 32784);
+    let partition = byte_at(h, 32788);
+    (format == 0) & (kind == 0x0800) & (partition == 0xFF)
+}
+
+// Whether a header frame is valid on a cartridge with this LAST.
+pub fn is_valid(last: Address, h: &[u8]) -> bool
+    ensures { λ r. ⌜ r ≡ validHeader (last .0) (now (h .entry)) ⌝ }
+{
+    let named = is_named(h);
+    let partition = is_partition(last, h);
+    let aux = is_header_aux(h);
+    named & partition & aux
+}
+
+// The fields of a header frame; of a valid one they are the cartridge's.
+pub fn read_header(h: &[u8]) -> Header
+    ensures { λ r. ⌜ r ≡ headerOf (now (h .entry)) ⌝ }
+{
+    Header {
+        last: Address(be32_at(h, 28)),
+        pass: be16_at(h, 22),
+        eod: Address(be32_at(h, 32)),
+        update: be32_at(h, 32780),
+    }
+}

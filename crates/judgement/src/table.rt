@@ -1,0 +1,20 @@
+// Whether a frame's AUX is of this use model.
+ghost use mathlib.Core.Path.{_≡_};
+ghost use lib.ListN.{length};
+ghost use Rattle.judgement.specs.Judgement.{asTable};
+use frame::Element;
+use frame::agrees;
+use frame::build_aux;
+use frame::element_fields;
+
+// Compares bytes 18 to 35 and 44 to 67 with those that a recording writes for the element. None of them depends on its filemarks and its marker.
+pub(crate) fn as_table(e: Element, aux: &[u8]) -> bool
+    requires { ⌜ length (now aux) ≡ 512 ⌝ }
+    ensures { λ r. ⌜ r ≡ asTable e (now (aux .entry)) ⌝ }
+{
+    let mut table = [0u8; 512];
+    build_aux(&mut table, element_fields(e));
+    let description = agrees(&aux[18..36], &table[18..36]);
+    let numbers = agrees(&aux[44..68], &table[44..68]);
+    description & numbers
+}
