@@ -9,11 +9,8 @@ use borrow.Author.Tests.{eq-eqb, eqb-true}
 use lib.Dec.{eqb}
 use lib.ListN.{length, drop, getD, drop-of-length-le}
 use lib.Seq.{drop-cons}
+use Rattle.geometry.proofs.TestLaws.{and-true}
 use Rattle.frame.specs.Bytes.{agree}
-
-pub both : (a b : Bool) → (a && b) ≡ true → (a ≡ true) × (b ≡ true)
-both true b h = (refl, h)
-both false b h = absurd (let z : _≡_ {A = ℕ} 0 1 = cc in omega arith)
 
 pub agree-same : (a : List ℕ) → agree a a ≡ true
 unfolding agree
@@ -26,7 +23,7 @@ agree-is [] [] h = refl
 agree-is [] (y ∷ ys) h = cc
 agree-is (x ∷ xs) [] h = cc
 agree-is (x ∷ xs) (y ∷ ys) h =
-    let t = both (eqb x y) (agree xs ys) h in
+    let t = and-true (eqb x y) (agree xs ys) h in
     let head : x ≡ y = eqb-true x y (t .0) in
     let tail : xs ≡ ys = agree-is xs ys (t .1) in
     cc

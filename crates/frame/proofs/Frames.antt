@@ -17,7 +17,7 @@ use Rattle.frame.specs.declared.element.Kind.the-variants.{Data, Marker,
 use Rattle.frame.specs.declared.element.Element.{Element}
 use Rattle.frame.specs.declared.fields.Fields.{Fields}
 use Rattle.frame.specs.declared.header.Header.{Header}
-use Rattle.frame.proofs.Agreement.{both}
+use Rattle.geometry.proofs.TestLaws.{and-true}
 use Rattle.frame.proofs.Numbers.{same16, same32}
 
 pub access-length : (entries size flags : ℕ) → length (accessBytes entries size flags) ≡ 132
@@ -67,12 +67,12 @@ module _ (front : List ℕ) (f : Fields) (long : length front ≡ 32768) where
 
 -- what a frame that fits is as long as, and that its block does
 pub fits-length : (k : Kind) (frame block : ℕ) → elementFits k frame block ≡ true → frame ≡ 33280
-fits-length Data frame block h = eqb-true frame 33280 (both (eqb frame 33280) (eqb block 32768) h .0)
+fits-length Data frame block h = eqb-true frame 33280 (and-true (eqb frame 33280) (eqb block 32768) h .0)
 fits-length Marker frame block h = eqb-true frame 33280 h
 fits-length Eod frame block h = eqb-true frame 33280 h
 
 pub fits-block : (k : Kind) (frame block : ℕ) → elementFits k frame block ≡ true → elementFits k 33280 block ≡ true
-fits-block Data frame block h = both (eqb frame 33280) (eqb block 32768) h .1
+fits-block Data frame block h = and-true (eqb frame 33280) (eqb block 32768) h .1
 fits-block Marker frame block h = refl
 fits-block Eod frame block h = refl
 

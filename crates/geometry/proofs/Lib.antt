@@ -1,3 +1,4 @@
 pub mod PickLaws
+pub mod TestLaws
 pub mod Table
 pub mod EdgeCases

@@ -8,21 +8,21 @@ use lib.Dec.{eqb, leb}
 use lib.ListN.{getD}
 use Rattle.geometry.specs.Cartridge.{isUser}
 use Rattle.frame.specs.Bytes.{get16, get32}
-use Rattle.frame.proofs.Agreement.{both}
+use Rattle.geometry.proofs.TestLaws.{and-true}
 use Rattle.header.specs.Valid.{isNamed, isPartition, isHeaderAux, validHeader, headerOf}
 
 -- the third, fifth and sixth of six tests that all hold
 three-of-six : (a b c d e f : Bool) → (a && b && c && d && e && f) ≡ true → (c ≡ true) × (e ≡ true) × (f ≡ true)
 three-of-six a b c d e f h =
-    let upto-e = both (a && b && c && d && e) f h in
-    let upto-d = both (a && b && c && d) e (upto-e .0) in
-    let upto-c = both (a && b && c) d (upto-d .0) in
-    (both (a && b) c (upto-c .0) .1, upto-d .1, upto-e .1)
+    let upto-e = and-true (a && b && c && d && e) f h in
+    let upto-d = and-true (a && b && c && d) e (upto-e .0) in
+    let upto-c = and-true (a && b && c) d (upto-d .0) in
+    (and-true (a && b) c (upto-c .0) .1, upto-d .1, upto-e .1)
 
 module _ (last : ℕ) (h : List ℕ) (valid : validHeader last h ≡ true) where
   partition : isPartition last h ≡ true
   unfolding validHeader
-  partition = both (isNamed h) (isPartition last h) (both (isNamed h && isPartition last h) (isHeaderAux h) valid .0) .1
+  partition = and-true (isNamed h) (isPartition last h) (and-true (isNamed h && isPartition last h) (isHeaderAux h) valid .0) .1
 
   tests : (leb (get16 h 22) 65534 ≡ true) × (eqb (get32 h 28) last ≡ true) × ((eqb (get32 h 32) 0 || isUser last (get32 h 32)) ≡ true)
   tests =

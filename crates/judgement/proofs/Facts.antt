@@ -10,7 +10,8 @@ use Rattle.frame.specs.Bytes.{get16, get32, agree}
 use Rattle.frame.specs.Aux.{typeOf, auxBytes, elementAux}
 use Rattle.frame.specs.declared.element.Element.{Element}
 use Rattle.frame.specs.declared.element.Kind.{Kind}
-use Rattle.frame.proofs.Agreement.{both, agree-same, agree-is}
+use Rattle.geometry.proofs.TestLaws.{and-true}
+use Rattle.frame.proofs.Agreement.{agree-same, agree-is}
 use Rattle.judgement.specs.Judgement.{expectedElement, part, asTable, isCurrent}
 
 -- the AUX is of the pass
@@ -44,8 +45,8 @@ module _ {pass : ℕ} {aux : List ℕ} where
   pub so-current : isCurrent pass aux ≡ true → Current pass aux
   unfolding isCurrent
   so-current h =
-      let outer = both (eqb (get32 aux 0) 0 && eqb (getD aux 20 0) 0) (eqb (get16 aux 22) pass) h in
-      let inner = both (eqb (get32 aux 0) 0) (eqb (getD aux 20 0) 0) (outer .0) in
+      let outer = and-true (eqb (get32 aux 0) 0 && eqb (getD aux 20 0) 0) (eqb (get16 aux 22) pass) h in
+      let inner = and-true (eqb (get32 aux 0) 0) (eqb (getD aux 20 0) 0) (outer .0) in
       record {
         format = eqb-true (get32 aux 0) 0 (inner .0);
         partition = eqb-true (getD aux 20 0) 0 (inner .1);
@@ -61,5 +62,5 @@ module _ {e : Element} {aux : List ℕ} where
   pub so-alike : asTable e aux ≡ true → Alike e aux
   unfolding asTable
   so-alike h =
-      let t = both (agree (part 18 36 aux) (part 18 36 (auxBytes (elementAux e)))) (agree (part 44 68 aux) (part 44 68 (auxBytes (elementAux e)))) h in
+      let t = and-true (agree (part 18 36 aux) (part 18 36 (auxBytes (elementAux e)))) (agree (part 44 68 aux) (part 44 68 (auxBytes (elementAux e)))) h in
       record { description = agree-is _ _ (t .0); numbers = agree-is _ _ (t .1) }

@@ -1,0 +1,73 @@
+-- The address of a LOCATE or a WRITE that is due is the next copy's: a LOCATE never stands behind a group's last copy. Assumes nothing.
+use Prim.Native.Nat.{ℕ, _<_}
+use mathlib.Core.Path.{_≡_, refl, sym, ap, _∙_}
+use mathlib.Core.Bool.{Bool, true, false, false≢true}
+use mathlib.Core.Logic.{_⊎_, ⊎-elim, inl, inr}
+use native.Mathlib.Omega.{arith}
+use Rattle.geometry.specs.declared.address.Address.{Address}
+use Rattle.frame.specs.declared.header.Header.{Header}
+use Rattle.drive.specs.declared.command.Command.{Command}
+use Rattle.drive.specs.declared.command.Command.the-variants.{Write, Locate}
+use Rattle.drive.specs.declared.reply.Reply.{Reply}
+use Rattle.copies.specs.declared.state.Copies.{Copies}
+use Rattle.copies.specs.Copies.{startOf, headerAt, commandOf, Said, more, complete, refused, onwardOf, nextAddress, answerOf}
+use Rattle.copies.proofs.HeaderPlaces.{header-from-first}
+use Rattle.copies.proofs.CommandView.{CommandView, locating, writing, asking, command-view, write-due}
+use Rattle.copies.proofs.AnswerView.{OnwardView, unfinished, turning, unwritten, through, onward-view, AnswerView, located, taken, positioned, failed, unlawful, answer-view}
+
+pub record Placed (locate : Bool) (copy outstanding : ℕ) : Type 0 where
+  pub left : locate ≡ true → copy < 5
+  pub empty : locate ≡ true → outstanding ≡ 0
+
+abbrev pub PlacedOf : Copies → Type 0
+PlacedOf c = Placed (c .locate) (c .copy) (c .outstanding)
+
+abbrev pub PlacedSaid : Said → Type 0
+PlacedSaid (more c) = PlacedOf c
+PlacedSaid complete = Unit {0}
+PlacedSaid (refused r) = Unit {0}
+
+pub start-placed : (h : Header) → PlacedOf (startOf h)
+start-placed h = record { left = λ _. omega arith; empty = λ _. refl }
+
+-- where no LOCATE is due
+unlocated : {locate : Bool} (copy outstanding : ℕ) → locate ≡ false → Placed locate copy outstanding
+unlocated copy outstanding f =
+    record { left = λ t. absurd (false≢true (sym f ∙ t)); empty = λ t. absurd (false≢true (sym f ∙ t)) }
+
+onward-in-view : (c : Copies) (s : Said) → (c .locate ≡ true → c .outstanding ≡ 0) → OnwardView c s → PlacedSaid s
+onward-in-view c _ empty (unfinished w) =
+    record { left = λ t. let z = empty t in ⊎-elim (λ h. h) (λ h. omega arith) w; empty = empty }
+onward-in-view c _ empty (turning filled none first) = record { left = λ _. omega arith; empty = λ _. none }
+onward-in-view c _ empty (unwritten filled none later lost) = tt
+onward-in-view c _ empty (through filled none later some) = tt
+
+pub onward-placed : (c : Copies) → (c .locate ≡ true → c .outstanding ≡ 0) → PlacedSaid (onwardOf c)
+onward-placed c empty = onward-in-view c (onwardOf c) empty (onward-view c)
+
+answer-in-view : (c : Copies) (n : ℕ) (reply : Reply) (s : Said) → ((n ≡ 0x0A01) ⊎ (n ≡ 0x3401) → c .locate ≡ false) → AnswerView c n reply s → PlacedSaid s
+answer-in-view c n reply _ f (located e) = unlocated _ _ refl
+answer-in-view c n reply _ f (taken e) = unlocated _ _ (f (inl e))
+answer-in-view c n reply _ f (positioned e h) =
+    onward-placed _ (λ t. absurd (false≢true (sym (f (inr e)) ∙ t)))
+answer-in-view c n reply _ f (failed e low high) = onward-placed _ (λ _. refl)
+answer-in-view c n reply _ f (unlawful u) = tt
+
+-- a WRITE or a READ POSITION is only due where no LOCATE is
+pub answer-placed : (c : Copies) (n : ℕ) (reply : Reply) → ((n ≡ 0x0A01) ⊎ (n ≡ 0x3401) → c .locate ≡ false) → PlacedSaid (answerOf c n reply)
+answer-placed c n reply f = answer-in-view c n reply (answerOf c n reply) f (answer-view c n reply)
+
+pub write-address : (depth : ℕ) (c : Copies) (a : Address) → commandOf depth c ≡ Write a → a .0 ≡ nextAddress c
+write-address depth c a e =
+    let due = write-due depth c a e in
+    ap (λ (x : Address). x .0) (due .place) ∙ header-from-first (c .group) (c .copy) (due .left)
+
+locate-in-view : (depth : ℕ) (c : Copies) (a : Address) (k : Command) → PlacedOf c → CommandView depth c k → k ≡ Locate a → a .0 ≡ nextAddress c
+locate-in-view depth c a _ p (locating t) e =
+    let same : a ≡ headerAt c = cc in
+    ap (λ (x : Address). x .0) same ∙ header-from-first (c .group) (c .copy) (p .left t)
+locate-in-view depth c a _ p (writing f left room) e = let z : _≡_ {A = ℕ} 0 1 = cc in absurd (omega arith)
+locate-in-view depth c a _ p (asking f w) e = let z : _≡_ {A = ℕ} 0 1 = cc in absurd (omega arith)
+
+pub locate-address : (depth : ℕ) (c : Copies) (a : Address) → PlacedOf c → commandOf depth c ≡ Locate a → a .0 ≡ nextAddress c
+locate-address depth c a p e = locate-in-view depth c a (commandOf depth c) p (command-view depth c) e

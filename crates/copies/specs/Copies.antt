@@ -1,0 +1,97 @@
+-- 01, "A recording session", the paragraph on headers: group by group, LOCATE the group, WRITE five, at most D outstanding,
+-- READ POSITION till none are.
+use Prim.Native.Nat.{ℕ, _+_, _-_, _%_, _^_}
+use mathlib.Core.Bool.{Bool, true, false, _&&_, _||_}
+use lib.Dec.{eqb, ltb, leb}
+use Rattle.geometry.specs.Pick.{pick}
+use Rattle.geometry.specs.Refused.{refusalNumber}
+use Rattle.geometry.specs.Cartridge.{headerAddress}
+use Rattle.geometry.specs.declared.address.Address.{Address}
+use Rattle.frame.specs.declared.header.Header.{Header}
+use Rattle.drive.specs.declared.command.Command.{Command}
+use Rattle.drive.specs.declared.command.Command.the-variants.{Write, Locate, ReadPosition}
+use Rattle.drive.specs.declared.reply.Reply.{Reply}
+use Rattle.copies.specs.declared.state.Copies.{Copies}
+use Rattle.copies.specs.declared.answer.Progress.{Progress}
+use Rattle.copies.specs.declared.answer.Progress.the-variants.{More, Complete, Refused}
+
+-- before the first copy
+abbrev pub startOf : Header → Copies
+startOf h = record { header = h; group = 0; copy = 0; outstanding = 0; confirmed = 0; locate = true }
+
+-- the address of the next copy
+abbrev pub headerAt : Copies → Address
+headerAt c = record { 0 = headerAddress (c .group) (c .copy) }
+
+-- the command that is due
+unfoldable pub commandOf : ℕ → Copies → Command
+commandOf depth c =
+    pick (c .locate) (Locate (headerAt c))
+    (pick (ltb (c .copy) 5 && ltb (c .outstanding) depth) (Write (headerAt c)) ReadPosition)
+
+-- how far the copies are after a reply
+pub data Said : Type 0 where
+  more : Copies → Said
+  complete : Said
+  refused : ℕ → Said
+
+abbrev pub progressSaid : Progress → Said
+progressSaid (More c) = more c
+progressSaid Complete = complete
+progressSaid (Refused r) = refused (refusalNumber r)
+
+-- a LOCATE answered good
+abbrev pub locatedOf : Copies → Copies
+locatedOf c = record { header = c .header; group = c .group; copy = c .copy; outstanding = c .outstanding; confirmed = c .confirmed; locate = false }
+
+-- a WRITE answered good: the copy is outstanding. The counts stay below 11; the remainder only says what a wrapped number is.
+abbrev pub takenOf : Copies → Copies
+takenOf c = record { header = c .header; group = c .group; copy = (c .copy + 1) % 2 ^ 8; outstanding = (c .outstanding + 1) % 2 ^ 8; confirmed = c .confirmed; locate = c .locate }
+
+-- the oldest n are on tape
+abbrev pub confirmedOf : Copies → ℕ → Copies
+confirmedOf c n = record { header = c .header; group = c .group; copy = c .copy; outstanding = c .outstanding - n; confirmed = (c .confirmed + n) % 2 ^ 8; locate = c .locate }
+
+abbrev pub nextGroup : Copies → Copies
+nextGroup c = record { header = c .header; group = 1; copy = 0; outstanding = c .outstanding; confirmed = c .confirmed; locate = true }
+
+-- where no copy of the group is left and none is outstanding, the next group follows; no good copy of ten: refusal 12
+unfoldable pub onwardOf : Copies → Said
+onwardOf c =
+    pick (ltb (c .copy) 5 || ltb 0 (c .outstanding)) (more c)
+    (pick (eqb (c .group) 0) (more (nextGroup c))
+    (pick (eqb (c .confirmed) 0) (refused 12) complete))
+
+-- READ POSITION answered good, with f frames still buffered
+unfoldable pub positionedOf : Copies → ℕ → Said
+positionedOf c f = pick (ltb (c .outstanding) f) (refused 8) (onwardOf (confirmedOf c (c .outstanding - f)))
+
+-- the copy of index i failed: it is spoiled, the n before it are on tape, and a LOCATE of the address behind it follows
+abbrev pub failedAt : Copies → ℕ → ℕ → Copies
+failedAt c n i = record { header = c .header; group = c .group; copy = i + 1; outstanding = 0; confirmed = (c .confirmed + n) % 2 ^ 8; locate = true }
+
+-- the addresses of the group's first copy, of the oldest outstanding one, and of the next
+abbrev pub firstAddress : Copies → ℕ
+firstAddress c = headerAddress (c .group) 0
+
+abbrev pub oldestAddress : Copies → ℕ
+oldestAddress c = firstAddress c + (c .copy - c .outstanding)
+
+abbrev pub nextAddress : Copies → ℕ
+nextAddress c = firstAddress c + c .copy
+
+-- a write error at p, which must be outstanding
+unfoldable pub failedOf : Copies → ℕ → Said
+failedOf c p =
+    pick (ltb p (oldestAddress c)) (refused 8)
+    (pick (leb (nextAddress c) p) (refused 8)
+    (onwardOf (failedAt c (p - oldestAddress c) (p - firstAddress c))))
+
+-- by the command's code and the meaning of its reply: LOCATE good, WRITE good, READ POSITION good, a write error; anything else: refusal 8
+unfoldable pub answerOf : Copies → ℕ → Reply → Said
+answerOf c n reply =
+    pick (eqb n 0x2B01) (more (locatedOf c))
+    (pick (eqb n 0x0A01) (more (takenOf c))
+    (pick (eqb n 0x3401) (positionedOf c (reply .buffered))
+    (pick (eqb n 0x0A03 || eqb n 0x3403) (failedOf c (reply .position .0))
+    (refused 8))))

@@ -1,0 +1,68 @@
+-- Which rule of 01 applies, and what is known there. Assumes nothing.
+use Prim.Native.Nat.{ℕ, _≤_, _<_}
+use mathlib.Core.Path.{_≡_}
+use mathlib.Core.Bool.{Bool, true, false, _&&_, _||_}
+use mathlib.Core.Logic.{_⊎_, inl, inr, ⊎-elim}
+use native.Mathlib.Omega.{arith}
+use borrow.Author.Tests.{ltb-true, ltb-false, leb-true, leb-false, eqb-true, eqb-false}
+use lib.Dec.{eqb, ltb, leb}
+use Rattle.geometry.proofs.PickLaws.{pick-by}
+use Rattle.drive.specs.declared.command.Command.the-variants.{Write, Locate, ReadPosition}
+use Rattle.elements.specs.declared.state.Elements.{Elements}
+use Rattle.elements.specs.Elements.{at}
+use Rattle.elements.specs.Due.{Said, send, idle, refused, aboveEnd, mustConfirm, dueOf}
+use Rattle.geometry.proofs.TestLaws.{or-true, or-false, either-left, either-right, and-true, not-both}
+
+-- what rule 3 waits for
+abbrev pub Waits : ℕ → Elements → Type 0
+Waits depth e = (depth ≤ e .outstanding) ⊎ ((0 < e .outstanding) × ((e .next .0 ≡ 2990) ⊎ (e .limit .0 ≤ e .next .0)))
+
+pub data DueView (depth : ℕ) (e : Elements) : Said → Type 0 where
+  -- 1
+  relocating : e .relocate ≡ true → DueView depth e (send (Locate (e .target)))
+  -- 2
+  resting : e .relocate ≡ false → e .pending ≤ e .outstanding → e .outstanding ≡ 0 → DueView depth e idle
+  settling : e .relocate ≡ false → e .pending ≤ e .outstanding → 0 < e .outstanding → DueView depth e (send ReadPosition)
+  -- 3
+  confirming : e .relocate ≡ false → e .outstanding < e .pending → Waits depth e → DueView depth e (send ReadPosition)
+  -- 4
+  full : e .relocate ≡ false → e .outstanding < e .pending → e .outstanding ≡ 0 → e .limit .0 ≤ e .next .0 → DueView depth e (refused 9)
+  -- 5
+  jumping : e .relocate ≡ false → e .outstanding < e .pending → e .outstanding ≡ 0 → e .next .0 < e .limit .0 → e .next .0 ≡ 2990 → DueView depth e (send (Locate (at 3000)))
+  -- 6
+  writing : e .relocate ≡ false → e .outstanding < e .pending → e .outstanding < depth → e .next .0 < e .limit .0 → (e .next .0 ≡ 2990 → ⊥) → DueView depth e (send (Write (e .next)))
+
+module _ (depth : ℕ) (e : Elements) where
+  -- the next address is 2,990 or above END
+  abbrev edge : Bool
+  edge = eqb (e .next .0) 2990 || aboveEnd e
+
+  why-confirm : mustConfirm depth e ≡ true → Waits depth e
+  why-confirm t =
+      ⊎-elim (λ d. inl (leb-true _ _ d))
+      (λ w. let both = and-true _ _ w in inr (ltb-true _ _ (both .0), ⊎-elim (λ a. inl (eqb-true _ _ a)) (λ b. inr (leb-true _ _ b)) (or-true _ _ (both .1))))
+      (or-true _ _ t)
+
+  not-full : mustConfirm depth e ≡ false → e .outstanding < depth
+  not-full f = leb-false _ _ (or-false (leb depth (e .outstanding)) (ltb 0 (e .outstanding) && edge) f .0)
+
+  none-outstanding : mustConfirm depth e ≡ false → edge ≡ true → e .outstanding ≡ 0
+  none-outstanding f t =
+      let apart = or-false (leb depth (e .outstanding)) (ltb 0 (e .outstanding) && edge) f in
+      omega (arith, ltb-false 0 (e .outstanding) (not-both (ltb 0 (e .outstanding)) edge (apart .1) t))
+
+  pub due-view : DueView depth e (dueOf depth e)
+  unfolding dueOf
+  due-view =
+      pick-by (DueView depth e) (e .relocate) relocating
+      (λ r. pick-by (DueView depth e) (leb (e .pending) (e .outstanding))
+      (λ p. pick-by (DueView depth e) (eqb (e .outstanding) 0) (λ z. resting r (leb-true _ _ p) (eqb-true _ _ z)) (λ z. settling r (leb-true _ _ p) (omega (arith, eqb-false (e .outstanding) 0 z))))
+      (λ p. pick-by (DueView depth e) (mustConfirm depth e) (λ c. confirming r (leb-false _ _ p) (why-confirm c))
+      (λ c. pick-by (DueView depth e) (aboveEnd e) (λ a. full r (leb-false _ _ p) (none-outstanding c (either-right (eqb (e .next .0) 2990) _ a)) (leb-true _ _ a))
+      (λ a. pick-by (DueView depth e) (eqb (e .next .0) 2990) (λ n. jumping r (leb-false _ _ p) (none-outstanding c (either-left _ (aboveEnd e) n)) (leb-false _ _ a) (eqb-true _ _ n))
+      (λ n. writing r (leb-false _ _ p) (not-full c) (leb-false _ _ a) (eqb-false _ _ n))))))
+
+-- a READ POSITION goes out only for something outstanding
+pub something-outstanding : (depth : ℕ) (e : Elements) → 0 < depth → DueView depth e (send ReadPosition) → 0 < e .outstanding
+something-outstanding depth e h (settling r p o) = o
+something-outstanding depth e h (confirming r p o) = ⊎-elim (λ d. omega arith) (λ w. w .0) o

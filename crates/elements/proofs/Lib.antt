@@ -1,0 +1,5 @@
+pub mod TrailLaws
+pub mod AcceptLaws
+pub mod ConfirmLaws
+pub mod DueView
+pub mod AnswerView

@@ -1,0 +1,95 @@
+-- `elements::trail::trail_after` meets its contract: after i turns, what stands before element first + i. Assumes nothing.
+use Prim.Native.Nat.{ℕ, _≤_, _+_, _-_, _%_, _^_}
+use mathlib.Core.Logic.{⊎-elim}
+use mathlib.Core.Path.{_≡_, _∙_, sym, ap, refl}
+use native.Mathlib.Omega.{arith}
+use Rattle.geometry.proofs.PickLaws.{pick-t, pick-f}
+use Rattle.elements.specs.Elements.{at}
+use Rattle.elements.specs.Trail.{trailOf, marked}
+use Rattle.elements.specs.declared.trail.Trail.{Trail}
+use Rattle.elements.proofs.TrailLaws.{trail-step, mark-same}
+use Rattle.elements.proofs.trail.trail_after.Statement.{statement}
+use Rattle.elements.proofs.trail.trail_after.Tie as tie
+
+abbrev stands : ℕ → ℕ → Trail
+stands n a = record { filemarks = n; marker = at a }
+
+-- a turn that passes a filemark
+turn : (n a n' a' b : ℕ) (t : Trail) → stands n a ≡ t → n' ≡ (n + 1) % 2 ^ 32 → a' ≡ b → stands n' a' ≡ marked t b
+turn n a n' a' b t e en ea = ap (λ x. stands x a') en ∙ ap (λ x. stands ((n + 1) % 2 ^ 32) x) ea ∙ ap (λ u. marked u b) e
+
+abbrev Inv-loop : tie.InvT-loop
+Inv-loop first base n marks filemarks₀ marker₀ i₀ filemarks marker i = (i ≤ n) × (stands filemarks marker ≡ trailOf (stands filemarks₀ marker₀) marks first base i)
+
+abbrev μ-loop : tie.MeasureT-loop
+μ-loop first base n marks filemarks₀ marker₀ i₀ filemarks marker i = n - i
+
+loop-holds : tie.Need-loop-holds Inv-loop μ-loop
+unfolding trailOf
+loop-holds c = (omega arith, refl)
+
+cast-k : tie.Need-cast-k Inv-loop μ-loop
+cast-k c = omega arith
+
+add-k : tie.Need-add-k Inv-loop μ-loop
+add-k c = omega arith
+
+cast-k-2 : tie.Need-cast-k-2 Inv-loop μ-loop
+cast-k-2 c = omega arith
+
+array-read-if1 : tie.Need-array-read-if1 Inv-loop μ-loop
+array-read-if1 c = omega arith
+
+wrapping-add-u32-requires : tie.Need-wrapping-add-u32-requires Inv-loop μ-loop
+wrapping-add-u32-requires c κs = tt
+
+cast-marker : tie.Need-cast-marker Inv-loop μ-loop
+cast-marker c = omega arith
+
+add-marker : tie.Need-add-marker Inv-loop μ-loop
+add-marker c = omega arith
+
+add-i : tie.Need-add-i Inv-loop μ-loop
+add-i c = omega arith
+
+loop-less : tie.Need-loop-less Inv-loop μ-loop
+loop-less c = omega arith
+
+loop-again : tie.Need-loop-again Inv-loop μ-loop
+loop-again c =
+    let a = c .before .before .before .args in
+    let l = c .before .before .loop in
+    let step = trail-step (a .start) (a .t2) (a .first) (a .base) (l .i) in
+    let same = mark-same (a .t2) (a .first) (l .i) in (
+      omega arith,
+      ⊎-elim
+          (λ w. turn _ _ _ _ _ _ (l .inv .1) (w .2 ∙ w .1 .ensures) (w .3) ∙ sym (step ∙ pick-t _ (sym same ∙ w .0 .taken)))
+          (λ w. ap (λ x. stands x (c .if1 .marker)) (w .1) ∙ ap (λ x. stands (l .filemarks) x) (w .2) ∙ l .inv .1 ∙ sym (step ∙ pick-f _ (sym same ∙ w .0 .left)))
+          (c .if1 .came),
+    )
+
+returns : tie.Need-returns Inv-loop μ-loop
+unfolding trailOf
+returns c =
+    let a = c .before .before .args in
+    let e : c .before .loop .i ≡ a .n = omega arith in
+    c .before .loop .inv .1 ∙ ap (λ n. trailOf (a .start) (a .t2) (a .first) (a .base) n) e
+
+pub trail-after-spec : {M : Type 1} → statement M
+trail-after-spec =
+    tie.close
+    (tie.spec
+    Inv-loop
+    μ-loop
+    loop-holds
+    cast-k
+    add-k
+    cast-k-2
+    array-read-if1
+    wrapping-add-u32-requires
+    cast-marker
+    add-marker
+    add-i
+    loop-less
+    loop-again
+    returns)

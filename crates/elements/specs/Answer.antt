@@ -1,0 +1,85 @@
+-- 01, "Replies", for elements and EOD.
+use Prim.Native.Nat.{ℕ, _+_, _-_, _%_, _^_}
+use mathlib.Core.Bool.{Bool, true, false, _||_}
+use lib.Dec.{eqb, ltb, leb}
+use Rattle.geometry.specs.Pick.{pick}
+use Rattle.geometry.specs.Refused.{verdictNumber}
+use Rattle.geometry.specs.Said as said
+use Rattle.geometry.specs.Target.{targetOf}
+use Rattle.geometry.specs.declared.address.Address.{Address}
+use Rattle.drive.specs.declared.reply.Reply.{Reply}
+use Rattle.elements.specs.declared.state.Elements.{Elements}
+use Rattle.elements.specs.declared.answer.Stepped.{Stepped}
+use Rattle.elements.specs.Elements.{at, numberOf, baseOf}
+use Rattle.elements.specs.Trail.{trailOf}
+
+-- the elements after a reply, and the number of its refusal, 0 if it is not refused
+pub record Step : Type 0 where
+  pub elements : Elements
+  pub number : ℕ
+
+abbrev pub steppedSaid : Stepped → Step
+steppedSaid s = record { elements = s .elements; number = verdictNumber (s .verdict) }
+
+abbrev pub kept : Elements → Step
+kept e = record { elements = e; number = 0 }
+
+abbrev pub refusing : Elements → ℕ → Step
+refusing e n = record { elements = e; number = n }
+
+-- a LOCATE answered good: writing goes on at its address
+abbrev pub locatedOf : Elements → Address → Elements
+locatedOf e a = record { first = e .first; pending = e .pending; outstanding = e .outstanding; next = a; limit = e .limit; relocate = false; target = e .target; trail = e .trail; marks = e .marks }
+
+-- a WRITE answered good: the frame is outstanding
+abbrev pub takenOf : Elements → Elements
+takenOf e = record { first = e .first; pending = e .pending; outstanding = (e .outstanding + 1) % 2 ^ 16; next = at ((e .next .0 + 1) % 2 ^ 32); limit = e .limit; relocate = e .relocate; target = e .target; trail = e .trail; marks = e .marks }
+
+-- the oldest n are on tape
+unfoldable pub confirmedOf : Elements → ℕ → Elements
+confirmedOf e n = record {
+  first = record { 0 = numberOf e n };
+  pending = e .pending - n;
+  outstanding = e .outstanding - n;
+  next = e .next;
+  limit = e .limit;
+  relocate = e .relocate;
+  target = e .target;
+  trail = trailOf (e .trail) (e .marks) (e .first .0) (baseOf e) n;
+  marks = e .marks;
+}
+
+-- all that the drive had taken is due again, and a LOCATE of the target comes first
+abbrev pub relocatedOf : Elements → Address → Elements
+relocatedOf e t = record { first = e .first; pending = e .pending; outstanding = 0; next = e .next; limit = e .limit; relocate = true; target = t; trail = e .trail; marks = e .marks }
+
+-- READ POSITION answered good, with f frames still buffered: outstanding becomes f, oldest confirmed first
+unfoldable pub positionedOf : Elements → ℕ → Step
+positionedOf e f = pick (ltb (e .outstanding) f) (refusing e 8) (kept (confirmedOf e (e .outstanding - f)))
+
+-- a write error at p: frames before p are confirmed, from p on they are due again, at the target; no room there: refusal 9
+abbrev pub failedTo : Elements → ℕ → said.Said → Step
+failedTo e p (said.address t) = kept (relocatedOf (confirmedOf e (p - baseOf e)) (at t))
+failedTo e p (said.refused n) = refusing e n
+
+-- p must be outstanding
+unfoldable pub failedOf : Elements → ℕ → ℕ → Step
+failedOf e p skip =
+    pick (ltb p (baseOf e)) (refusing e 8)
+    (pick (leb (e .next .0) p) (refusing e 8)
+    (failedTo e p (targetOf p skip (e .limit .0))))
+
+-- volume overflow on a WRITE at a: END becomes a − 1
+abbrev pub shortenedOf : Elements → Address → Elements
+shortenedOf e a = record { first = e .first; pending = e .pending; outstanding = e .outstanding; next = e .next; limit = a; relocate = e .relocate; target = e .target; trail = e .trail; marks = e .marks }
+
+-- by the command's code and the meaning of its reply: LOCATE good, WRITE good, READ POSITION good, a write error, WRITE with volume overflow;
+-- anything else: refusal 8
+unfoldable pub answerOf : Elements → ℕ → Address → Reply → Step
+answerOf e n a reply =
+    pick (eqb n 0x2B01) (kept (locatedOf e a))
+    (pick (eqb n 0x0A01) (kept (takenOf e))
+    (pick (eqb n 0x3401) (positionedOf e (reply .buffered))
+    (pick (eqb n 0x0A03 || eqb n 0x3403) (failedOf e (reply .position .0) (reply .skip))
+    (pick (eqb n 0x0A04) (kept (shortenedOf e a))
+    (refusing e 8)))))

@@ -1,0 +1,4 @@
+pub mod Elements
+pub mod Trail
+pub mod Due
+pub mod Answer

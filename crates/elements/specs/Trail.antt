@@ -1,0 +1,23 @@
+-- 01, "AUX bytes", 192-195 and 200-203: filemarks before a frame, and the address of the latest earlier marker.
+use Prim.Native.Nat.{ℕ, zero, suc, _+_, _%_, _^_}
+use mathlib.Core.Bool.{Bool, false}
+use mathlib.Core.List.{List}
+use lib.ListN.{getD}
+use Rattle.geometry.specs.Pick.{pick}
+use Rattle.elements.specs.declared.trail.Trail.{Trail}
+use Rattle.elements.specs.declared.state.Elements.{Elements}
+use Rattle.elements.specs.Elements.{at, baseOf}
+
+-- behind a marker at an address
+abbrev pub marked : Trail → ℕ → Trail
+marked t a = record { filemarks = (t .filemarks + 1) % 2 ^ 32; marker = at a }
+
+-- what stands before element first + n, given what stands before element first, where the elements between lie from an address on
+unfoldable pub trailOf : Trail → List Bool → ℕ → ℕ → ℕ → Trail
+trailOf start marks first base zero = start
+trailOf start marks first base (suc n) =
+    pick (getD marks ((first + n) % 64) false) (marked (trailOf start marks first base n) (base + n)) (trailOf start marks first base n)
+
+-- what stands before the next element to be written: the outstanding ones count, at their present addresses
+abbrev pub trailBefore : Elements → Trail
+trailBefore e = trailOf (e .trail) (e .marks) (e .first .0) (baseOf e) (e .outstanding)

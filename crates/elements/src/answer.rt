@@ -1,0 +1,156 @@
+// What a reply to one of these commands changes.
+ghost use mathlib.Core.Path.{_≡_};
+ghost use Prim.Native.Nat.{_-_, _≤_};
+ghost use Rattle.geometry.specs.Refused.{refusalNumber};
+ghost use Rattle.elements.specs.Answer.{steppedSaid, kept, refusing, locatedOf, takenOf, confirmedOf, relocatedOf, positionedOf, failedOf, shortenedOf, answerOf};
+use crate::state::Elements;
+use crate::trail::trail_after;
+use drive::Reply;
+use geometry::Address;
+use geometry::Place;
+use geometry::Refusal;
+use geometry::Verdict;
+use geometry::target;
+
+// The elements after a reply. A refused reply leaves them as they were.
+pub struct Stepped {
+    pub elements: Elements,
+    pub verdict: Verdict,
+}
+
+impl Elements {
+    fn keep(self) -> Stepped
+        ensures { λ r. ⌜ steppedSaid r ≡ kept self ⌝ }
+    {
+        Stepped {
+            elements: self,
+            verdict: Verdict::Accepted,
+        }
+    }
+
+    fn refuse(self, refusal: Refusal) -> Stepped
+        ensures { λ r. ⌜ steppedSaid r ≡ refusing self (refusalNumber refusal) ⌝ }
+    {
+        Stepped {
+            elements: self,
+            verdict: Verdict::Refused(refusal),
+        }
+    }
+
+    // The drive stands at a.
+    fn located(self, a: Address) -> Elements
+        ensures { λ r. ⌜ r ≡ locatedOf self a ⌝ }
+    {
+        Elements {
+            next: a,
+            relocate: false,
+            ..self
+        }
+    }
+
+    // The drive has taken the next frame.
+    fn taken(self) -> Elements
+        ensures { λ r. ⌜ r ≡ takenOf self ⌝ }
+    {
+        Elements {
+            outstanding: std::num::wrapping_add_u16(self.outstanding, 1),
+            next: Address(std::num::wrapping_add_u32(self.next.0, 1)),
+            ..self
+        }
+    }
+
+    // The oldest n are on tape.
+    fn confirmed(self, n: u16) -> Elements
+        requires { ⌜ n ≤ self .outstanding ⌝ }
+        ensures { λ r. ⌜ r ≡ confirmedOf self n ⌝ }
+    {
+        let start = self.trail;
+        let marks = self.marks;
+        let base = self.base();
+        let trail = trail_after(start, marks, self.first.0, base, n);
+        Elements {
+            first: self.number(n),
+            pending: less(self.pending, n),
+            outstanding: self.outstanding - n,
+            trail: trail,
+            ..self
+        }
+    }
+
+    // All that the drive had taken is due again, from t on.
+    fn relocated(self, t: Address) -> Elements
+        ensures { λ r. ⌜ r ≡ relocatedOf self t ⌝ }
+    {
+        Elements {
+            outstanding: 0,
+            relocate: true,
+            target: t,
+            ..self
+        }
+    }
+
+    fn positioned(self, buffered: u32) -> Stepped
+        ensures { λ r. ⌜ steppedSaid r ≡ positionedOf self buffered ⌝ }
+    {
+        if (self.outstanding as u32) < buffered {
+            return self.refuse(Refusal::Reply);
+        }
+        let n = self.outstanding - (buffered as u16);
+        self.confirmed(n).keep()
+    }
+
+    fn failed(self, p: Address, skip: u8) -> Stepped
+        ensures { λ r. ⌜ steppedSaid r ≡ failedOf self (p .0) skip ⌝ }
+    {
+        let base = self.base();
+        let next = self.next;
+        let limit = self.limit;
+        if p.0 < base {
+            return self.refuse(Refusal::Reply);
+        }
+        if next.0 <= p.0 {
+            return self.refuse(Refusal::Reply);
+        }
+        let place = target(p, skip, limit);
+        match place {
+            Place::At(t) => self.confirmed((p.0 - base) as u16).relocated(t).keep(),
+            Place::Refused(r) => self.refuse(r),
+        }
+    }
+
+    // There is no room at a: END is the address before it.
+    fn shortened(self, a: Address) -> Elements
+        ensures { λ r. ⌜ r ≡ shortenedOf self a ⌝ }
+    {
+        Elements { limit: a, ..self }
+    }
+
+    // `case` is the command's code and, as its low byte, the meaning of the reply's sense triple; a is the command's address.
+    pub fn answer(self, case: u16, a: Address, reply: Reply) -> Stepped
+        ensures { λ r. ⌜ steppedSaid r ≡ answerOf self «case» a reply ⌝ }
+    {
+        match case {
+            // LOCATE, good
+            0x2B01 => self.located(a).keep(),
+            // WRITE, good
+            0x0A01 => self.taken().keep(),
+            // READ POSITION, good
+            0x3401 => self.positioned(reply.buffered),
+            // WRITE and READ POSITION, write error
+            0x0A03 | 0x3403 => {
+                let p = reply.position;
+                self.failed(p, reply.skip)
+            }
+            // WRITE, volume overflow
+            0x0A04 => self.shortened(a).keep(),
+            _ => self.refuse(Refusal::Reply),
+        }
+    }
+}
+
+// x - y, and 0 where y is the larger.
+fn less(x: u16, y: u16) -> u16
+    ensures { λ r. ⌜ r ≡ x - y ⌝ }
+{
+    if x < y { 0 } else { x - y }
+}

@@ -1,0 +1,92 @@
+// What a recording knows of its elements.
+ghost use mathlib.Core.Path.{_≡_};
+ghost use Rattle.elements.specs.Elements.{startOf, numberOf, acceptedOf, baseOf, isMark};
+ghost use Rattle.elements.specs.Trail.{trailBefore};
+use crate::trail::Trail;
+use crate::trail::trail_after;
+use geometry::Address;
+use geometry::Seq;
+
+pub struct Elements {
+    // The number of the oldest element that is not known to be on tape.
+    pub first: Seq,
+    // Elements from there on that are accepted, and how many of them the drive has taken.
+    pub pending: u16,
+    pub outstanding: u16,
+    // The address of the next frame, and the address one past END.
+    pub next: Address,
+    pub limit: Address,
+    // Whether a LOCATE of the target comes first.
+    pub relocate: bool,
+    pub target: Address,
+    // The filemarks before the oldest element that is not known to be on tape.
+    pub trail: Trail,
+    // Whether element i is a filemark stands at i % 64.
+    pub marks: [bool; 64],
+}
+
+impl Elements {
+    // Before the first element, on a cartridge with this LAST.
+    pub fn start(last: Address) -> Elements
+        ensures { λ r. ⌜ r ≡ startOf (last .0) ⌝ }
+    {
+        Elements {
+            first: Seq(0),
+            pending: 0,
+            outstanding: 0,
+            next: Address(10),
+            limit: Address(std::num::wrapping_add_u32(last.0, 1)),
+            relocate: true,
+            target: Address(10),
+            trail: Trail {
+                filemarks: 0,
+                marker: Address(0xFFFFFFFF),
+            },
+            marks: [false; 64],
+        }
+    }
+
+    // The number of the element n behind the oldest that is not known to be on tape.
+    pub fn number(self, n: u16) -> Seq
+        ensures { λ r. ⌜ r .0 ≡ numberOf self n ⌝ }
+    {
+        Seq(std::num::wrapping_add_u32(self.first.0, n as u32))
+    }
+
+    // Accepts one more element, which is a filemark or not.
+    pub fn accept(mut self, mark: bool) -> Elements
+        ensures { λ r. ⌜ r ≡ acceptedOf self mark ⌝ }
+    {
+        let at = ((self.first.0 % 64 + (self.pending as u32)) % 64) as usize;
+        self.marks[at] = mark;
+        self.pending = std::num::wrapping_add_u16(self.pending, 1);
+        self
+    }
+
+    // The address of the oldest outstanding frame.
+    pub(crate) fn base(self) -> u32
+        ensures { λ r. ⌜ r ≡ baseOf self ⌝ }
+    {
+        let n = self.outstanding as u32;
+        if self.next.0 < n { 0 } else { self.next.0 - n }
+    }
+
+    // Whether the next element to be written is a filemark.
+    pub fn is_mark(self) -> bool
+        ensures { λ r. ⌜ r ≡ isMark self ⌝ }
+    {
+        let marks = self.marks;
+        let at = ((self.first.0 % 64 + (self.outstanding as u32)) % 64) as usize;
+        marks[at]
+    }
+
+    // The filemarks before the next element to be written, the outstanding ones at their present addresses.
+    pub fn trail(self) -> Trail
+        ensures { λ r. ⌜ r ≡ trailBefore self ⌝ }
+    {
+        let start = self.trail;
+        let marks = self.marks;
+        let base = self.base();
+        trail_after(start, marks, self.first.0, base, self.outstanding)
+    }
+}

@@ -1,0 +1,6 @@
+pub mod WindowLaws
+pub mod Ended
+pub mod Kept
+pub mod BlockPlace
+pub mod FetchView
+pub mod ReplyView

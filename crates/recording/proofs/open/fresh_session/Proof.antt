@@ -1,0 +1,15 @@
+-- `recording::open::fresh_session` meets its contract: by what the two starts promise. Assumes nothing.
+use Rattle.recording.proofs.open.fresh_session.Statement.{statement}
+use Rattle.recording.proofs.open.fresh_session.Tie as tie
+
+start-requires : tie.Need-start-requires
+start-requires c κs = tt
+
+start-requires-2 : tie.Need-start-requires-2
+start-requires-2 c κs = tt
+
+returns : tie.Need-returns
+returns c = rw (c .before .start .ensures, c .start2 .ensures)
+
+pub fresh-session-spec : {M : Type 1} → statement M
+fresh-session-spec = tie.close (tie.spec start-requires start-requires-2 returns)

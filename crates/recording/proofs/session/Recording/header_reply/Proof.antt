@@ -1,0 +1,67 @@
+-- `recording::session::Recording::header_reply` meets its contract: each case of the progress is its case of the definition. Assumes nothing.
+use mathlib.Core.Path.{_∙_, sym, ap}
+use Rattle.copies.specs.Copies.{progressSaid}
+use Rattle.recording.specs.Reply.{completedOf, headerReplyBy, headerReply}
+use Rattle.recording.specs.Session.{accepting, settledOf}
+use Rattle.recording.proofs.session.Recording.header_reply.Statement.{statement}
+use Rattle.recording.proofs.session.Recording.header_reply.Tie as tie
+
+answer-requires : tie.Need-answer-requires
+answer-requires c κs = tt
+
+enum-known-progress : tie.Need-enum-known-progress
+enum-known-progress c = c .match .keys1
+
+accepted-requires : tie.Need-accepted-requires
+accepted-requires c κs = tt
+
+enum-told : tie.Need-enum-told
+enum-told c = c .match .keys2
+
+answered-requires : tie.Need-answered-requires
+answered-requires c κs = tt
+
+completed-requires : tie.Need-completed-requires
+completed-requires c κs = tt
+
+settle-requires : tie.Need-settle-requires
+settle-requires c κs = tt
+
+accepted-requires-2 : tie.Need-accepted-requires-2
+accepted-requires-2 c κs = tt
+
+enum-known-progress-2 : tie.Need-enum-known-progress-2
+enum-known-progress-2 c = c .match .keys3
+
+end-requires : tie.Need-end-requires
+end-requires c κs = tt
+
+returns : tie.Need-returns
+unfolding headerReply
+returns c = let s = c .before .before .before .before .before .before .before .args .self in c .accepted .ensures ∙ ap (λ p. headerReplyBy p s) (sym (ap progressSaid (c .before .before .before .progress .given .1)) ∙ c .before .before .before .before .before .answer .ensures)
+
+returns-2 : tie.Need-returns-2
+unfolding headerReply
+returns-2 c = let s = c .before .before .before .before .before .before .before .before .args .self in c .accepted2 .ensures ∙ ap accepting (c .before .settle .ensures ∙ ap settledOf (c .before .before .completed .ensures ∙ ap completedOf (c .before .before .before .answered .ensures))) ∙ ap (λ p. headerReplyBy p s) (sym (ap progressSaid (c .before .before .before .before .enum-told .given .1)) ∙ c .before .before .before .before .before .before .answer .ensures)
+
+returns-3 : tie.Need-returns-3
+unfolding headerReply
+returns-3 c = let s = c .before .before .before .before .before .before .args .self in c .end .ensures ∙ ap (λ p. headerReplyBy p s) (sym (ap progressSaid (c .before .before .progress2 .given .1)) ∙ c .before .before .before .before .answer .ensures)
+
+pub header-reply-spec : {M : Type 1} → statement M
+header-reply-spec =
+    tie.close
+    (tie.spec
+    answer-requires
+    enum-known-progress
+    accepted-requires
+    enum-told
+    answered-requires
+    completed-requires
+    settle-requires
+    accepted-requires-2
+    enum-known-progress-2
+    end-requires
+    returns
+    returns-2
+    returns-3)

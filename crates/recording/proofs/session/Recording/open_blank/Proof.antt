@@ -1,0 +1,50 @@
+-- `recording::session::Recording::open_blank` meets its contract: by what its callees promise, for the two kinds of place. Assumes nothing.
+use mathlib.Core.Path.{_∙_, sym, ap}
+use borrow.Author.Needs.{needs}
+use Rattle.geometry.specs.Said.{Said, placeSaid}
+use Rattle.recording.specs.Open.{openBlankFor, openBlankOf}
+use Rattle.recording.proofs.session.Recording.open_blank.Statement.{statement}
+use Rattle.recording.proofs.session.Recording.open_blank.Tie as tie
+
+last-requires : tie.Need-last-requires
+last-requires c κs = tt
+
+enum-known-place : tie.Need-enum-known-place
+enum-known-place c = search needs
+
+open-with-requires : tie.Need-open-with-requires
+open-with-requires c κs = tt
+
+enum-known-place-2 : tie.Need-enum-known-place-2
+enum-known-place-2 c = search needs
+
+refuse-opening-requires : tie.Need-refuse-opening-requires
+refuse-opening-requires c κs = tt
+
+returns : tie.Need-returns
+unfolding openBlankOf
+returns c =
+    let a = c .before .before .before .before .before .args in
+    c .open-with .ensures
+    ∙ ap (λ (place : Said). openBlankFor place (a .depth) (a .window))
+    (ap placeSaid (sym (c .before .before .place .given .1)) ∙ c .before .before .before .before .last .ensures)
+
+returns-2 : tie.Need-returns-2
+unfolding openBlankOf
+returns-2 c =
+    let a = c .before .before .before .before .before .args in
+    c .refuse-opening .ensures
+    ∙ ap (λ (place : Said). openBlankFor place (a .depth) (a .window))
+    (ap placeSaid (sym (c .before .before .place2 .given .1)) ∙ c .before .before .before .before .last .ensures)
+
+pub open-blank-spec : {M : Type 1} → statement M
+open-blank-spec =
+    tie.close
+    (tie.spec
+    last-requires
+    enum-known-place
+    open-with-requires
+    enum-known-place-2
+    refuse-opening-requires
+    returns
+    returns-2)

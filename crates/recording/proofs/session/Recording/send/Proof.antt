@@ -1,0 +1,45 @@
+-- `recording::session::Recording::send` meets its contract: a WRITE fills the frame, any other command leaves it. Assumes nothing.
+use Prim.Native.Nat.{ℕ}
+use mathlib.Core.Logic.{⊎-elim}
+use mathlib.Core.List.{List, [], _∷_}
+use mathlib.Core.Path.{_≡_, _∙_, refl, sym, ap}
+use denote.Enum.Declared.{tagOf}
+use types.Run.{OneOf, miss}
+use lib.ListN.{length}
+use Rattle.drive.specs.Command.{commandCode, commandAddress}
+use Rattle.drive.proofs.command.Command.{the-type}
+use Rattle.drive.specs.declared.command.Command.the-variants.{Read, Write, Locate, ReadPosition}
+use Rattle.drive.specs.declared.command.Command.{Command}
+use Rattle.recording.specs.Fetch.{awaits, command, frameFor, sending}
+use Rattle.recording.specs.declared.session.Recording.{Recording}
+use Rattle.recording.proofs.session.Recording.send.Statement.{statement}
+use Rattle.recording.proofs.session.Recording.send.Tie as tie
+
+-- a command whose tag is another's than Write's
+unless-write : (c : Command) (s : Recording) (window frame : List ℕ) → OneOf (0 ∷ (2 ∷ (3 ∷ []))) (tagOf the-type c) → frameFor c s window frame ≡ frame
+unless-write (Read a) s window frame h = refl
+unless-write (Write a) s window frame h = absurd (miss (0 ∷ (2 ∷ (3 ∷ []))) 1 tt h)
+unless-write (Locate a) s window frame h = refl
+unless-write ReadPosition s window frame h = refl
+
+enum-told : tie.Need-enum-told
+enum-told c = c .match .keys1
+
+fill-requires : tie.Need-fill-requires
+fill-requires c κs = c .before .before .before .before .before .pre
+
+same-length : tie.Need-same-length
+same-length c = ⊎-elim (λ l. ap length (l .6) ∙ l .4 .given) (λ r. ap length (r .1)) (c .before .before .match .came)
+
+returns : tie.Need-returns
+unfolding sending
+returns c =
+    let a = c .before .before .before .before .before .args in
+    ap (λ (f : List ℕ). record { session = awaits (a .self) (a .c); said = command (commandCode (a .c)) (commandAddress (a .c)); frame = f })
+    (⊎-elim
+    (λ l. l .6 ∙ l .3 .ensures ∙ sym (ap (λ k. frameFor k (a .self) (a .window .now) (a .frame .now)) (l .1 .given .1)))
+    (λ r. r .1 ∙ sym (unless-write (a .c) (a .self) (a .window .now) (a .frame .now) (r .0 .keys2)))
+    (c .before .before .match .came))
+
+pub send-spec : {M : Type 1} → statement M
+send-spec = tie.close (tie.spec enum-told fill-requires same-length returns)

@@ -1,0 +1,15 @@
+-- `recording::session::Recording::with_element` meets its contract: by what the elements' accept promises. Assumes nothing.
+use mathlib.Core.Path.{ap}
+use Rattle.elements.specs.declared.state.Elements.{Elements}
+use Rattle.recording.specs.Session.{withElements}
+use Rattle.recording.proofs.session.Recording.with_element.Statement.{statement}
+use Rattle.recording.proofs.session.Recording.with_element.Tie as tie
+
+accept-requires : tie.Need-accept-requires
+accept-requires c κs = tt
+
+returns : tie.Need-returns
+returns c = ap (λ (e : Elements). withElements (c .before .before .before .args .self) e) (c .before .accept .ensures)
+
+pub with-element-spec : {M : Type 1} → statement M
+with-element-spec = tie.close (tie.spec accept-requires returns)

@@ -1,0 +1,79 @@
+-- 01, "A recording session": opening takes the geometry, D, W and the newest header or none.
+use Prim.Native.Nat.{ℕ, _+_, _-_, _%_, _^_}
+use mathlib.Core.Bool.{Bool, true, false, _&&_, _||_}
+use mathlib.Core.List.{List}
+use lib.Dec.{eqb, ltb, leb}
+use lib.ListN.{length}
+use Rattle.geometry.specs.Pick.{pick}
+use Rattle.geometry.specs.Said.{Said, address, refused}
+use Rattle.geometry.specs.Cartridge.{lastOf}
+use Rattle.geometry.specs.declared.cartridge.Geometry.{Geometry}
+use Rattle.frame.specs.declared.header.Header.{Header}
+use Rattle.header.specs.Valid.{validHeader, headerOf}
+use Rattle.drive.specs.declared.command.Command.the-variants.{ReadPosition}
+use Rattle.copies.specs.Copies as copies
+use Rattle.elements.specs.Elements as elements
+use Rattle.recording.specs.declared.session.Recording.{Recording}
+use Rattle.recording.specs.declared.session.Stage.the-variants as S
+use Rattle.recording.specs.Session.{Result, accepting, ending}
+
+-- a session whose opening headers are due; it holds W - 1
+abbrev pub fresh : ℕ → ℕ → Header → Recording
+fresh depth highest h = record {
+  depth = depth;
+  highest = highest;
+  stage = S.OpeningHeaders;
+  command = ReadPosition;
+  awaiting = false;
+  again = false;
+  closed = false;
+  ended = false;
+  copies = copies.startOf h;
+  elements = elements.startOf (h .last .0);
+}
+
+-- what the opening headers carry: EOD address 0
+abbrev pub openingHeader : ℕ → ℕ → ℕ → Header
+openingHeader last pass update = record { last = record { 0 = last }; pass = pass; eod = record { 0 = 0 }; update = update }
+
+-- a refused opening returns this session, which is ended
+abbrev pub blankSession : Recording
+blankSession = fresh 0 0 (openingHeader 0 0 0)
+
+abbrev pub openRefused : ℕ → Result
+openRefused n = ending blankSession n
+
+-- refusal 4: D is 0, W not 1 to 64; then 5, where pass or update count can't be raised
+unfoldable pub openWith : ℕ → ℕ → Bool → Header → Result
+openWith depth window exhausted h =
+    pick (eqb depth 0 || (eqb window 0 || ltb 64 window)) (openRefused 4)
+    (pick exhausted (openRefused 5)
+    (accepting (fresh depth (window - 1) h)))
+
+-- pass 65,534, or update count above 4,294,967,293
+abbrev pub isExhausted : Header → Bool
+isExhausted h = leb 65534 (h .pass) || ltb 4294967293 (h .update)
+
+-- pass is old + 1 and update count old + 1; remainders only matter where the opening is refused
+abbrev pub renewed : Header → Header
+renewed h = openingHeader (h .last .0) ((h .pass + 1) % 2 ^ 16) ((h .update + 1) % 2 ^ 32)
+
+-- on a header: refusal 3 where it is invalid
+unfoldable pub openOn : ℕ → ℕ → ℕ → List ℕ → Result
+openOn last depth window h =
+    pick (validHeader last h) (openWith depth window (isExhausted (headerOf h)) (renewed (headerOf h))) (openRefused 3)
+
+abbrev pub openFor : Said → ℕ → ℕ → List ℕ → Result
+openFor (address last) depth window h = openOn last depth window h
+openFor (refused n) depth window h = openRefused n
+
+unfoldable pub openOf : Geometry → ℕ → ℕ → List ℕ → Result
+openOf g depth window h = pick (eqb (length h) 33280) (openFor (lastOf g) depth window h) (openRefused 1)
+
+-- on none: pass 1 and update count 0
+abbrev pub openBlankFor : Said → ℕ → ℕ → Result
+openBlankFor (address last) depth window = openWith depth window false (openingHeader last 1 0)
+openBlankFor (refused n) depth window = openRefused n
+
+unfoldable pub openBlankOf : Geometry → ℕ → ℕ → Result
+openBlankOf g depth window = openBlankFor (lastOf g) depth window

@@ -1,0 +1,82 @@
+-- 01, "A recording session": the session's terms, and what a call's outcome is in 01's numbers.
+use Prim.Native.Nat.{ℕ, _+_, _-_, _*_, _%_, _^_}
+use mathlib.Core.Bool.{Bool, true, false}
+use lib.Dec.{ltb}
+use Rattle.geometry.specs.Pick.{pick}
+use Rattle.geometry.specs.Refused.{verdictNumber}
+use Rattle.frame.specs.declared.header.Header.{Header}
+use Rattle.drive.specs.declared.command.Command.{Command}
+use Rattle.copies.specs.Copies as copies
+use Rattle.copies.specs.declared.state.Copies.{Copies}
+use Rattle.elements.specs.Elements as elements
+use Rattle.elements.specs.declared.state.Elements.{Elements}
+use Rattle.recording.specs.declared.session.Recording.{Recording}
+use Rattle.recording.specs.declared.session.Outcome.{Outcome}
+use Rattle.recording.specs.declared.session.Stage.{Stage}
+use Rattle.recording.specs.declared.session.Stage.the-variants as S
+
+-- W, and the length of a window
+abbrev pub windowOf : Recording → ℕ
+windowOf s = s .highest + 1
+
+abbrev pub windowLength : Recording → ℕ
+windowLength s = windowOf s * 32768
+
+-- the session and the number of the refusal, 0 for none
+pub record Result : Type 0 where
+  pub session : Recording
+  pub number : ℕ
+
+abbrev pub outcomeSaid : Outcome → Result
+outcomeSaid r = record { session = r .session; number = verdictNumber (r .verdict) }
+
+abbrev pub accepting : Recording → Result
+accepting s = record { session = s; number = 0 }
+
+-- refusals 1 to 7: session unchanged
+abbrev pub refusing : Recording → ℕ → Result
+refusing s n = record { session = s; number = n }
+
+-- refusals 8 to 12: session ended
+abbrev pub endedOf : Recording → Recording
+endedOf s = record { depth = s .depth; highest = s .highest; stage = s .stage; command = s .command; awaiting = s .awaiting; again = s .again; closed = s .closed; ended = true; copies = s .copies; elements = s .elements }
+
+abbrev pub ending : Recording → ℕ → Result
+ending s n = record { session = endedOf s; number = n }
+
+-- one more stage, header copies or elements
+abbrev pub withStage : Recording → Stage → Recording
+withStage s stage = record { depth = s .depth; highest = s .highest; stage = stage; command = s .command; awaiting = s .awaiting; again = s .again; closed = s .closed; ended = s .ended; copies = s .copies; elements = s .elements }
+
+abbrev pub withCopies : Recording → Copies → Recording
+withCopies s c = record { depth = s .depth; highest = s .highest; stage = s .stage; command = s .command; awaiting = s .awaiting; again = s .again; closed = s .closed; ended = s .ended; copies = c; elements = s .elements }
+
+abbrev pub withElements : Recording → Elements → Recording
+withElements s e = record { depth = s .depth; highest = s .highest; stage = s .stage; command = s .command; awaiting = s .awaiting; again = s .again; closed = s .closed; ended = s .ended; copies = s .copies; elements = e }
+
+-- EOD becomes due: it carries the next number and is no filemark
+abbrev pub eodDue : Recording → Recording
+eodDue s = withStage (withElements s (elements.acceptedOf (s .elements) false)) S.Eod
+
+-- closing headers: count one higher, EOD's address, which is the one before the next
+abbrev pub closingHeader : Recording → Header
+closingHeader s = record {
+  last = s .copies .header .last;
+  pass = s .copies .header .pass;
+  eod = record { 0 = s .elements .next .0 - 1 };
+  update = (s .copies .header .update + 1) % 2 ^ 32;
+}
+
+abbrev pub closingStarted : Recording → Recording
+closingStarted s = withStage (withCopies s (copies.startOf (closingHeader s))) S.ClosingHeaders
+
+abbrev pub settledBy : Stage → Recording → Recording
+settledBy S.OpeningHeaders s = s
+settledBy S.Elements s = pick (s .closed) (eodDue s) s
+settledBy S.Eod s = closingStarted s
+settledBy S.ClosingHeaders s = s
+settledBy S.Done s = s
+
+-- EOD becomes due when close was called and every element is on tape; the closing headers when EOD is
+unfoldable pub settledOf : Recording → Recording
+settledOf s = pick (ltb 0 (s .elements .pending)) s (settledBy (s .stage) s)

@@ -1,0 +1,12 @@
+-- 01, "A recording session": a window of W blocks of 32,768 bytes.
+use Prim.Native.Nat.{ℕ, _*_}
+use mathlib.Core.List.{List, _++_}
+use lib.ListN.{take, drop}
+
+-- block i of a window
+unfoldable pub blockAt : List ℕ → ℕ → List ℕ
+blockAt w i = take 32768 (drop (i * 32768) w)
+
+-- a window with a block in the place of block i
+unfoldable pub putBlock : List ℕ → ℕ → List ℕ → List ℕ
+putBlock w i b = take (i * 32768) w ++ (b ++ drop 32768 (drop (i * 32768) w))

@@ -1,0 +1,137 @@
+// Opening a recording session.
+ghost use mathlib.Core.Path.{_≡_};
+ghost use Rattle.geometry.specs.Refused.{refusalNumber};
+ghost use Rattle.header.specs.Valid.{validHeader, headerOf};
+ghost use Rattle.recording.specs.Session.{outcomeSaid};
+ghost use Rattle.recording.specs.Open.{fresh, openRefused, openWith, isExhausted, renewed, openOn, openOf, openBlankOf};
+use crate::session::Outcome;
+use crate::session::Recording;
+use crate::session::Stage;
+use copies::Copies;
+use drive::Command;
+use elements::Elements;
+use frame::Header;
+use geometry::Address;
+use geometry::Geometry;
+use geometry::Place;
+use geometry::Refusal;
+use header::is_valid;
+use header::read_header;
+
+// A session at its first command.
+fn fresh_session(depth: u8, highest: u8, header: Header) -> Recording
+    ensures { λ r. ⌜ r ≡ fresh depth highest header ⌝ }
+{
+    let last = header.last;
+    Recording {
+        depth: depth,
+        highest: highest,
+        stage: Stage::OpeningHeaders,
+        command: Command::ReadPosition,
+        awaiting: false,
+        again: false,
+        closed: false,
+        ended: false,
+        copies: Copies::start(header),
+        elements: Elements::start(last),
+    }
+}
+
+// A refused opening returns an ended session.
+fn refuse_opening(refusal: Refusal) -> Outcome
+    ensures { λ r. ⌜ outcomeSaid r ≡ openRefused (refusalNumber refusal) ⌝ }
+{
+    let header = Header {
+        last: Address(0),
+        pass: 0,
+        eod: Address(0),
+        update: 0,
+    };
+    let session = fresh_session(0, 0, header);
+    session.end(refusal)
+}
+
+// The sizes are looked at, then the opening's header is the old one's with a new pass.
+fn open_with(depth: u8, window: u8, exhausted: bool, header: Header) -> Outcome
+    ensures { λ r. ⌜ outcomeSaid r ≡ openWith depth window exhausted header ⌝ }
+{
+    if depth == 0 {
+        return refuse_opening(Refusal::Capacity);
+    }
+    if window == 0 {
+        return refuse_opening(Refusal::Capacity);
+    }
+    if 64 < window {
+        return refuse_opening(Refusal::Capacity);
+    }
+    if exhausted {
+        return refuse_opening(Refusal::Exhausted);
+    }
+    fresh_session(depth, window - 1, header).accepted()
+}
+
+// Whether pass or update count can't be raised.
+fn is_exhausted(old: Header) -> bool
+    ensures { λ r. ⌜ r ≡ isExhausted old ⌝ }
+{
+    (65534 <= old.pass) | (4294967293 < old.update)
+}
+
+// The opening header of a recording over an old one.
+fn renew(old: Header) -> Header
+    ensures { λ r. ⌜ r ≡ renewed old ⌝ }
+{
+    let last = old.last;
+    Header {
+        last: last,
+        pass: std::num::wrapping_add_u16(old.pass, 1),
+        eod: Address(0),
+        update: std::num::wrapping_add_u32(old.update, 1),
+    }
+}
+
+// On a header of the right length, on a cartridge with this LAST.
+fn open_on(last: Address, depth: u8, window: u8, header: &[u8]) -> Outcome
+    ensures { λ r. ⌜ outcomeSaid r ≡ openOn (last .0) depth window (now (header .entry)) ⌝ }
+{
+    if is_valid(last, header) {
+        let old = read_header(header);
+        return open_with(depth, window, is_exhausted(old), renew(old));
+    }
+    refuse_opening(Refusal::Header)
+}
+
+impl Recording {
+    // On the newest header of the cartridge, for a drive that buffers `depth` frames, with a window of `window` blocks.
+    pub fn open(g: Geometry, depth: u8, window: u8, header: &[u8]) -> Outcome
+        ensures { λ r. ⌜ outcomeSaid r ≡ openOf g depth window (now (header .entry)) ⌝ }
+    {
+        if header.len() != 33280 {
+            return refuse_opening(Refusal::Length);
+        }
+        let place = g.last();
+        match place {
+            Place::At(last) => open_on(last, depth, window, header),
+            Place::Refused(r) => refuse_opening(r),
+        }
+    }
+
+    // On a cartridge that holds no valid header.
+    pub fn open_blank(g: Geometry, depth: u8, window: u8) -> Outcome
+        ensures { λ r. ⌜ outcomeSaid r ≡ openBlankOf g depth window ⌝ }
+    {
+        let place = g.last();
+        match place {
+            Place::At(last) => {
+                let header = Header {
+                    last: last,
+                    pass: 1,
+                    eod: Address(0),
+                    update: 0,
+                };
+                open_with(depth, window, false, header)
+            }
+            Place::Refused(r) => refuse_opening(r),
+        }
+    }
+}

@@ -1,0 +1,154 @@
+// The session, and what its calls return.
+ghost use mathlib.Core.Path.{_≡_};
+ghost use Rattle.geometry.specs.Refused.{refusalNumber};
+ghost use Rattle.recording.specs.Session.{windowOf, outcomeSaid, accepting, refusing, ending, eodDue, closingHeader, closingStarted, settledOf};
+use copies::Copies;
+use drive::Command;
+use elements::Elements;
+use frame::Header;
+use geometry::Address;
+use geometry::Refusal;
+use geometry::Verdict;
+
+pub enum Stage {
+    OpeningHeaders,
+    // LOCATE 10 and the elements.
+    Elements,
+    Eod,
+    ClosingHeaders,
+    Done,
+}
+
+pub struct Recording {
+    // D, the frames that the drive buffers.
+    pub depth: u8,
+    // W - 1: the highest block of the window. So W is never 0.
+    pub highest: u8,
+    pub stage: Stage,
+    // The last command, whether its reply is awaited, and whether it is to be given again.
+    pub command: Command,
+    pub awaiting: bool,
+    pub again: bool,
+    // Whether close was called.
+    pub closed: bool,
+    // Whether a refusal of 8 to 12 has ended the session.
+    pub ended: bool,
+    pub copies: Copies,
+    pub elements: Elements,
+}
+
+// What every call but a fetch returns.
+pub struct Outcome {
+    pub session: Recording,
+    pub verdict: Verdict,
+}
+
+// The answer to a fetch. The host sends a command once, a WRITE with the frame that the fetch filled, and brings its reply.
+pub enum Answer {
+    Command(Command),
+    Idle,
+    Done,
+    Refused(Refusal),
+}
+
+pub struct Fetched {
+    pub session: Recording,
+    pub answer: Answer,
+}
+
+impl Recording {
+    // W.
+    pub(crate) fn window(self) -> usize
+        ensures { λ r. ⌜ r ≡ windowOf self ⌝ }
+    {
+        (self.highest as usize) + 1
+    }
+
+    pub(crate) fn accepted(self) -> Outcome
+        ensures { λ r. ⌜ outcomeSaid r ≡ accepting self ⌝ }
+    {
+        Outcome {
+            session: self,
+            verdict: Verdict::Accepted,
+        }
+    }
+
+    // Refusals 1 to 7 leave the session unchanged.
+    pub(crate) fn refuse(self, refusal: Refusal) -> Outcome
+        ensures { λ r. ⌜ outcomeSaid r ≡ refusing self (refusalNumber refusal) ⌝ }
+    {
+        Outcome {
+            session: self,
+            verdict: Verdict::Refused(refusal),
+        }
+    }
+
+    // Refusals 8 to 12 end the session.
+    pub(crate) fn end(mut self, refusal: Refusal) -> Outcome
+        ensures { λ r. ⌜ outcomeSaid r ≡ ending self (refusalNumber refusal) ⌝ }
+    {
+        self.ended = true;
+        Outcome {
+            session: self,
+            verdict: Verdict::Refused(refusal),
+        }
+    }
+
+    // EOD is due, behind the last element.
+    fn due_eod(self) -> Recording
+        ensures { λ r. ⌜ r ≡ eodDue self ⌝ }
+    {
+        let elements = self.elements;
+        Recording {
+            stage: Stage::Eod,
+            elements: elements.accept(false),
+            ..self
+        }
+    }
+
+    // The header of the closing copies: EOD stands before the next address.
+    fn closing_header(self) -> Header
+        ensures { λ r. ⌜ r ≡ closingHeader self ⌝ }
+    {
+        let copies = self.copies;
+        let elements = self.elements;
+        let header = copies.header;
+        let next = elements.next;
+        let eod = if next.0 < 1 { 0 } else { next.0 - 1 };
+        let last = header.last;
+        Header {
+            last: last,
+            pass: header.pass,
+            eod: Address(eod),
+            update: std::num::wrapping_add_u32(header.update, 1),
+        }
+    }
+
+    fn start_closing(self) -> Recording
+        ensures { λ r. ⌜ r ≡ closingStarted self ⌝ }
+    {
+        Recording {
+            stage: Stage::ClosingHeaders,
+            copies: Copies::start(self.closing_header()),
+            ..self
+        }
+    }
+
+    // EOD becomes due when close was called and every element is on tape; once EOD is on tape, the closing headers follow.
+    pub(crate) fn settle(self) -> Recording
+        ensures { λ r. ⌜ r ≡ settledOf self ⌝ }
+    {
+        let elements = self.elements;
+        if 0 < elements.pending {
+            return self;
+        }
+        let stage = self.stage;
+        match stage {
+            Stage::OpeningHeaders => self,
+            Stage::Elements => { if self.closed { self.due_eod() } else { self } }
+            Stage::Eod => self.start_closing(),
+            Stage::ClosingHeaders => self,
+            Stage::Done => self,
+        }
+    }
+}

@@ -1,0 +1,29 @@
+// The blocks of a window.
+ghost use mathlib.Core.Path.{_≡_};
+ghost use Prim.Native.Nat.{_+_, _*_, _≤_, _<_};
+ghost use lib.ListN.{length};
+ghost use Rattle.recording.specs.Window.{blockAt, putBlock};
+use frame::copy_all;
+
+// Stores a block.
+pub(crate) fn put_block(window: &mut [u8], i: usize, block: &[u8])
+    requires { ⌜ i < 256 ⌝ }
+    requires { ⌜ i * 32768 + 32768 ≤ length (now window) ⌝ }
+    requires { ⌜ length (now block) ≡ 32768 ⌝ }
+    ensures { λ _. ⌜ now (window .exit) ≡ putBlock (now (window .entry)) i (now (block .entry)) ⌝ }
+{
+    let at = i * 32768;
+    let end = at + 32768;
+    copy_all(&mut window[at..end], block);
+}
+
+// The block of an index.
+pub(crate) fn block_at(window: &[u8], i: usize) -> &[u8]
+    requires { ⌜ i < 256 ⌝ }
+    requires { ⌜ i * 32768 + 32768 ≤ length (now window) ⌝ }
+    ensures { λ r. ⌜ now r ≡ blockAt (now (window .entry)) i ⌝ }
+{
+    let at = i * 32768;
+    let end = at + 32768;
+    &window[at..end]
+}
