@@ -65,7 +65,7 @@ module _ (front : List ℕ) (f : Fields) (long : length front ≡ 32768) where
   parts-aux : drop 32768 (front ++ auxBytes f) ≡ auxBytes f
   parts-aux = drop-at front (auxBytes f) 32768 long
 
--- what a frame that fits is as long as, and that its block does
+-- where the buffers fit, the frame is 33,280 bytes long, and the block fits such a frame
 pub fits-length : (k : Kind) (frame block : ℕ) → elementFits k frame block ≡ true → frame ≡ 33280
 fits-length Data frame block h = eqb-true frame 33280 (and-true (eqb frame 33280) (eqb block 32768) h .0)
 fits-length Marker frame block h = eqb-true frame 33280 h

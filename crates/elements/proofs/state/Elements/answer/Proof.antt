@@ -4,7 +4,7 @@ use mathlib.Core.Path.{_∙_, sym, ap}
 use borrow.Author.Tests.{ne-eqb}
 use Rattle.geometry.proofs.PickLaws.{pick-f}
 use Rattle.elements.specs.Answer.{kept, answerOf}
-use Rattle.elements.proofs.TestLaws.{neither}
+use Rattle.geometry.proofs.TestLaws.{neither}
 use Rattle.elements.proofs.state.Elements.answer.Statement.{statement}
 use Rattle.elements.proofs.state.Elements.answer.Tie as tie
 
