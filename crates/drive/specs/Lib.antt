@@ -1,2 +1,4 @@
 pub mod Command
 pub mod Senses
+pub mod Tape
+pub mod Conduct

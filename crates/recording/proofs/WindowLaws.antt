@@ -10,6 +10,7 @@ use lib.Dec.{ltb}
 use lib.ListN.{length, take, drop, getD, length-drop, length-append, List·getD-append}
 use lib.Seq.{getD-append-add, take-at, drop-at, length-take-le, getD-take, getD-drop, ext-getD}
 use Rattle.recording.specs.Window.{blockAt, putBlock}
+use Rattle.recording.proofs.BlockPlace.{block-length}
 
 apart-by : (i j : ℕ) → (i ≡ j → ⊥) → (t : Bool) → ltb i j ≡ t → (i < j) ⊎ (j < i)
 apart-by i j differ true e = inl (ltb-true i j e)
@@ -67,10 +68,8 @@ module _ (w b : List ℕ) (j : ℕ) (room : j * 32768 + 32768 ≤ length w) (ful
   unfolding blockAt
   put-other-block i differ fits =
       let v = putBlock w j b in
-      let stored : length (take 32768 (drop (i * 32768) v)) ≡ 32768 =
-      length-take-le 32768 (drop (i * 32768) v) (omega (arith, length-drop (i * 32768) v, put-length)) in
-      let given : length (take 32768 (drop (i * 32768) w)) ≡ 32768 =
-      length-take-le 32768 (drop (i * 32768) w) (omega (arith, length-drop (i * 32768) w)) in
+      let stored : length (take 32768 (drop (i * 32768) v)) ≡ 32768 = block-length v i (omega (arith, put-length)) in
+      let given : length (take 32768 (drop (i * 32768) w)) ≡ 32768 = block-length w i fits in
       ext-getD 0 _ _ (stored ∙ sym given) (λ m q.
       let inside : m < 32768 = omega (arith, stored, q) in
       getD-take 32768 (drop (i * 32768) v) m 0 inside

@@ -6,17 +6,16 @@ use native.Mathlib.Nat.{add-sub-cancel-left}
 use native.Mathlib.Omega.{arith}
 use borrow.Author.Needs.{needs}
 use borrow.Author.Tests.{eq-eqb}
-use lib.ListN.{length, take, drop, length-drop}
-use lib.Seq.{length-take-le}
+use lib.ListN.{length, take, drop}
 use Rattle.geometry.proofs.PickLaws.{pick-t}
-use Rattle.recording.specs.Window.{putBlock}
+use Rattle.recording.specs.Window.{blockAt, putBlock}
+use Rattle.recording.proofs.BlockPlace.{block-length}
 use Rattle.recording.proofs.window.put_block.Statement.{statement}
 use Rattle.recording.proofs.window.put_block.Tie as tie
 
 lent-length : (w : List ℕ) (i : ℕ) → i * 32768 + 32768 ≤ length w → length (take (i * 32768 + 32768 - i * 32768) (drop (i * 32768) w)) ≡ 32768
-lent-length w i fits =
-    rw (add-sub-cancel-left (i * 32768) 32768)
-    (length-take-le 32768 (drop (i * 32768) w) (omega (arith, length-drop (i * 32768) w)))
+unfolding blockAt
+lent-length w i fits = rw (add-sub-cancel-left (i * 32768) 32768) (block-length w i fits)
 
 mul-at : tie.Need-mul-at
 mul-at c = omega arith

@@ -1,10 +1,9 @@
 -- `recording::session::Recording::accept_block` meets its contract: each return is the rule whose tests were passed on the way, and the block's
 -- place lies in the window. Assumes nothing.
-use Prim.Native.Nat.{ℕ, _+_, _*_, _%_, _<_}
+use Prim.Native.Nat.{ℕ, _*_, _%_}
 use mathlib.Core.Path.{_≡_, _∙_, sym, ap}
 use mathlib.Core.Bool.{Bool, false, _&&_}
 use mathlib.Core.List.{List}
-use native.Mathlib.Nat.{mod-lt}
 use native.Mathlib.Omega.{arith}
 use borrow.Author.Needs.{needs}
 use borrow.Author.Tests.{eq-eqb, ne-eqb}
@@ -16,6 +15,7 @@ use Rattle.elements.specs.Elements.{numberOf}
 use Rattle.recording.specs.Session.{windowLength, Result, accepting}
 use Rattle.recording.specs.Window.{putBlock}
 use Rattle.recording.specs.Accept.{Stored, withElement, blockOf}
+use Rattle.recording.proofs.BlockPlace.{place-low, place-inside}
 use Rattle.recording.proofs.session.Recording.accept_block.Statement.{statement}
 use Rattle.recording.proofs.session.Recording.accept_block.Tie as tie
 
@@ -97,9 +97,10 @@ rem-put-block c = omega arith
 
 put-block-requires : tie.Need-put-block-requires
 put-block-requires c κs =
-    let positive : 0 < c .before .before .before .before .before .before .before .window .result = omega arith in
-    let inside = mod-lt (c .before .before .number .result .0) positive in
-    (omega arith, (omega arith, c .before .before .before .before .before .before .before .before .if2 .left))
+    let number = c .before .before .number .result .0 in
+    let highest = c .before .before .before .before .before .before .before .before .before .before .before .before .before .args .self .highest in
+    rw (c .before .before .before .before .before .before .before .window .ensures)
+    (omega (arith, place-low number highest), (omega (arith, place-inside number highest), c .before .before .before .before .before .before .before .before .if2 .left))
 
 with-element-requires : tie.Need-with-element-requires
 with-element-requires c κs = tt

@@ -38,19 +38,35 @@ enum-told-5 c = c .match .keys5
 
 returns-2 : tie.Need-returns-2
 unfolding decisionOf
-returns-2 c = c .header-due .ensures ∙ sym (pick-f _ (c .before .before .before .if1 .left) ∙ ap (λ k. decisionBy k (c .before .before .before .before .args .self)) (c .before .enum-told .given .1))
+returns-2 c =
+    c .header-due .ensures
+    ∙ sym
+    (pick-f _ (c .before .before .before .if1 .left)
+    ∙ ap (λ k. decisionBy k (c .before .before .before .before .args .self)) (c .before .enum-told .given .1))
 
 returns-3 : tie.Need-returns-3
 unfolding decisionOf
-returns-3 c = c .element-due .ensures ∙ sym (pick-f _ (c .before .before .before .if1 .left) ∙ ap (λ k. decisionBy k (c .before .before .before .before .args .self)) (c .before .enum-told2 .given .1))
+returns-3 c =
+    c .element-due .ensures
+    ∙ sym
+    (pick-f _ (c .before .before .before .if1 .left)
+    ∙ ap (λ k. decisionBy k (c .before .before .before .before .args .self)) (c .before .enum-told2 .given .1))
 
 returns-4 : tie.Need-returns-4
 unfolding decisionOf
-returns-4 c = c .element-due2 .ensures ∙ sym (pick-f _ (c .before .before .before .if1 .left) ∙ ap (λ k. decisionBy k (c .before .before .before .before .args .self)) (c .before .enum-told3 .given .1))
+returns-4 c =
+    c .element-due2 .ensures
+    ∙ sym
+    (pick-f _ (c .before .before .before .if1 .left)
+    ∙ ap (λ k. decisionBy k (c .before .before .before .before .args .self)) (c .before .enum-told3 .given .1))
 
 returns-5 : tie.Need-returns-5
 unfolding decisionOf
-returns-5 c = c .header-due2 .ensures ∙ sym (pick-f _ (c .before .before .before .if1 .left) ∙ ap (λ k. decisionBy k (c .before .before .before .before .args .self)) (c .before .enum-told4 .given .1))
+returns-5 c =
+    c .header-due2 .ensures
+    ∙ sym
+    (pick-f _ (c .before .before .before .if1 .left)
+    ∙ ap (λ k. decisionBy k (c .before .before .before .before .args .self)) (c .before .enum-told4 .given .1))
 
 returns-6 : tie.Need-returns-6
 unfolding decisionOf

@@ -31,7 +31,11 @@ number-requires c κs = tt
 
 returns : tie.Need-returns
 unfolding elementOf
-returns c = let s = c .before .before .before .before .before .before .before .before .args .self in ap (λ k. made s k (c .number .result .0) (c .before .before .before .trail .result)) (c .before .kind .ensures) ∙ ap (λ n. made s (kindOf s) n (c .before .before .before .trail .result)) (c .number .ensures) ∙ ap (made s (kindOf s) (numberOf (s .elements) (s .elements .outstanding))) (c .before .before .before .trail .ensures)
+returns c =
+    let s = c .before .before .before .before .before .before .before .before .args .self in
+    ap (λ k. made s k (c .number .result .0) (c .before .before .before .trail .result)) (c .before .kind .ensures)
+    ∙ ap (λ n. made s (kindOf s) n (c .before .before .before .trail .result)) (c .number .ensures)
+    ∙ ap (made s (kindOf s) (numberOf (s .elements) (s .elements .outstanding))) (c .before .before .before .trail .ensures)
 
 pub element-spec : {M : Type 1} → statement M
 element-spec = tie.close (tie.spec trail-requires kind-requires number-requires returns)

@@ -52,11 +52,23 @@ end-requires c κs = tt
 
 returns : tie.Need-returns
 unfolding elementReply
-returns c = let a = c .before .before .before .before .before .before .before .before .before .args in let next = c .before .before .before .before .before .before .answer .result .elements in c .accepted .ensures ∙ ap accepting (c .before .settle .ensures) ∙ sym (ap (λ v. elementReplyBy (verdictNumber v) next (a .self)) (c .before .before .before .enum-told .given .1)) ∙ ap (λ (x : answer.Step). elementReplyBy (x .number) (x .elements) (a .self)) (c .before .before .before .before .before .before .answer .ensures ∙ ap (λ (n : ℕ). answer.answerOf (a .self .elements) (a .case) (at n) (a .reply)) (c .before .before .before .before .before .before .before .address .ensures))
+returns c =
+    let a = c .before .before .before .before .before .before .before .before .before .args in
+    let next = c .before .before .before .before .before .before .answer .result .elements in
+    c .accepted .ensures
+    ∙ ap accepting (c .before .settle .ensures)
+    ∙ sym (ap (λ v. elementReplyBy (verdictNumber v) next (a .self)) (c .before .before .before .enum-told .given .1))
+    ∙ ap (λ (x : answer.Step). elementReplyBy (x .number) (x .elements) (a .self)) (c .before .before .before .before .before .before .answer .ensures ∙ ap (λ (n : ℕ). answer.answerOf (a .self .elements) (a .case) (at n) (a .reply)) (c .before .before .before .before .before .before .before .address .ensures))
 
 returns-2 : tie.Need-returns-2
 unfolding elementReply
-returns-2 c = let a = c .before .before .before .before .before .before .before .before .args in let next = c .before .before .before .before .before .answer .result .elements in c .end .ensures ∙ sym (pick-f _ (refused (c .before .before .verdict .given .0 .0))) ∙ sym (ap (λ v. elementReplyBy (verdictNumber v) next (a .self)) (c .before .before .verdict .given .1)) ∙ ap (λ (x : answer.Step). elementReplyBy (x .number) (x .elements) (a .self)) (c .before .before .before .before .before .answer .ensures ∙ ap (λ (n : ℕ). answer.answerOf (a .self .elements) (a .case) (at n) (a .reply)) (c .before .before .before .before .before .before .address .ensures))
+returns-2 c =
+    let a = c .before .before .before .before .before .before .before .before .args in
+    let next = c .before .before .before .before .before .answer .result .elements in
+    c .end .ensures
+    ∙ sym (pick-f _ (refused (c .before .before .verdict .given .0 .0)))
+    ∙ sym (ap (λ v. elementReplyBy (verdictNumber v) next (a .self)) (c .before .before .verdict .given .1))
+    ∙ ap (λ (x : answer.Step). elementReplyBy (x .number) (x .elements) (a .self)) (c .before .before .before .before .before .answer .ensures ∙ ap (λ (n : ℕ). answer.answerOf (a .self .elements) (a .case) (at n) (a .reply)) (c .before .before .before .before .before .before .address .ensures))
 
 pub element-reply-spec : {M : Type 1} → statement M
 element-reply-spec =

@@ -53,7 +53,8 @@ enum-known-answer : tie.Need-enum-known-answer
 enum-known-answer c = c .match .keys1
 
 send-requires : tie.Need-send-requires
-send-requires c κs = (right-window (c .before .before .before .before .before .before .before .window .ensures) (c .before .before .before .before .before .before .if2 .left), c .before .before .before .before .before .if3 .left)
+send-requires c κs =
+    (right-window (c .before .before .before .before .before .before .before .window .ensures) (c .before .before .before .before .before .before .if2 .left), c .before .before .before .before .before .if3 .left)
 
 enum-told : tie.Need-enum-told
 enum-told c = c .match .keys2

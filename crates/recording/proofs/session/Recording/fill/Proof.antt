@@ -39,35 +39,50 @@ same-length c = c .before .frame .given
 
 returns : tie.Need-returns
 unfolding writtenFrame
-returns c = let a = c .before .before .before .before .before .before .before .before .args in c .before .before .fill-header .ensures ∙ sym (ap (λ k. writtenBy k (a .self) (a .window .now)) (c .before .before .before .before .enum-told .given .1))
+returns c =
+    let a = c .before .before .before .before .before .before .before .before .args in
+    c .before .before .fill-header .ensures
+    ∙ sym (ap (λ k. writtenBy k (a .self) (a .window .now)) (c .before .before .before .before .enum-told .given .1))
 
 same-length-2 : tie.Need-same-length-2
 same-length-2 c = c .before .frame2 .given
 
 returns-2 : tie.Need-returns-2
 unfolding writtenFrame
-returns-2 c = let a = c .before .before .before .before .before .before .before .before .args in c .before .before .fill-element .ensures ∙ sym (ap (λ k. writtenBy k (a .self) (a .window .now)) (c .before .before .before .before .enum-told2 .given .1))
+returns-2 c =
+    let a = c .before .before .before .before .before .before .before .before .args in
+    c .before .before .fill-element .ensures
+    ∙ sym (ap (λ k. writtenBy k (a .self) (a .window .now)) (c .before .before .before .before .enum-told2 .given .1))
 
 same-length-3 : tie.Need-same-length-3
 same-length-3 c = c .before .frame3 .given
 
 returns-3 : tie.Need-returns-3
 unfolding writtenFrame
-returns-3 c = let a = c .before .before .before .before .before .before .before .before .args in c .before .before .fill-element2 .ensures ∙ sym (ap (λ k. writtenBy k (a .self) (a .window .now)) (c .before .before .before .before .enum-told3 .given .1))
+returns-3 c =
+    let a = c .before .before .before .before .before .before .before .before .args in
+    c .before .before .fill-element2 .ensures
+    ∙ sym (ap (λ k. writtenBy k (a .self) (a .window .now)) (c .before .before .before .before .enum-told3 .given .1))
 
 same-length-4 : tie.Need-same-length-4
 same-length-4 c = c .before .frame4 .given
 
 returns-4 : tie.Need-returns-4
 unfolding writtenFrame
-returns-4 c = let a = c .before .before .before .before .before .before .before .before .args in c .before .before .fill-header2 .ensures ∙ sym (ap (λ k. writtenBy k (a .self) (a .window .now)) (c .before .before .before .before .enum-told4 .given .1))
+returns-4 c =
+    let a = c .before .before .before .before .before .before .before .before .args in
+    c .before .before .fill-header2 .ensures
+    ∙ sym (ap (λ k. writtenBy k (a .self) (a .window .now)) (c .before .before .before .before .enum-told4 .given .1))
 
 same-length-5 : tie.Need-same-length-5
 same-length-5 c = c .before .frame5 .given
 
 returns-5 : tie.Need-returns-5
 unfolding writtenFrame
-returns-5 c = let a = c .before .before .before .before .before .before .before .before .args in c .before .before .fill-header3 .ensures ∙ sym (ap (λ k. writtenBy k (a .self) (a .window .now)) (c .before .before .before .before .enum-told5 .given .1))
+returns-5 c =
+    let a = c .before .before .before .before .before .before .before .before .args in
+    c .before .before .fill-header3 .ensures
+    ∙ sym (ap (λ k. writtenBy k (a .self) (a .window .now)) (c .before .before .before .before .enum-told5 .given .1))
 
 pub fill-spec : {M : Type 1} → statement M
 fill-spec =

@@ -38,15 +38,27 @@ end-requires c κs = tt
 
 returns : tie.Need-returns
 unfolding headerReply
-returns c = let s = c .before .before .before .before .before .before .before .args .self in c .accepted .ensures ∙ ap (λ p. headerReplyBy p s) (sym (ap progressSaid (c .before .before .before .progress .given .1)) ∙ c .before .before .before .before .before .answer .ensures)
+returns c =
+    let s = c .before .before .before .before .before .before .before .args .self in
+    c .accepted .ensures
+    ∙ ap (λ p. headerReplyBy p s) (sym (ap progressSaid (c .before .before .before .progress .given .1)) ∙ c .before .before .before .before .before .answer .ensures)
 
 returns-2 : tie.Need-returns-2
 unfolding headerReply
-returns-2 c = let s = c .before .before .before .before .before .before .before .before .args .self in c .accepted2 .ensures ∙ ap accepting (c .before .settle .ensures ∙ ap settledOf (c .before .before .completed .ensures ∙ ap completedOf (c .before .before .before .answered .ensures))) ∙ ap (λ p. headerReplyBy p s) (sym (ap progressSaid (c .before .before .before .before .enum-told .given .1)) ∙ c .before .before .before .before .before .before .answer .ensures)
+returns-2 c =
+    let s = c .before .before .before .before .before .before .before .before .args .self in
+    c .accepted2 .ensures
+    ∙ ap accepting
+    (c .before .settle .ensures
+    ∙ ap settledOf (c .before .before .completed .ensures ∙ ap completedOf (c .before .before .before .answered .ensures)))
+    ∙ ap (λ p. headerReplyBy p s) (sym (ap progressSaid (c .before .before .before .before .enum-told .given .1)) ∙ c .before .before .before .before .before .before .answer .ensures)
 
 returns-3 : tie.Need-returns-3
 unfolding headerReply
-returns-3 c = let s = c .before .before .before .before .before .before .args .self in c .end .ensures ∙ ap (λ p. headerReplyBy p s) (sym (ap progressSaid (c .before .before .progress2 .given .1)) ∙ c .before .before .before .before .answer .ensures)
+returns-3 c =
+    let s = c .before .before .before .before .before .before .args .self in
+    c .end .ensures
+    ∙ ap (λ p. headerReplyBy p s) (sym (ap progressSaid (c .before .before .progress2 .given .1)) ∙ c .before .before .before .before .answer .ensures)
 
 pub header-reply-spec : {M : Type 1} → statement M
 header-reply-spec =

@@ -33,10 +33,16 @@ is-mark-requires : tie.Need-is-mark-requires
 is-mark-requires c κs = tt
 
 returns-2 : tie.Need-returns-2
-returns-2 c = sym (unless-eod (c .before .before .before .before .args .self .stage) _ (c .before .before .match .keys2) ∙ pick-t _ (sym (c .before .is-mark .ensures) ∙ c .if1 .taken))
+returns-2 c =
+    sym
+    (unless-eod (c .before .before .before .before .args .self .stage) _ (c .before .before .match .keys2)
+    ∙ pick-t _ (sym (c .before .is-mark .ensures) ∙ c .if1 .taken))
 
 returns-3 : tie.Need-returns-3
-returns-3 c = sym (unless-eod (c .before .before .before .before .args .self .stage) _ (c .before .before .match .keys2) ∙ pick-f _ (sym (c .before .is-mark .ensures) ∙ c .if1 .left))
+returns-3 c =
+    sym
+    (unless-eod (c .before .before .before .before .args .self .stage) _ (c .before .before .match .keys2)
+    ∙ pick-f _ (sym (c .before .is-mark .ensures) ∙ c .if1 .left))
 
 pub kind-spec : {M : Type 1} → statement M
 kind-spec = tie.close (tie.spec enum-told returns is-mark-requires returns-2 returns-3)

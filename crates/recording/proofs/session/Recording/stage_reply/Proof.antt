@@ -35,19 +35,34 @@ end-requires : tie.Need-end-requires
 end-requires c κs = tt
 
 returns : tie.Need-returns
-returns c = let a = c .before .before .before .args in c .header-reply .ensures ∙ sym (ap (λ k. stageReplyBy k (a .self) (a .case) (a .reply)) (c .before .enum-told .given .1))
+returns c =
+    let a = c .before .before .before .args in
+    c .header-reply .ensures
+    ∙ sym (ap (λ k. stageReplyBy k (a .self) (a .case) (a .reply)) (c .before .enum-told .given .1))
 
 returns-2 : tie.Need-returns-2
-returns-2 c = let a = c .before .before .before .args in c .element-reply .ensures ∙ sym (ap (λ k. stageReplyBy k (a .self) (a .case) (a .reply)) (c .before .enum-told2 .given .1))
+returns-2 c =
+    let a = c .before .before .before .args in
+    c .element-reply .ensures
+    ∙ sym (ap (λ k. stageReplyBy k (a .self) (a .case) (a .reply)) (c .before .enum-told2 .given .1))
 
 returns-3 : tie.Need-returns-3
-returns-3 c = let a = c .before .before .before .args in c .element-reply2 .ensures ∙ sym (ap (λ k. stageReplyBy k (a .self) (a .case) (a .reply)) (c .before .enum-told3 .given .1))
+returns-3 c =
+    let a = c .before .before .before .args in
+    c .element-reply2 .ensures
+    ∙ sym (ap (λ k. stageReplyBy k (a .self) (a .case) (a .reply)) (c .before .enum-told3 .given .1))
 
 returns-4 : tie.Need-returns-4
-returns-4 c = let a = c .before .before .before .args in c .header-reply2 .ensures ∙ sym (ap (λ k. stageReplyBy k (a .self) (a .case) (a .reply)) (c .before .enum-told4 .given .1))
+returns-4 c =
+    let a = c .before .before .before .args in
+    c .header-reply2 .ensures
+    ∙ sym (ap (λ k. stageReplyBy k (a .self) (a .case) (a .reply)) (c .before .enum-told4 .given .1))
 
 returns-5 : tie.Need-returns-5
-returns-5 c = let a = c .before .before .before .args in c .end .ensures ∙ sym (ap (λ k. stageReplyBy k (a .self) (a .case) (a .reply)) (c .before .enum-told5 .given .1))
+returns-5 c =
+    let a = c .before .before .before .args in
+    c .end .ensures
+    ∙ sym (ap (λ k. stageReplyBy k (a .self) (a .case) (a .reply)) (c .before .enum-told5 .given .1))
 
 pub stage-reply-spec : {M : Type 1} → statement M
 stage-reply-spec =

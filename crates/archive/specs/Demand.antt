@@ -1,0 +1,93 @@
+-- 00, demand 3, as 01, "The lists of demand 3", makes it exact: one claim over whole lists of calls.
+use Prim.Native.Nat.{ℕ, _+_, _*_, _^_, _≤_, _<_}
+use mathlib.Core.Path.{_≡_}
+use mathlib.Core.Bool.{Bool, true, false, _||_}
+use mathlib.Core.List.{List, [], _∷_}
+use mathlib.Core.Option.{some}
+use lib.ListN.{take}
+use Rattle.geometry.specs.Said.{address}
+use Rattle.geometry.specs.Cartridge.{lastOf, isUser, isHeader}
+use Rattle.geometry.specs.declared.cartridge.Geometry.{Geometry}
+use Rattle.drive.specs.Tape.{Tape, Cartridge, Bears}
+use Rattle.recording.specs.Session.{Result, accepting}
+use Rattle.recording.specs.Open.{openOf, openBlankOf}
+use Rattle.recording.specs.declared.session.Recording.{Recording}
+use Rattle.reading.specs.Open as reading
+use Rattle.reading.specs.Fetch as fetch
+use Rattle.archive.specs.Headers.{Newest, NoHeader}
+use Rattle.archive.specs.Recordings as recordings
+use Rattle.archive.specs.Recordings.{Element}
+use Rattle.archive.specs.Readings as readings
+
+-- an opening: on a header, or on none
+pub data Opening : Type 0 where
+  on-header : List ℕ → Opening
+  on-none : Opening
+
+abbrev pub opened : Geometry → ℕ → ℕ → Opening → Result
+opened g depth window (on-header h) = openOf g depth window h
+opened g depth window on-none = openBlankOf g depth window
+
+-- on the newest header the cartridge holds, or on none where it holds none
+abbrev pub OnNewest : ℕ → Tape → Opening → Type 0
+OnNewest last t (on-header h) = Newest last t h
+OnNewest last t on-none = NoHeader last t
+
+-- over user frames of which none bears the new write pass
+abbrev pub NoneBears : ℕ → Tape → ℕ → Type 0
+NoneBears last t pass = (a : ℕ) (f : List ℕ) → isUser last a ≡ true → t a ≡ some f → Bears pass f → ⊥
+
+-- a number fixed by LAST alone
+abbrev pub replyBound : ℕ → ℕ
+replyBound last = 2 * last
+
+abbrev pub GivesCommand : fetch.Said → Type 0
+GivesCommand (fetch.command n a) = Unit {0}
+GivesCommand fetch.end = ⊥
+GivesCommand (fetch.refused n) = ⊥
+
+-- what holds after every list of a reading's calls
+pub record Faithful (last : ℕ) (accepted : List Element) (w : readings.World) : Type 0 where
+  -- the deliveries are the first so many of what was accepted
+  pub count : ℕ
+  pub in-order : w .deliveries ≡ take count accepted
+  -- nothing is refused with 8 or more
+  pub unbroken : w .broken ≡ false
+  -- until the end each fetch with no reply awaited gives a command
+  pub goes-on : w .session .finished ≡ false → w .flight ≡ readings.none → GivesCommand (fetch.fetchOf (w .session) .said)
+  -- the replies taken in are bounded, busy ones aside
+  pub bounded : w .replies ≤ replyBound last
+  -- at the end all of them are delivered
+  pub complete : w .session .finished ≡ true → w .deliveries ≡ accepted
+
+-- what holds of a cartridge: it holds a newest header, a reading opens on it, and every reading on a newest header is faithful
+pub record Readable (g : Geometry) (last : ℕ) (t : Tape) (accepted : List Element) : Type 0 where
+  pub header : List ℕ
+  pub newest : Newest last t header
+  pub opens : reading.openOf g header .number ≡ 0
+  pub reads : (h : List ℕ) (at : ℕ) (calls : List readings.Call) (w : readings.World) → Newest last t h
+      → readings.Runs t (readings.started (reading.openOf g h .session) at) calls w → Faithful last accepted w
+
+-- only 5 to 9, 2,990 to 2,994 and user frames
+pub data Within (last : ℕ) : List ℕ → Type 0 where
+  none : Within last []
+  one-more : (a : ℕ) (rest : List ℕ) → (isHeader a || isUser last a) ≡ true → Within last rest → Within last (a ∷ rest)
+
+-- what holds after every list of a recording's calls
+pub record Kept (g : Geometry) (last : ℕ) (t : Tape) (o : Opening) (s : Recording) (w : recordings.World) : Type 0 where
+  -- under the conduct alone, closed or not
+  pub written : Within last (w .drive .written)
+  -- where the session was opened as it should be, the window was lent back unaltered, and the close reported done
+  pub readable : OnNewest last t o → NoneBears last t (s .copies .header .pass) → w .unaltered ≡ true → w .reported ≡ true
+      → Readable g last (w .drive .tape) (w .accepted)
+
+-- SEGTRK and TRKS are 16-bit
+unfoldable pub Demand3 : Type 0
+Demand3 =
+    (g : Geometry) (last depth blocks : ℕ) (t : Tape) (o : Opening) (s : Recording) (window : List ℕ) (at : ℕ)
+    (calls : List recordings.Call) (w : recordings.World)
+    → g .segtrk < 2 ^ 16 → g .trks < 2 ^ 16 → lastOf g ≡ address last
+    → Cartridge last t
+    → opened g depth blocks o ≡ accepting s
+    → recordings.Runs (recordings.started s window t at) calls w
+    → Kept g last t o s w

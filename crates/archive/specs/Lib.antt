@@ -1,0 +1,4 @@
+pub mod Headers
+pub mod Recordings
+pub mod Readings
+pub mod Demand

@@ -1,0 +1,161 @@
+-- 01, "The lists of demand 3": a recording's list of calls, with the drive acting between them.
+use Prim.Native.Nat.{ℕ, _≤_, _<_}
+use mathlib.Core.Path.{_≡_}
+use mathlib.Core.Bool.{Bool, true, false, _&&_}
+use mathlib.Core.List.{List, [], _∷_, _++_}
+use mathlib.Core.Logic.{_⊎_}
+use Rattle.frame.specs.Bytes.{agree}
+use Rattle.drive.specs.Conduct.{Drive, Acts, Answers}
+use Rattle.drive.specs.Tape.{Tape}
+use Rattle.drive.specs.declared.command.Command.{Command}
+use Rattle.drive.specs.declared.reply.Reply.{Reply}
+use Rattle.recording.specs.Session.{Result}
+use Rattle.recording.specs.Accept.{Stored, filemarkOf, blockOf, closeOf}
+use Rattle.recording.specs.Fetch.{Said, command, idle, done, refused, Fetching, fetchOf}
+use Rattle.recording.specs.Reply.{replyOf}
+use Rattle.recording.specs.declared.session.Recording.{Recording}
+
+-- what is accepted: a block's 32,768 bytes, or a filemark
+pub data Element : Type 0 where
+  block : List ℕ → Element
+  filemark : Element
+
+-- the command that the last fetch gave: none is in flight, it is with the drive with its frame, or the drive has answered it
+pub data Flight : Type 0 where
+  none : Flight
+  sent : Command → List ℕ → Flight
+  answered : Reply → Flight
+
+pub record World : Type 0 where
+  pub session : Recording
+  -- the window as last left, and whether each call so far that lent it got it so
+  pub window : List ℕ
+  pub unaltered : Bool
+  pub drive : Drive
+  pub flight : Flight
+  pub accepted : List Element
+  -- a fetch has answered done
+  pub reported : Bool
+
+-- a call with what it brings
+pub data Call : Type 0 where
+  accept-block : (block window : List ℕ) → Call
+  accept-filemark : Call
+  close : Call
+  fetch : (window frame : List ℕ) → Call
+  reply : Reply → Call
+
+-- the refusal that a call meets, 0 for none
+abbrev pub fetchNumber : Said → ℕ
+fetchNumber (command c a) = 0
+fetchNumber idle = 0
+fetchNumber done = 0
+fetchNumber (refused n) = n
+
+abbrev pub refusal : Recording → Call → ℕ
+refusal s (accept-block b window) = blockOf s b window .result .number
+refusal s accept-filemark = filemarkOf s .number
+refusal s close = closeOf s .number
+refusal s (fetch window frame) = fetchNumber (fetchOf s window frame .said)
+refusal s (reply r) = replyOf s r .number
+
+-- a call that is not refused with 1 to 7
+abbrev pub Counts : ℕ → Type 0
+Counts n = (n ≡ 0) ⊎ (8 ≤ n)
+
+abbrev pub withSession : World → Recording → World
+withSession w s = record { session = s; window = w .window; unaltered = w .unaltered; drive = w .drive; flight = w .flight; accepted = w .accepted; reported = w .reported }
+
+-- an accept that is not refused adds its element
+abbrev pub afterBlock : World → List ℕ → List ℕ → World
+afterBlock w b lent = record {
+  session = blockOf (w .session) b lent .result .session;
+  window = blockOf (w .session) b lent .window;
+  unaltered = w .unaltered && agree lent (w .window);
+  drive = w .drive;
+  flight = w .flight;
+  accepted = w .accepted ++ block b ∷ [];
+  reported = w .reported;
+}
+
+abbrev pub afterFilemark : World → World
+afterFilemark w = record {
+  session = filemarkOf (w .session) .session;
+  window = w .window;
+  unaltered = w .unaltered;
+  drive = w .drive;
+  flight = w .flight;
+  accepted = w .accepted ++ filemark ∷ [];
+  reported = w .reported;
+}
+
+-- a fetched command goes to the drive, with the frame as the fetch left it; the close reports done when a fetch answers done
+abbrev pub flightAfter : Said → Flight → Command → List ℕ → Flight
+flightAfter (command n a) f c frame = sent c frame
+flightAfter idle f c frame = f
+flightAfter done f c frame = f
+flightAfter (refused n) f c frame = f
+
+abbrev pub reportedAfter : Said → Bool → Bool
+reportedAfter (command n a) b = b
+reportedAfter idle b = b
+reportedAfter done b = true
+reportedAfter (refused n) b = b
+
+abbrev pub afterFetch : World → List ℕ → List ℕ → World
+afterFetch w lent frame = record {
+  session = fetchOf (w .session) lent frame .session;
+  window = lent;
+  unaltered = w .unaltered && agree lent (w .window);
+  drive = w .drive;
+  flight = flightAfter (fetchOf (w .session) lent frame .said) (w .flight) (fetchOf (w .session) lent frame .session .command) (fetchOf (w .session) lent frame .frame);
+  accepted = w .accepted;
+  reported = reportedAfter (fetchOf (w .session) lent frame .said) (w .reported);
+}
+
+abbrev pub afterReply : World → Reply → World
+afterReply w r = record {
+  session = replyOf (w .session) r .session;
+  window = w .window;
+  unaltered = w .unaltered;
+  drive = w .drive;
+  flight = none;
+  accepted = w .accepted;
+  reported = w .reported;
+}
+
+-- one call: each gets the session that the last one returned, and a reply is brought as the drive gave it
+pub data Calls (w : World) : Call → World → Type 0 where
+  -- a call refused with 1 to 7 counts for nothing, whatever it brings
+  for-nothing : (c : Call) → 1 ≤ refusal (w .session) c → refusal (w .session) c ≤ 7 → Calls w c w
+  accepts-block : (b lent : List ℕ) → Counts (refusal (w .session) (accept-block b lent)) → Calls w (accept-block b lent) (afterBlock w b lent)
+  accepts-filemark : Counts (refusal (w .session) accept-filemark) → Calls w accept-filemark (afterFilemark w)
+  closes : Counts (refusal (w .session) close) → Calls w close (withSession w (closeOf (w .session) .session))
+  fetches : (lent frame : List ℕ) → Counts (refusal (w .session) (fetch lent frame)) → Calls w (fetch lent frame) (afterFetch w lent frame)
+  replies : (r : Reply) → w .flight ≡ answered r → Counts (refusal (w .session) (reply r)) → Calls w (reply r) (afterReply w r)
+
+abbrev pub withDrive : World → Drive → Flight → World
+withDrive w d f = record { session = w .session; window = w .window; unaltered = w .unaltered; drive = d; flight = f; accepted = w .accepted; reported = w .reported }
+
+-- what the drive does between calls: it acts by itself, or answers the command that it was sent, once
+pub data Moves (w : World) : World → Type 0 where
+  acts : (d : Drive) → Acts (w .drive) d → Moves w (withDrive w d (w .flight))
+  answers : (c : Command) (frame : List ℕ) (r : Reply) (d : Drive) → w .flight ≡ sent c frame → Answers (w .drive) frame c r d → Moves w (withDrive w d (answered r))
+
+-- a list of calls, with whatever the drive does before, between and after them
+pub data Runs : World → List Call → World → Type 0 where
+  stop : {w : World} → Runs w [] w
+  call : {w v u : World} {c : Call} {cs : List Call} → Calls w c v → Runs v cs u → Runs w (c ∷ cs) u
+  drive : {w v u : World} {cs : List Call} → Moves w v → Runs v cs u → Runs w cs u
+
+-- a session just opened, any window, and a drive that stands anywhere on a tape with nothing buffered
+abbrev pub started : Recording → List ℕ → Tape → ℕ → World
+started s window t at = record {
+  session = s;
+  window = window;
+  unaltered = true;
+  drive = record { tape = t; at = at; buffer = []; failed = false; written = [] };
+  flight = none;
+  accepted = [];
+  reported = false;
+}

@@ -1,0 +1,57 @@
+-- What is known of a session by what a fetch gives. Assumes nothing.
+use mathlib.Core.Path.{_≡_}
+use mathlib.Core.Bool.{true, false, _||_}
+use mathlib.Core.Logic.{_⊎_}
+use Prim.Native.Nat.{_≤_, _<_}
+use borrow.Author.Tests.{ltb-true, ltb-false, eqb-true, eqb-false}
+use lib.Dec.{eqb, ltb}
+use Rattle.geometry.proofs.PickLaws.{pick-by}
+use Rattle.drive.specs.Command.{commandCode, commandAddress}
+use Rattle.drive.specs.declared.command.Command.{Command}
+use Rattle.drive.specs.declared.command.Command.the-variants.{Read, Locate}
+use Rattle.reading.specs.declared.session.Reading.{Reading}
+use Rattle.reading.specs.Fetch.{commandOf, command, end, refused, Fetching, awaits, sending, endedOf, fetchOf}
+use Rattle.geometry.proofs.TestLaws.{or-true, or-false}
+
+-- the session may be asked for a command
+pub record Ready (s : Reading) : Type 0 where
+  pub running : s .ended ≡ false
+  pub answered : s .awaiting ≡ false
+
+-- and gives one
+pub record Due (s : Reading) : Type 0 where
+  pub ready : Ready s
+  pub unfinished : s .finished ≡ false
+  pub within : s .next .0 ≤ s .last .0
+
+pub data FetchView (s : Reading) : Fetching → Type 0 where
+  wrong-phase : (s .ended ≡ true) ⊎ (s .awaiting ≡ true) → FetchView s (record { session = s; said = refused 7 })
+  ends : Ready s → s .finished ≡ true → FetchView s (record { session = s; said = end })
+  past-last : Ready s → s .finished ≡ false → s .last .0 < s .next .0 → FetchView s (record { session = endedOf s; said = refused 12 })
+  repeats : Due s → s .again ≡ true → FetchView s (record { session = awaits s (s .command); said = command (commandCode (s .command)) (commandAddress (s .command)) })
+  locates : Due s → s .again ≡ false → s .locate ≡ true → FetchView s (record { session = awaits s (Locate (s .next)); said = command 0x2B (s .next .0) })
+  crosses : Due s → s .again ≡ false → s .locate ≡ false → s .next .0 ≡ 2990 → FetchView s (record { session = awaits s (Locate (record { 0 = 3000 })); said = command 0x2B 3000 })
+  reads : Due s → s .again ≡ false → s .locate ≡ false → (s .next .0 ≡ 2990 → ⊥) → FetchView s (record { session = awaits s (Read (s .next)); said = command 0x08 (s .next .0) })
+
+module _ (s : Reading) where
+  abbrev Sent : Command → Type 0
+  Sent c = FetchView s (sending s c)
+
+  due-view : Due s → Sent (commandOf s)
+  unfolding commandOf
+  due-view due =
+      pick-by Sent (s .again) (repeats due)
+      (λ once. pick-by Sent (s .locate) (locates due once)
+      (λ there. pick-by Sent (eqb (s .next .0) 2990) (λ e. crosses due once there (eqb-true _ _ e))
+      (λ e. reads due once there (eqb-false _ _ e))))
+
+  pub fetch-view : FetchView s (fetchOf s)
+  unfolding fetchOf
+  fetch-view =
+      pick-by (FetchView s) (s .ended || s .awaiting) (λ e. wrong-phase (or-true _ _ e))
+      (λ e.
+      let phase = or-false (s .ended) (s .awaiting) e in
+      let ready : Ready s = record { running = phase .0; answered = phase .1 } in
+      pick-by (FetchView s) (s .finished) (ends ready)
+      (λ unfinished. pick-by (FetchView s) (ltb (s .last .0) (s .next .0)) (λ above. past-last ready unfinished (ltb-true _ _ above))
+      (λ above. due-view (record { ready = ready; unfinished = unfinished; within = ltb-false (s .last .0) (s .next .0) above }))))

@@ -1,0 +1,9 @@
+pub mod Tests
+pub mod FetchView
+pub mod ReplyView
+pub mod Cases
+pub mod Refusals
+pub mod Ended
+pub mod Busy
+pub mod Jump
+pub mod Onward

@@ -1,0 +1,26 @@
+-- Each branch is the case of the definition that its tests name. Assumes nothing.
+use mathlib.Core.Path.{sym, _∙_}
+use borrow.Author.Tests.{eq-eqb, ne-eqb}
+use Rattle.geometry.proofs.PickLaws.{pick-t, pick-f}
+use Rattle.reading.specs.Fetch.{commandOf}
+use Rattle.reading.proofs.session.Reading.due.Statement.{statement}
+use Rattle.reading.proofs.session.Reading.due.Tie as tie
+
+returns : tie.Need-returns
+unfolding commandOf
+returns c = sym (pick-t _ (c .if1 .taken))
+
+returns-2 : tie.Need-returns-2
+unfolding commandOf
+returns-2 c = sym (pick-f _ (c .before .if1 .left) ∙ pick-t _ (c .if2 .taken))
+
+returns-3 : tie.Need-returns-3
+unfolding commandOf
+returns-3 c = sym (pick-f _ (c .before .before .before .if1 .left) ∙ pick-f _ (c .before .before .if2 .left) ∙ pick-t _ (eq-eqb _ _ (c .if3 .taken)))
+
+returns-4 : tie.Need-returns-4
+unfolding commandOf
+returns-4 c = sym (pick-f _ (c .before .before .before .if1 .left) ∙ pick-f _ (c .before .before .if2 .left) ∙ pick-f _ (ne-eqb _ _ (c .if3 .left)))
+
+pub due-spec : {M : Type 1} → statement M
+due-spec = tie.close (tie.spec returns returns-2 returns-3 returns-4)

@@ -1,0 +1,33 @@
+-- Each branch is the case of the definition that its tests name. Assumes nothing.
+use mathlib.Core.Path.{sym, _∙_}
+use borrow.Author.Tests.{lt-ltb, le-ltb}
+use borrow.Author.Needs.{needs}
+use Rattle.geometry.proofs.PickLaws.{pick-t, pick-f}
+use Rattle.reading.specs.Fetch.{fetchOf}
+use Rattle.reading.proofs.session.Reading.fetch.Statement.{statement}
+use Rattle.reading.proofs.session.Reading.fetch.Tie as tie
+
+returns : tie.Need-returns
+unfolding fetchOf
+returns c = sym (pick-t _ (c .if1 .taken))
+
+returns-2 : tie.Need-returns-2
+unfolding fetchOf
+returns-2 c = sym (pick-f _ (c .before .if1 .left) ∙ pick-t _ (c .if2 .taken))
+
+returns-3 : tie.Need-returns-3
+unfolding fetchOf
+returns-3 c = sym (pick-f _ (c .before .before .before .if1 .left) ∙ pick-f _ (c .before .before .if2 .left) ∙ pick-t _ (lt-ltb _ _ (c .if3 .taken)))
+
+due-requires : tie.Need-due-requires
+due-requires c κs = search needs
+
+send-requires : tie.Need-send-requires
+send-requires c κs = search needs
+
+returns-4 : tie.Need-returns-4
+unfolding fetchOf
+returns-4 c = c .send .ensures ∙ rw (c .before .due .ensures) (sym (pick-f _ (c .before .before .before .before .before .if1 .left) ∙ pick-f _ (c .before .before .before .before .if2 .left) ∙ pick-f _ (le-ltb _ _ (c .before .before .if3 .left))))
+
+pub fetch-spec : {M : Type 1} → statement M
+fetch-spec = tie.close (tie.spec returns returns-2 returns-3 due-requires send-requires returns-4)

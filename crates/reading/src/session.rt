@@ -1,0 +1,43 @@
+// The session, and what its calls return.
+use drive::Command;
+use geometry::Address;
+use geometry::Refusal;
+use geometry::Seq;
+use geometry::Verdict;
+
+pub struct Reading {
+    // LAST of the cartridge and the pass of its newest header.
+    pub last: Address,
+    pub pass: u16,
+    // The next address, and whether a LOCATE of it comes before the READ.
+    pub next: Address,
+    pub locate: bool,
+    // The number of the element that is expected next.
+    pub expected: Seq,
+    // The last command, whether its reply is awaited, and whether it is to be given again.
+    pub command: Command,
+    pub awaiting: bool,
+    pub again: bool,
+    // Whether EOD was read.
+    pub finished: bool,
+    // Whether a refusal of 8 to 12 has ended the session.
+    pub ended: bool,
+}
+
+pub struct Opened {
+    pub session: Reading,
+    pub verdict: Verdict,
+}
+
+// The answer to a fetch. The host sends a command once and brings its reply.
+pub enum Answer {
+    Command(Command),
+    // EOD was read.
+    End,
+    Refused(Refusal),
+}
+
+pub struct Fetched {
+    pub session: Reading,
+    pub answer: Answer,
+}
