@@ -52,7 +52,7 @@ pub record Faithful (last : ℕ) (accepted : List Element) (w : readings.World) 
   pub count : ℕ
   pub in-order : w .deliveries ≡ take count accepted
   -- nothing is refused with 8 or more
-  pub unbroken : w .broken ≡ false
+  pub never-refused : w .refused ≡ false
   -- until the end each fetch with no reply awaited gives a command
   pub goes-on : w .session .finished ≡ false → w .flight ≡ readings.none → GivesCommand (fetch.fetchOf (w .session) .said)
   -- the replies taken in are bounded, busy ones aside
@@ -74,7 +74,7 @@ pub data Within (last : ℕ) : List ℕ → Type 0 where
   one-more : (a : ℕ) (rest : List ℕ) → (isHeader a || isUser last a) ≡ true → Within last rest → Within last (a ∷ rest)
 
 -- what holds after every list of a recording's calls
-pub record Kept (g : Geometry) (last : ℕ) (t : Tape) (o : Opening) (s : Recording) (w : recordings.World) : Type 0 where
+pub record Promised (g : Geometry) (last : ℕ) (t : Tape) (o : Opening) (s : Recording) (w : recordings.World) : Type 0 where
   -- under the conduct alone, closed or not
   pub written : Within last (w .drive .written)
   -- where the session was opened as it should be, the window was lent back unaltered, and the close reported done
@@ -90,4 +90,4 @@ Demand3 =
     → Cartridge last t
     → opened g depth blocks o ≡ accepting s
     → recordings.Runs (recordings.started s window t at) calls w
-    → Kept g last t o s w
+    → Promised g last t o s w

@@ -31,7 +31,7 @@ pub record World : Type 0 where
   -- replies taken in, busy ones aside
   pub replies : ℕ
   -- a call was refused with 8 or more
-  pub broken : Bool
+  pub refused : Bool
 
 -- a call with what it brings
 pub data Call : Type 0 where
@@ -55,8 +55,9 @@ abbrev pub refusal : Reading → Call → ℕ
 refusal s fetching = fetchNumber (fetch.fetchOf s .said)
 refusal s (replying r frame) = replyNumber (reply.replyOf s r frame .said)
 
-abbrev pub Counts : ℕ → Type 0
-Counts n = (n ≡ 0) ⊎ (8 ≤ n)
+-- the call is not refused with 1 to 7
+abbrev pub TakesEffect : ℕ → Type 0
+TakesEffect n = (n ≡ 0) ⊎ (8 ≤ n)
 
 abbrev pub flightAfter : fetch.Said → Flight → Command → Flight
 flightAfter (fetch.command n a) f c = sent c
@@ -70,7 +71,7 @@ afterFetch w = record {
   flight = flightAfter (fetch.fetchOf (w .session) .said) (w .flight) (fetch.fetchOf (w .session) .session .command);
   deliveries = w .deliveries;
   replies = w .replies;
-  broken = pick (leb 8 (refusal (w .session) fetching)) true (w .broken);
+  refused = pick (leb 8 (refusal (w .session) fetching)) true (w .refused);
 }
 
 -- deliveries: one for each reply answered delivered, the first 32,768 bytes of a data frame, a filemark for a marker
@@ -88,20 +89,20 @@ afterReply w r frame = record {
   flight = none;
   deliveries = w .deliveries ++ delivered (reply.replyOf (w .session) r frame .said) frame;
   replies = pick (eqb (meaningOf (r .key) (r .asc) (r .ascq)) busy) (w .replies) (w .replies + 1);
-  broken = pick (leb 8 (refusal (w .session) (replying r frame))) true (w .broken);
+  refused = pick (leb 8 (refusal (w .session) (replying r frame))) true (w .refused);
 }
 
 -- one call
 pub data Calls (w : World) : Call → World → Type 0 where
   -- a call refused with 1 to 7 counts for nothing, whatever it brings
-  for-nothing : (c : Call) → 1 ≤ refusal (w .session) c → refusal (w .session) c ≤ 7 → Calls w c w
-  fetches : Counts (refusal (w .session) fetching) → Calls w fetching (afterFetch w)
-  replies : (r : Reply) (frame : List ℕ) → w .flight ≡ answered r frame → Counts (refusal (w .session) (replying r frame)) → Calls w (replying r frame) (afterReply w r frame)
+  refuses : (c : Call) → 1 ≤ refusal (w .session) c → refusal (w .session) c ≤ 7 → Calls w c w
+  fetches : TakesEffect (refusal (w .session) fetching) → Calls w fetching (afterFetch w)
+  replies : (r : Reply) (frame : List ℕ) → w .flight ≡ answered r frame → TakesEffect (refusal (w .session) (replying r frame)) → Calls w (replying r frame) (afterReply w r frame)
 
 -- the drive answers the command that it was sent, once
 pub data Moves (t : Tape) (w : World) : World → Type 0 where
   serves : (c : Command) (r : Reply) (frame : List ℕ) (at : ℕ) → w .flight ≡ sent c → Serves t (w .at) c r frame at
-      → Moves t w (record { session = w .session; at = at; flight = answered r frame; deliveries = w .deliveries; replies = w .replies; broken = w .broken })
+      → Moves t w (record { session = w .session; at = at; flight = answered r frame; deliveries = w .deliveries; replies = w .replies; refused = w .refused })
 
 pub data Runs (t : Tape) : World → List Call → World → Type 0 where
   stop : {w : World} → Runs t w [] w
@@ -110,4 +111,4 @@ pub data Runs (t : Tape) : World → List Call → World → Type 0 where
 
 -- a reading just opened, the drive standing anywhere
 abbrev pub started : Reading → ℕ → World
-started s at = record { session = s; at = at; flight = none; deliveries = []; replies = 0; broken = false }
+started s at = record { session = s; at = at; flight = none; deliveries = []; replies = 0; refused = false }

@@ -59,9 +59,9 @@ refusal s close = closeOf s .number
 refusal s (fetch window frame) = fetchNumber (fetchOf s window frame .said)
 refusal s (reply r) = replyOf s r .number
 
--- a call that is not refused with 1 to 7
-abbrev pub Counts : ℕ → Type 0
-Counts n = (n ≡ 0) ⊎ (8 ≤ n)
+-- the call is not refused with 1 to 7
+abbrev pub TakesEffect : ℕ → Type 0
+TakesEffect n = (n ≡ 0) ⊎ (8 ≤ n)
 
 abbrev pub withSession : World → Recording → World
 withSession w s = record { session = s; window = w .window; unaltered = w .unaltered; drive = w .drive; flight = w .flight; accepted = w .accepted; reported = w .reported }
@@ -127,12 +127,12 @@ afterReply w r = record {
 -- one call: each gets the session that the last one returned, and a reply is brought as the drive gave it
 pub data Calls (w : World) : Call → World → Type 0 where
   -- a call refused with 1 to 7 counts for nothing, whatever it brings
-  for-nothing : (c : Call) → 1 ≤ refusal (w .session) c → refusal (w .session) c ≤ 7 → Calls w c w
-  accepts-block : (b lent : List ℕ) → Counts (refusal (w .session) (accept-block b lent)) → Calls w (accept-block b lent) (afterBlock w b lent)
-  accepts-filemark : Counts (refusal (w .session) accept-filemark) → Calls w accept-filemark (afterFilemark w)
-  closes : Counts (refusal (w .session) close) → Calls w close (withSession w (closeOf (w .session) .session))
-  fetches : (lent frame : List ℕ) → Counts (refusal (w .session) (fetch lent frame)) → Calls w (fetch lent frame) (afterFetch w lent frame)
-  replies : (r : Reply) → w .flight ≡ answered r → Counts (refusal (w .session) (reply r)) → Calls w (reply r) (afterReply w r)
+  refuses : (c : Call) → 1 ≤ refusal (w .session) c → refusal (w .session) c ≤ 7 → Calls w c w
+  accepts-block : (b lent : List ℕ) → TakesEffect (refusal (w .session) (accept-block b lent)) → Calls w (accept-block b lent) (afterBlock w b lent)
+  accepts-filemark : TakesEffect (refusal (w .session) accept-filemark) → Calls w accept-filemark (afterFilemark w)
+  closes : TakesEffect (refusal (w .session) close) → Calls w close (withSession w (closeOf (w .session) .session))
+  fetches : (lent frame : List ℕ) → TakesEffect (refusal (w .session) (fetch lent frame)) → Calls w (fetch lent frame) (afterFetch w lent frame)
+  replies : (r : Reply) → w .flight ≡ answered r → TakesEffect (refusal (w .session) (reply r)) → Calls w (reply r) (afterReply w r)
 
 abbrev pub withDrive : World → Drive → Flight → World
 withDrive w d f = record { session = w .session; window = w .window; unaltered = w .unaltered; drive = d; flight = f; accepted = w .accepted; reported = w .reported }

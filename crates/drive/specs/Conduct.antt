@@ -84,8 +84,8 @@ pub data Answers (d : Drive) (frame : List ℕ) : Command → Reply → Drive �
   -- busy, or a reply that is not listed for the command: nothing is done, but that a LOCATE may have been
   waits : (c : Command) (r : Reply) → Means r busy → Answers d frame c r d
   waits-located : (a : Address) (r : Reply) → Means r busy → Answers d frame (Locate a) r (moved d (a .0))
-  balks : (c : Command) (r : Reply) → (Listed c (meaningOf (r .key) (r .asc) (r .ascq)) → ⊥) → Answers d frame c r d
-  balks-located : (a : Address) (r : Reply) → (Listed (Locate a) (meaningOf (r .key) (r .asc) (r .ascq)) → ⊥) → Answers d frame (Locate a) r (moved d (a .0))
+  rejects : (c : Command) (r : Reply) → (Listed c (meaningOf (r .key) (r .asc) (r .ascq)) → ⊥) → Answers d frame c r d
+  rejects-located : (a : Address) (r : Reply) → (Listed (Locate a) (meaningOf (r .key) (r .asc) (r .ascq)) → ⊥) → Answers d frame (Locate a) r (moved d (a .0))
 
 -- ---- a drive that reads: its tape doesn't change, and at is where it stands
 

@@ -6,7 +6,7 @@ use lib.Dec.{eqb}
 use Rattle.geometry.specs.Pick.{pick}
 use Rattle.drive.specs.declared.senses.Sense.{Sense}
 
--- the meanings, under the standard's names (table 4-20); other is that of every triple that is not listed
+-- the meanings, after table 4-20 of the standard; other is that of every triple that is not listed
 abbrev pub other : ℕ
 other = 0
 

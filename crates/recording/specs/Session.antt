@@ -44,7 +44,7 @@ endedOf s = record { depth = s .depth; highest = s .highest; stage = s .stage; c
 abbrev pub ending : Recording → ℕ → Result
 ending s n = record { session = endedOf s; number = n }
 
--- one more stage, header copies or elements
+-- the session with another stage, other header copies or other elements
 abbrev pub withStage : Recording → Stage → Recording
 withStage s stage = record { depth = s .depth; highest = s .highest; stage = stage; command = s .command; awaiting = s .awaiting; again = s .again; closed = s .closed; ended = s .ended; copies = s .copies; elements = s .elements }
 
