@@ -4,7 +4,7 @@ use mathlib.Core.Path.{_≡_}
 use mathlib.Core.Bool.{Bool, true, false, _&&_}
 use mathlib.Core.List.{List, [], _∷_, _++_}
 use mathlib.Core.Logic.{_⊎_}
-use Rattle.frame.specs.Bytes.{agree}
+use Rattle.buffer.specs.Bytes.{agree}
 use Rattle.drive.specs.Conduct.{Drive, Acts, Answers}
 use Rattle.drive.specs.Tape.{Tape}
 use Rattle.drive.specs.declared.command.Command.{Command}

@@ -1,11 +1,11 @@
 // Prints the AUX bytes of a data frame, a marker, an EOD and a header, and the header's first data bytes, in hexadecimal.
 // Rows of 16 bytes that are all 0 are left out.
+use buffer::byte_at;
 use frame::Element;
 use frame::Header;
 use frame::Kind;
 use frame::build_element;
 use frame::build_header;
-use frame::byte_at;
 use geometry::Address;
 use geometry::Seq;
 use libc::STDOUT_FILENO;

@@ -7,7 +7,7 @@ use mathlib.Core.Option.{Option, none, some}
 use lib.Dec.{eqb}
 use lib.ListN.{length, drop}
 use Rattle.geometry.specs.Pick.{pick}
-use Rattle.frame.specs.Bytes.{get16}
+use Rattle.buffer.specs.Bytes.{get16}
 
 -- what each address reads as
 abbrev pub Tape : Type 0

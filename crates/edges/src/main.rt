@@ -1,10 +1,10 @@
 // Plays two recordings through the public calls and prints each command, with the AUX fields of an element's frame.
 // The first is the example of 01, "Edges": block, filemark, block sent to 10, 11, 12, with an error at 11, skip 3.
 // The second goes by write errors to 2,985, over the second header group and to the end of a tape of 3,001 frames.
+use buffer::be16_at;
+use buffer::be32_at;
 use drive::Command;
 use drive::Reply;
-use frame::be16_at;
-use frame::be32_at;
 use geometry::Address;
 use geometry::Geometry;
 use geometry::LoadPoint;

@@ -6,10 +6,10 @@ use native.Mathlib.Omega.{arith}
 use lib.Dec.{lit<}
 use lib.ListN.{length, take, drop, getD, length-drop}
 use lib.Seq.{getD-drop}
-use Rattle.frame.specs.Bytes.{get16, get32}
+use Rattle.buffer.specs.Bytes.{get16, get32}
 use Rattle.frame.specs.Sent.{ReadsAs}
 use Rattle.frame.proofs.Lists.{same-part}
-use Rattle.frame.proofs.Numbers.{same16, same32}
+use Rattle.buffer.proofs.Numbers.{same16, same32}
 
 module _ {sent read : List ℕ} (r : ReadsAs sent read) where
   -- fields of the frame, before and behind the bytes that the drive fills in

@@ -2,10 +2,10 @@
 use mathlib.Core.Path.{_≡_, refl}
 use Prim.Native.Nat.{ℕ, _^_, _<_}
 use lib.ListN.{take, drop, getD}
-use Rattle.frame.specs.Bytes.{get16, get32}
+use Rattle.buffer.specs.Bytes.{get16, get32}
 use Rattle.frame.specs.Aux.{accessBytes, auxBytes}
 use Rattle.frame.specs.declared.fields.Fields.{Fields}
-use Rattle.frame.proofs.Numbers.{be16-back, be32-back}
+use Rattle.buffer.proofs.Numbers.{be16-back, be32-back}
 
 module _ (f : Fields) where
   pub aux-update : f .update < 2 ^ 32 → get32 (auxBytes f) 12 ≡ f .update

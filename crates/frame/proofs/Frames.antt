@@ -8,7 +8,7 @@ use borrow.Author.Tests.{eqb-true}
 use lib.Dec.{eqb}
 use lib.ListN.{length, take, drop, getD, replicate, length-append, length-drop, length-replicate}
 use lib.Seq.{take-at, drop-at, getD-drop, length-take-le}
-use Rattle.frame.specs.Bytes.{get16, get32}
+use Rattle.buffer.specs.Bytes.{get16, get32}
 use Rattle.frame.specs.Aux.{accessBytes, auxBytes, elementAux, headerAux}
 use Rattle.frame.specs.Frame.{blank, dataBytes, elementFrame, elementFits}
 use Rattle.frame.specs.Header.{headerFields, headerRest, headerFrame}
@@ -18,7 +18,7 @@ use Rattle.frame.specs.declared.element.Element.{Element}
 use Rattle.frame.specs.declared.fields.Fields.{Fields}
 use Rattle.frame.specs.declared.header.Header.{Header}
 use Rattle.geometry.proofs.TestLaws.{and-true}
-use Rattle.frame.proofs.Numbers.{same16, same32}
+use Rattle.buffer.proofs.Numbers.{same16, same32}
 
 pub access-length : (entries size flags : ℕ) → length (accessBytes entries size flags) ≡ 132
 unfolding accessBytes

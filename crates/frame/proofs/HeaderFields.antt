@@ -3,11 +3,11 @@ use mathlib.Core.Path.{_≡_, refl, sym, ap, _∙_}
 use mathlib.Core.List.{List, [], _∷_}
 use Prim.Native.Nat.{ℕ, _^_, _<_}
 use lib.ListN.{take, getD}
-use Rattle.frame.specs.Bytes.{get16, get32}
+use Rattle.buffer.specs.Bytes.{get16, get32}
 use Rattle.frame.specs.Aux.{headerAux}
 use Rattle.frame.specs.Header.{headerFields, headerFrame}
 use Rattle.frame.specs.declared.header.Header.{Header}
-use Rattle.frame.proofs.Numbers.{be16-back, be32-back}
+use Rattle.buffer.proofs.Numbers.{be16-back, be32-back}
 use Rattle.frame.proofs.Frames.{aux-at32, header-aux}
 use Rattle.frame.proofs.AuxFields.{aux-update}
 

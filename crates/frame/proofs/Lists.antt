@@ -1,23 +1,11 @@
--- Lists that a loop copies, that a lent part changes, or that agree in a part. Assumes nothing.
-use mathlib.Core.Path.{_≡_, refl, sym, ap, _∙_}
-use mathlib.Core.List.{List, [], _∷_, _++_, append-nil}
-use Prim.Native.Nat.{ℕ, zero, suc, _+_, _-_, _<_}
-use native.Mathlib.Nat.{not-suc-le-zero, le-of-suc-le-suc}
-use native.Mathlib.Numerals.{add-one}
+-- Lists that a lent part changes, or that agree in a part. Assumes nothing.
+use mathlib.Core.Path.{_≡_, sym, ap, _∙_}
+use mathlib.Core.List.{List, _++_, append-nil}
+use Prim.Native.Nat.{ℕ, _+_, _-_, _<_}
 use native.Mathlib.Omega.{arith}
 use borrow.Rule.Slice.PartMut.{putMid}
-use lib.ListN.{length, take, drop, getD, set, length-append, length-take, length-drop}
+use lib.ListN.{length, take, drop, getD, length-append, length-take, length-drop}
 use lib.Seq.{take-at, drop-at, drop-length, getD-take, getD-drop, ext-getD}
-
-copy-suc : (n : ℕ) (s d : List ℕ) → n < length s → n < length d → set (take n s ++ drop n d) n (getD s n 0) ≡ take (suc n) s ++ drop (suc n) d
-copy-suc n [] d h k = absurd (not-suc-le-zero h)
-copy-suc n (x ∷ s) [] h k = absurd (not-suc-le-zero k)
-copy-suc zero (x ∷ s) (y ∷ d) h k = refl
-copy-suc (suc n) (x ∷ s) (y ∷ d) h k = ap (λ (l : List ℕ). x ∷ l) (copy-suc n s d (le-of-suc-le-suc h) (le-of-suc-le-suc k))
-
--- a turn of a loop that copies s to the front of d
-pub copy-more : (n : ℕ) (s d : List ℕ) → n < length s → n < length d → set (take n s ++ drop n d) n (getD s n 0) ≡ take (n + 1) s ++ drop (n + 1) d
-copy-more n s d h k = rw add-one (copy-suc n s d h k)
 
 -- what a lent `&mut s[n..]` leaves where s is d and then r: the rest replaced whole
 pub tail-put : (n : ℕ) (d r a : List ℕ) → length d ≡ n → putMid n (length (d ++ r) - n) (d ++ r) a ≡ d ++ a

@@ -3,7 +3,7 @@ use Prim.Native.Nat.{ℕ}
 use mathlib.Core.Bool.{Bool, _&&_}
 use mathlib.Core.List.{List, _++_}
 use lib.Dec.{eqb}
-use Rattle.frame.specs.Bytes.{zeros}
+use Rattle.buffer.specs.Bytes.{zeros}
 use Rattle.frame.specs.Aux.{auxBytes, elementAux}
 use Rattle.frame.specs.declared.element.Kind.{Kind}
 use Rattle.frame.specs.declared.element.Kind.the-variants.{Data, Marker, Eod}

@@ -1,4 +1,3 @@
-pub mod Bytes
 pub mod Aux
 pub mod Frame
 pub mod Header

@@ -1,16 +1,10 @@
 // The bytes of the frames that a recording writes: data, marker, EOD and header frames.
 mod access;
-mod bytes;
 mod element;
 mod fields;
 mod header;
+mod store;
 
-pub use bytes::agrees;
-pub use bytes::be16_at;
-pub use bytes::be32_at;
-pub use bytes::byte_at;
-pub use bytes::clear;
-pub use bytes::copy_all;
 pub use element::Element;
 pub use element::Kind;
 pub use element::build_element;

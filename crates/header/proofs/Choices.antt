@@ -10,7 +10,7 @@ use Rattle.geometry.specs.Said.{Said}
 use Rattle.geometry.specs.Cartridge.{lastOf}
 use Rattle.geometry.specs.declared.cartridge.Geometry.{Geometry}
 use Rattle.geometry.proofs.PickLaws.{pick-t, pick-f}
-use Rattle.frame.specs.Bytes.{agree}
+use Rattle.buffer.specs.Bytes.{agree}
 use Rattle.header.specs.Valid.{updateOf}
 use Rattle.header.specs.Choice.{first, second, none, newerOf, choiceBy, choiceOf}
 

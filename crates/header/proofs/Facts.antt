@@ -7,7 +7,7 @@ use borrow.Author.Tests.{eqb-true, leb-true}
 use lib.Dec.{eqb, leb}
 use lib.ListN.{getD}
 use Rattle.geometry.specs.Cartridge.{isUser}
-use Rattle.frame.specs.Bytes.{get16, get32}
+use Rattle.buffer.specs.Bytes.{get16, get32}
 use Rattle.geometry.proofs.TestLaws.{and-true}
 use Rattle.header.specs.Valid.{isNamed, isPartition, isHeaderAux, validHeader, headerOf}
 

@@ -11,7 +11,7 @@ use Rattle.geometry.specs.Refused.{refusalNumber}
 use Rattle.geometry.specs.Said.{Said, address, refused}
 use Rattle.geometry.specs.Cartridge.{lastOf}
 use Rattle.geometry.specs.declared.cartridge.Geometry.{Geometry}
-use Rattle.frame.specs.Bytes.{agree}
+use Rattle.buffer.specs.Bytes.{agree}
 use Rattle.header.specs.declared.choice.Choice.{Choice}
 use Rattle.header.specs.declared.choice.Choice.the-variants.{First, Second, Refused}
 use Rattle.header.specs.Valid.{validHeader, updateOf}

@@ -5,7 +5,7 @@ use mathlib.Core.List.{List}
 use lib.Dec.{eqb, leb}
 use lib.ListN.{getD}
 use Rattle.geometry.specs.Cartridge.{isUser}
-use Rattle.frame.specs.Bytes.{get16, get32}
+use Rattle.buffer.specs.Bytes.{get16, get32}
 use Rattle.frame.specs.declared.header.Header.{Header}
 
 -- "ADR_SEQ" and a zero byte; major 1, minor 2 or 3; partition count 1

@@ -1,10 +1,10 @@
 // Whether a header frame is valid, and its fields.
 ghost use mathlib.Core.Path.{_≡_};
 ghost use Rattle.header.specs.Valid.{isNamed, isPartition, isHeaderAux, validHeader, headerOf};
+use buffer::be16_at;
+use buffer::be32_at;
+use buffer::byte_at;
 use frame::Header;
-use frame::be16_at;
-use frame::be32_at;
-use frame::byte_at;
 use geometry::Address;
 use geometry::is_user;
 

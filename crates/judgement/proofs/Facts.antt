@@ -6,12 +6,12 @@ use Prim.Native.Nat.{ℕ}
 use borrow.Author.Tests.{eqb-true, eq-eqb}
 use lib.Dec.{eqb}
 use lib.ListN.{length, getD, drop}
-use Rattle.frame.specs.Bytes.{get16, get32, agree}
+use Rattle.buffer.specs.Bytes.{get16, get32, agree}
 use Rattle.frame.specs.Aux.{typeOf, auxBytes, elementAux}
 use Rattle.frame.specs.declared.element.Element.{Element}
 use Rattle.frame.specs.declared.element.Kind.{Kind}
 use Rattle.geometry.proofs.TestLaws.{and-true}
-use Rattle.frame.proofs.Agreement.{agree-same, agree-is}
+use Rattle.buffer.proofs.Agreement.{agree-same, agree-is}
 use Rattle.judgement.specs.Judgement.{expectedElement, part, asTable, isCurrent}
 
 -- the AUX is of the pass

@@ -5,7 +5,7 @@ use mathlib.Core.List.{List}
 use Prim.Native.Nat.{ℕ, _<_}
 use lib.ListN.{length, drop}
 use Rattle.geometry.proofs.PickLaws.{pick-t}
-use Rattle.frame.specs.Bytes.{get16, get32}
+use Rattle.buffer.specs.Bytes.{get16, get32}
 use Rattle.frame.specs.declared.element.Kind.{Kind}
 use Rattle.judgement.specs.Judgement.{skipped, refused, foundSaid, isCurrent, judgeNumber, judgeFrame}
 use Rattle.judgement.proofs.Cases.{number-below, number-above, number-same, other, typed, right-length}

@@ -8,7 +8,7 @@ use borrow.Author.Tests.{ltb-true, ltb-false, eqb-true, eqb-false}
 use lib.Dec.{eqb, ltb}
 use lib.ListN.{length, drop}
 use Rattle.geometry.proofs.PickLaws.{pick-by}
-use Rattle.frame.specs.Bytes.{get16, get32}
+use Rattle.buffer.specs.Bytes.{get16, get32}
 use Rattle.frame.specs.Aux.{typeOf}
 use Rattle.frame.specs.declared.element.Kind.{Kind}
 use Rattle.frame.specs.declared.element.Kind.the-variants.{Data, Marker, Eod}

@@ -5,7 +5,7 @@ use mathlib.Core.List.{List}
 use Prim.Native.Nat.{ℕ, _^_, _<_}
 use lib.Dec.{lit<}
 use lib.ListN.{length, drop}
-use Rattle.frame.specs.Bytes.{get16, get32}
+use Rattle.buffer.specs.Bytes.{get16, get32}
 use Rattle.frame.specs.Aux.{typeOf, accessBytes, auxBytes, elementAux}
 use Rattle.frame.specs.Frame.{elementFrame, elementFits}
 use Rattle.frame.specs.Sent.{ReadsAs}

@@ -2,8 +2,8 @@
 ghost use mathlib.Core.Path.{_≡_};
 ghost use lib.ListN.{length};
 ghost use Rattle.judgement.specs.Judgement.{asTable};
+use buffer::agrees;
 use frame::Element;
-use frame::agrees;
 use frame::build_aux;
 use frame::element_fields;
 

@@ -3,7 +3,7 @@ ghost use mathlib.Core.Path.{_≡_};
 ghost use Prim.Native.Nat.{_+_, _*_, _≤_, _<_};
 ghost use lib.ListN.{length};
 ghost use Rattle.recording.specs.Window.{blockAt, putBlock};
-use frame::copy_all;
+use buffer::copy_all;
 
 // Stores a block.
 pub(crate) fn put_block(window: &mut [u8], i: usize, block: &[u8])

@@ -6,7 +6,7 @@ use Prim.Native.Nat.{ℕ}
 use lib.Dec.{lit<, lit≤}
 use lib.ListN.{replicate, set}
 use Rattle.frame.specs.Aux.{accessBytes}
-use Rattle.frame.specs.Bytes.{put32}
+use Rattle.buffer.specs.Bytes.{put32}
 use Rattle.frame.proofs.access.build_access_table.Statement.{statement}
 use Rattle.frame.proofs.access.build_access_table.Tie as tie
 

@@ -7,7 +7,7 @@ use Prim.Native.Nat.{ℕ}
 use lib.Dec.{lit<, lit≤}
 use lib.ListN.{replicate, set}
 use Rattle.frame.specs.Aux.{accessBytes, auxBytes}
-use Rattle.frame.specs.Bytes.{put16, put32}
+use Rattle.buffer.specs.Bytes.{put16, put32}
 use Rattle.frame.specs.declared.fields.Fields.{Fields}
 use Rattle.frame.proofs.fields.fill_aux.Statement.{statement}
 use Rattle.frame.proofs.fields.fill_aux.Tie as tie

@@ -4,7 +4,7 @@ use mathlib.Core.List.{List}
 use Prim.Native.Nat.{ℕ}
 use lib.Dec.{lit<, lit≤}
 use lib.ListN.{replicate, set}
-use Rattle.frame.specs.Bytes.{put16, put32}
+use Rattle.buffer.specs.Bytes.{put16, put32}
 use Rattle.frame.specs.Header.{headerFields}
 use Rattle.frame.specs.declared.header.Header.{Header}
 use Rattle.frame.proofs.header.fill_fields.Statement.{statement}

@@ -4,7 +4,7 @@ use mathlib.Core.Bool.{Bool, _&&_}
 use mathlib.Core.List.{List}
 use Prim.Native.Nat.{ℕ}
 use denote.Ref.{now}
-use Rattle.frame.specs.Bytes.{agree}
+use Rattle.buffer.specs.Bytes.{agree}
 use Rattle.frame.specs.Aux.{auxBytes, elementAux}
 use Rattle.frame.specs.declared.fields.Fields.{Fields}
 use Rattle.judgement.specs.Judgement.{part, asTable}

@@ -10,7 +10,7 @@ use lib.Dec.{eqb}
 use lib.ListN.{length, drop, getD, drop-of-length-le}
 use lib.Seq.{drop-cons}
 use Rattle.geometry.proofs.TestLaws.{and-true}
-use Rattle.frame.specs.Bytes.{agree}
+use Rattle.buffer.specs.Bytes.{agree}
 
 pub agree-same : (a : List ℕ) → agree a a ≡ true
 unfolding agree

@@ -2,8 +2,8 @@
 use borrow.Author.Needs.{needs}
 use native.Mathlib.Omega.{arith}
 use lib.ListN.{length-set}
-use Rattle.frame.proofs.bytes.put_be16.Statement.{statement}
-use Rattle.frame.proofs.bytes.put_be16.Tie as tie
+use Rattle.frame.proofs.store.put_be16.Statement.{statement}
+use Rattle.frame.proofs.store.put_be16.Tie as tie
 
 cast-s : tie.Need-cast-s
 cast-s c = search needs

@@ -4,10 +4,10 @@ use Prim.Native.Nat.{_-_, _≤_}
 use native.Mathlib.Omega.{arith}
 use borrow.Author.Tests.{eq-eqb, ne-eqb}
 use lib.ListN.{length, drop}
-use Rattle.frame.specs.Bytes.{agree}
-use Rattle.frame.proofs.Agreement.{agree-unlike, agree-step, agree-end}
-use Rattle.frame.proofs.bytes.agrees.Statement.{statement}
-use Rattle.frame.proofs.bytes.agrees.Tie as tie
+use Rattle.buffer.specs.Bytes.{agree}
+use Rattle.buffer.proofs.Agreement.{agree-unlike, agree-step, agree-end}
+use Rattle.buffer.proofs.agrees.Statement.{statement}
+use Rattle.buffer.proofs.agrees.Tie as tie
 
 abbrev Inv-loop : tie.InvT-loop
 Inv-loop a b i₀ i = (i ≤ length a) × (agree a b ≡ agree (drop i a) (drop i b))
