@@ -1,4 +1,3 @@
-pub mod WindowLaws
 pub mod Ended
 pub mod Kept
 pub mod BlockPlace
