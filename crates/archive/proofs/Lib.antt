@@ -1,1 +1,3 @@
 pub mod WindowLaws
+pub mod Places
+pub mod WrittenFrames

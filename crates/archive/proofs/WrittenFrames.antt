@@ -1,0 +1,38 @@
+-- The frame that a fetch builds for an element or EOD is judged as that, whatever AUX 4 to 11 hold. Assumes nothing.
+use Prim.Native.Nat.{ℕ, _+_, _*_, _%_, _^_, _<_, _≤_}
+use mathlib.Core.Path.{_≡_, refl, sym, subst}
+use mathlib.Core.Bool.{true}
+use mathlib.Core.List.{List}
+use native.Mathlib.Nat.{mod-lt}
+use native.Mathlib.Omega.{arith}
+use borrow.Author.Tests.{eq-eqb}
+use lib.Dec.{lit<}
+use lib.ListN.{length}
+use Rattle.frame.specs.Frame.{elementFits}
+use Rattle.frame.specs.Sent.{ReadsAs}
+use Rattle.frame.specs.declared.element.Kind.{Kind}
+use Rattle.frame.specs.declared.element.Kind.the-variants.{Data, Marker, Eod}
+use Rattle.judgement.specs.Judgement.{judgeFrame, foundSaid}
+use Rattle.judgement.proofs.Written.{judged-written}
+use Rattle.elements.specs.Elements.{numberOf}
+use Rattle.recording.specs.Session.{windowLength}
+use Rattle.recording.specs.Window.{blockAt}
+use Rattle.recording.specs.Fetch.{kindOf, elementOf, elementPlace, writtenElement}
+use Rattle.recording.proofs.BlockPlace.{place-inside, block-length}
+use Rattle.recording.specs.declared.session.Recording.{Recording}
+
+block-fits : (k : Kind) (b : List ℕ) → length b ≡ 32768 → elementFits k 33280 (length b) ≡ true
+block-fits Data b h = eq-eqb (length b) 32768 h
+block-fits Marker b h = refl
+block-fits Eod b h = refl
+
+module _ (s : Recording) (window : List ℕ) (long : length window ≡ windowLength s) where
+  inside : elementPlace s * 32768 + 32768 ≤ length window
+  inside = subst (λ (n : ℕ). elementPlace s * 32768 + 32768 ≤ n) (sym long) (place-inside (numberOf (s .elements) (s .elements .outstanding)) (s .highest))
+
+  pub written-judged : {r : List ℕ} → s .copies .header .pass < 2 ^ 16 → ReadsAs (writtenElement s window) r
+      → judgeFrame (s .copies .header .last .0) (s .copies .header .pass) (numberOf (s .elements) (s .elements .outstanding)) r ≡ foundSaid (kindOf s)
+  unfolding writtenElement elementOf
+  written-judged small reads =
+      judged-written (elementOf s) small (mod-lt (s .elements .first .0 + s .elements .outstanding) (lit< tt)) (blockAt window (elementPlace s))
+      (block-fits (kindOf s) (blockAt window (elementPlace s)) (block-length window (elementPlace s) inside)) reads
