@@ -5,3 +5,4 @@ pub mod Exchange
 pub mod Flush
 pub mod SampleHeaders
 pub mod SampleOpening
+pub mod SampleElements
