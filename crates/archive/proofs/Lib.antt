@@ -6,3 +6,5 @@ pub mod Flush
 pub mod SampleHeaders
 pub mod SampleOpening
 pub mod SampleElements
+pub mod SampleClosing
+pub mod SampleRecording

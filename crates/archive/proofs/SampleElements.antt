@@ -91,7 +91,7 @@ module _ (b : List ℕ) (full : length b ≡ 32768) where
   abbrev pub filled : List ℕ
   filled = putBlock window 0 b
 
-  fits : length filled ≡ 32768
+  pub fits : length filled ≡ 32768
   fits = put-length window b 0 (omega (arith, windowed)) full ∙ windowed
 
 -- each command that is due, and the session after its reply
@@ -174,7 +174,7 @@ module _ where
   r9 = refl
 
 module _ (b : List ℕ) (full : length b ≡ 32768) where
-  abbrev blocks : List Element
+  abbrev pub blocks : List Element
   blocks = block b ∷ []
 
   -- the block goes into the window
@@ -212,7 +212,7 @@ module _ (b : List ℕ) (full : length b ≡ 32768) where
   abbrev pub onTape : Tape → Tape
   onTape t = put (put (afterFailure t) 12 (some atTwelve)) 13 (some atThirteen)
 
-  abbrev calls : List Call → List Call
+  abbrev pub calls : List Call → List Call
   calls cs =
       accept-block b window
       ∷ fetch (filled b full) frame ∷ reply good
@@ -243,7 +243,7 @@ module _ (b : List ℕ) (full : length b ≡ 32768) where
     eod-written : {cs : List Call} {u : World}
         → Runs (world (filled b full) frame framed atClosing (buffered (onTape t) 14 (13 ∷ 12 ∷ 10 ∷ past) []) blocks none) cs u
         → Runs (world (filled b full) frame framed (among confirmed ReadPosition) (buffered (put (afterFailure t) 12 (some atTwelve)) 13 (12 ∷ 10 ∷ past) []) blocks none)
-            (close ∷ fetch (filled b full) frame ∷ reply good ∷ fetch (filled b full) frame ∷ reply good ∷ cs) u
+        (close ∷ fetch (filled b full) frame ∷ reply good ∷ fetch (filled b full) frame ∷ reply good ∷ cs) u
     unfolding meaningIn
     eod-written rest =
         let t₁ : Tape = put (afterFailure t) 12 (some atTwelve) in
@@ -254,3 +254,31 @@ module _ (b : List ℕ) (full : length b ≡ 32768) where
         (step (atEod eodDue ReadPosition) (atEod eodTaken (Write (at 13))) d₁ d₂ (Write (at 13)) good refl (fits b full) d8 (takes (at 13) good refl) r8
         (acting (filled b full) frame framed (atEod eodTaken (Write (at 13))) d₂ blocks (writes atThirteen [] (some atThirteen) refl refl (reads atThirteen (same atThirteen)))
         (step (atEod eodTaken (Write (at 13))) atClosing d₃ d₃ ReadPosition good refl (fits b full) d9 (counts good refl refl) r9 rest)))
+
+    -- LOCATE 10, WRITE 10 twice for the busy answer, the failure and its report, LOCATE 12, WRITE 12, READ POSITION
+    block-written : {cs : List Call} {u : World} (place : ℕ)
+        → Runs (world (filled b full) frame framed (among confirmed ReadPosition) (buffered (put (afterFailure t) 12 (some atTwelve)) 13 (12 ∷ 10 ∷ past) []) blocks none) cs u
+        → Runs (world (filled b full) frame framed (among accepted ReadPosition) (buffered t place past []) blocks none)
+        (fetch (filled b full) frame ∷ reply good ∷ fetch (filled b full) frame ∷ reply busy ∷ fetch (filled b full) frame ∷ reply good ∷ fetch (filled b full) frame ∷ reply failure
+        ∷ fetch (filled b full) frame ∷ reply good ∷ fetch (filled b full) frame ∷ reply good ∷ fetch (filled b full) frame ∷ reply good ∷ cs) u
+    unfolding meaningIn
+    block-written place rest =
+        let d₁ : Drive = buffered t 10 past [] in
+        let d₂ : Drive = buffered t 10 past (atTen ∷ []) in
+        let d₃ : Drive = buffered (afterFailure t) 12 (10 ∷ past) [] in
+        let d₄ : Drive = buffered (afterFailure t) 12 (10 ∷ past) (atTwelve ∷ []) in
+        let d₅ : Drive = buffered (put (afterFailure t) 12 (some atTwelve)) 13 (12 ∷ 10 ∷ past) [] in
+        step (among accepted ReadPosition) (among located (Locate (at 10))) (buffered t place past []) d₁ (Locate (at 10)) good refl (fits b full) d1 (locates (at 10) good refl) r1
+        (step (among located (Locate (at 10))) repeating d₁ d₁ (Write (at 10)) busy refl (fits b full) d2 (waits (Write (at 10)) busy refl) r2
+        (step repeating (among taken (Write (at 10))) d₁ d₂ (Write (at 10)) good refl (fits b full) d3 (takes (at 10) good refl) r3
+        (acting (filled b full) frame framed (among taken (Write (at 10))) d₂ blocks (fails atTen [] (t 10) refl refl as-before)
+        (step (among taken (Write (at 10))) (among failed ReadPosition) failedDrive failedDrive ReadPosition failure refl (fits b full) d4 (position-fails failure refl refl refl) r4
+        (step (among failed ReadPosition) (among relocated (Locate (at 12))) failedDrive d₃ (Locate (at 12)) good refl (fits b full) d5 (locates (at 12) good refl) r5
+        (step (among relocated (Locate (at 12))) (among retaken (Write (at 12))) d₃ d₄ (Write (at 12)) good refl (fits b full) d6 (takes (at 12) good refl) r6
+        (acting (filled b full) frame framed (among retaken (Write (at 12))) d₄ blocks (writes atTwelve [] (some atTwelve) refl refl (reads atTwelve (same atTwelve)))
+        (step (among retaken (Write (at 12))) (among confirmed ReadPosition) d₅ d₅ ReadPosition good refl (fits b full) d7 (counts good refl refl) r7 rest))))))))
+
+    pub elements-written : {cs : List Call} {u : World} (place : ℕ)
+        → Runs (world (filled b full) frame framed atClosing (buffered (onTape t) 14 (13 ∷ 12 ∷ 10 ∷ past) []) blocks none) cs u
+        → Runs (world window frame framed atElements (buffered t place past []) [] none) (calls cs) u
+    elements-written place rest = call (accepting-block (buffered t place past [])) (block-written place (eod-written rest))
