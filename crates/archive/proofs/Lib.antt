@@ -8,3 +8,4 @@ pub mod SampleOpening
 pub mod SampleElements
 pub mod SampleClosing
 pub mod SampleRecording
+pub mod SampleReading

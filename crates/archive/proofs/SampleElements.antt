@@ -58,7 +58,7 @@ taken = answer.takenOf located
 abbrev failed : Elements
 failed = answer.relocatedOf (answer.confirmedOf taken 0) (at 12)
 
-abbrev relocated : Elements
+abbrev pub relocated : Elements
 relocated = answer.locatedOf failed (at 12)
 
 abbrev retaken : Elements
@@ -67,7 +67,7 @@ retaken = answer.takenOf relocated
 abbrev confirmed : Elements
 confirmed = answer.confirmedOf retaken 1
 
-abbrev eodDue : Elements
+abbrev pub eodDue : Elements
 eodDue = elements.acceptedOf confirmed false
 
 abbrev eodTaken : Elements
@@ -77,10 +77,10 @@ abbrev pub written : Elements
 written = answer.confirmedOf eodTaken 1
 
 -- the session in the elements' stage, and in EOD's
-abbrev among : Elements → Command → Recording
+abbrev pub among : Elements → Command → Recording
 among e c = session S.Elements false e c (copiesAt header 1 5 5 false)
 
-abbrev atEod : Elements → Command → Recording
+abbrev pub atEod : Elements → Command → Recording
 atEod e c = session S.Eod true e c (copiesAt header 1 5 5 false)
 
 abbrev repeating : Recording

@@ -45,10 +45,10 @@ pub block-full : length sampleBlock ≡ 32768
 block-full = windowed
 
 -- a frame of an earlier pass, where the block goes first
-abbrev older : Element
+abbrev pub older : Element
 older = record { kind = Data; pass = 7; last = record { 0 = 11999 }; seq = record { 0 = 0 }; filemarks = 0; marker = record { 0 = 0xFFFFFFFF } }
 
-older-fits : elementFits (older .kind) 33280 (length blank) ≡ true
+pub older-fits : elementFits (older .kind) 33280 (length blank) ≡ true
 older-fits = eq-eqb (length blank) 32768 windowed
 
 abbrev pub tape : Tape

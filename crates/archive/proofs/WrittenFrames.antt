@@ -7,11 +7,12 @@ use native.Mathlib.Nat.{mod-lt}
 use native.Mathlib.Omega.{arith}
 use borrow.Author.Tests.{eq-eqb}
 use lib.Dec.{lit<}
-use lib.ListN.{length}
-use Rattle.frame.specs.Frame.{elementFits}
+use lib.ListN.{length, take}
+use Rattle.frame.specs.Frame.{dataBytes, elementFits}
 use Rattle.frame.specs.Sent.{ReadsAs}
 use Rattle.frame.specs.declared.element.Kind.{Kind}
 use Rattle.frame.specs.declared.element.Kind.the-variants.{Data, Marker, Eod}
+use Rattle.frame.proofs.Frames.{element-length, element-data}
 use Rattle.judgement.specs.Judgement.{judgeFrame, foundSaid}
 use Rattle.judgement.proofs.Written.{judged-written}
 use Rattle.elements.specs.Elements.{numberOf}
@@ -30,9 +31,20 @@ module _ (s : Recording) (window : List ℕ) (long : length window ≡ windowLen
   inside : elementPlace s * 32768 + 32768 ≤ length window
   inside = subst (λ (n : ℕ). elementPlace s * 32768 + 32768 ≤ n) (sym long) (place-inside (numberOf (s .elements) (s .elements .outstanding)) (s .highest))
 
+  fitting : elementFits (kindOf s) 33280 (length (blockAt window (elementPlace s))) ≡ true
+  fitting = block-fits (kindOf s) (blockAt window (elementPlace s)) (block-length window (elementPlace s) inside)
+
   pub written-judged : {r : List ℕ} → s .copies .header .pass < 2 ^ 16 → ReadsAs (writtenElement s window) r
       → judgeFrame (s .copies .header .last .0) (s .copies .header .pass) (numberOf (s .elements) (s .elements .outstanding)) r ≡ foundSaid (kindOf s)
   unfolding writtenElement elementOf
   written-judged small reads =
-      judged-written (elementOf s) small (mod-lt (s .elements .first .0 + s .elements .outstanding) (lit< tt)) (blockAt window (elementPlace s))
-      (block-fits (kindOf s) (blockAt window (elementPlace s)) (block-length window (elementPlace s) inside)) reads
+      judged-written (elementOf s) small (mod-lt (s .elements .first .0 + s .elements .outstanding) (lit< tt)) (blockAt window (elementPlace s)) fitting reads
+
+  pub written-length : length (writtenElement s window) ≡ 33280
+  unfolding writtenElement elementOf
+  written-length = element-length (elementOf s) (blockAt window (elementPlace s)) fitting
+
+  -- the data bytes are the element's own
+  pub written-data : take 32768 (writtenElement s window) ≡ dataBytes (kindOf s) (blockAt window (elementPlace s))
+  unfolding writtenElement elementOf
+  written-data = element-data (elementOf s) (blockAt window (elementPlace s)) fitting
