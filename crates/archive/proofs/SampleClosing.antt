@@ -21,9 +21,10 @@ use Rattle.recording.specs.declared.session.Recording.{Recording}
 use Rattle.recording.specs.declared.session.Stage.the-variants as S
 use Rattle.recording.proofs.FetchView.{fetch-decided}
 use Rattle.archive.specs.Recordings.{Element, none, World, Call, fetch, Calls, fetches, Runs, stop, call, fetchNumber, flightAfter, reportedAfter}
+use Rattle.archive.specs.Sample.{frame}
 use Rattle.archive.proofs.Exchange.{world}
 use Rattle.archive.proofs.SampleHeaders.{at, good, session, copiesAt, exchanges, groupDrive, group-written, positioning}
-use Rattle.archive.proofs.SampleOpening.{frame, framed}
+use Rattle.archive.proofs.SampleOpening.{framed}
 use Rattle.archive.proofs.SampleElements.{filled, fits, blocks, written, atClosing}
 
 -- count one higher than the opening's, and EOD's address

@@ -24,7 +24,6 @@ use Rattle.elements.specs.Due.{dueOf}
 use Rattle.elements.specs.Answer as answer
 use Rattle.elements.specs.declared.state.Elements.{Elements}
 use Rattle.recording.specs.Session.{accepting, windowLength, closingHeader, settledOf}
-use Rattle.recording.specs.Window.{putBlock}
 use Rattle.recording.specs.Accept.{Stored, withElement, blockOf, closeOf}
 use Rattle.recording.specs.Fetch.{decisionOf, send, awaits, frameFor, writtenFrame}
 use Rattle.recording.specs.Reply.{repeatedOf, elementReply, replyOf}
@@ -32,11 +31,12 @@ use Rattle.recording.specs.declared.session.Recording.{Recording}
 use Rattle.recording.specs.declared.session.Stage.{Stage}
 use Rattle.recording.specs.declared.session.Stage.the-variants as S
 use Rattle.archive.specs.Recordings.{Element, block, none, World, Call, accept-block, close, fetch, reply, Calls, accepts-block, closes, Runs, call}
+use Rattle.archive.specs.Sample.{header, window, frame, windowWith}
 use Rattle.archive.proofs.Exchange.{world, acting, exchange}
 use Rattle.archive.proofs.Flush.{same, buffered}
 use Rattle.archive.proofs.WindowLaws.{put-length}
 use Rattle.archive.proofs.SampleHeaders.{at, good, session, copiesAt}
-use Rattle.archive.proofs.SampleOpening.{header, window, frame, framed, windowed, firstElements, atElements}
+use Rattle.archive.proofs.SampleOpening.{framed, windowed, firstElements, atElements}
 
 abbrev pub busy : Reply
 busy = record { key = 2; asc = 4; ascq = 8; buffered = 0; position = at 0; skip = 0 }
@@ -89,7 +89,7 @@ repeating = repeatedOf (awaits (among located (Locate (at 10))) (Write (at 10)))
 module _ (b : List ℕ) (full : length b ≡ 32768) where
   -- the window once the block is in it
   abbrev pub filled : List ℕ
-  filled = putBlock window 0 b
+  filled = windowWith b
 
   pub fits : length filled ≡ 32768
   fits = put-length window b 0 (omega (arith, windowed)) full ∙ windowed

@@ -4,12 +4,7 @@ use mathlib.Core.Path.{_≡_, refl}
 use mathlib.Core.Bool.{true, false}
 use mathlib.Core.List.{List, [], _∷_}
 use lib.ListN.{length}
-use Rattle.geometry.specs.declared.cartridge.Geometry.{Geometry}
-use Rattle.geometry.specs.declared.cartridge.LoadPoint.the-variants.{Beginning}
-use Rattle.frame.specs.Frame.{blank}
-use Rattle.frame.specs.Header.{headerFrame}
 use Rattle.frame.specs.declared.element.Kind.the-variants.{Eod}
-use Rattle.frame.specs.declared.header.Header.{Header}
 use Rattle.frame.proofs.Frames.{data-length, header-length}
 use Rattle.drive.specs.Conduct.{Drive}
 use Rattle.drive.specs.Senses.{meaningIn}
@@ -19,33 +14,21 @@ use Rattle.copies.specs.Copies as copies
 use Rattle.elements.specs.Elements as elements
 use Rattle.elements.specs.declared.state.Elements.{Elements}
 use Rattle.recording.specs.Session.{accepting, settledOf}
-use Rattle.recording.specs.Open.{fresh, openingHeader, openWith, openBlankOf}
+use Rattle.recording.specs.Open.{fresh, openWith, openBlankOf}
 use Rattle.recording.specs.Fetch.{awaits}
 use Rattle.recording.specs.Reply.{headerReply, replyOf}
 use Rattle.recording.specs.declared.session.Recording.{Recording}
 use Rattle.recording.specs.declared.session.Stage.the-variants as S
 use Rattle.archive.specs.Recordings.{none, World, Call, Runs, started}
+use Rattle.archive.specs.Sample.{geometry, header, window, frame}
 use Rattle.archive.proofs.Exchange.{world}
 use Rattle.archive.proofs.Flush.{buffered}
 use Rattle.archive.proofs.SampleHeaders.{at, good, session, copiesAt, exchanges, groupDrive, group-written, positioning}
 
--- the sample cartridge has 12,000 frames and no header; D is 16 and W is 1
-abbrev pub geometry : Geometry
-geometry = record { segtrk = 1000; trks = 12; load = Beginning }
-
-abbrev pub header : Header
-header = openingHeader 11999 1 0
-
+-- D is 16 and W is 1
 pub opens : openBlankOf geometry 16 1 ≡ accepting (fresh 16 0 header)
 unfolding openBlankOf openWith
 opens = refl
-
--- the buffers that the host lends
-abbrev pub window : List ℕ
-window = blank
-
-abbrev pub frame : List ℕ
-frame = headerFrame header
 
 pub framed : length frame ≡ 33280
 framed = header-length header

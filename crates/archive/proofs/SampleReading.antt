@@ -33,13 +33,14 @@ use Rattle.reading.specs.declared.session.Reading.{Reading}
 use Rattle.archive.specs.Recordings.{Element, block}
 use Rattle.archive.specs.Readings.{Flight, sent, answered, World, Call, fetching, replying, fetchNumber, replyNumber, flightAfter, delivered, Calls, fetches, replies, Moves, serves, Runs, stop, call, drive, started}
 use Rattle.archive.specs.Readings as readings
+use Rattle.archive.specs.Sample.{geometry, window, sampleBlock, older}
 use Rattle.archive.proofs.Flush.{same}
 use Rattle.archive.proofs.WindowLaws.{put-same-block}
 use Rattle.archive.proofs.WrittenFrames.{written-judged, written-length, written-data}
-use Rattle.archive.proofs.SampleOpening.{geometry, window, windowed}
+use Rattle.archive.proofs.SampleOpening.{windowed}
 use Rattle.archive.proofs.SampleElements.{filled, fits, among, atEod, relocated, eodDue, atTwelve, atThirteen}
 use Rattle.archive.proofs.SampleClosing.{closingCopy}
-use Rattle.archive.proofs.SampleRecording.{sampleBlock, block-full, older, older-fits, tape, sampleEnd}
+use Rattle.archive.proofs.SampleRecording.{block-full, older-fits, sampleEnd}
 
 -- replies taken in, busy ones aside
 abbrev pub afterCount : Reply → ℕ → ℕ

@@ -31,28 +31,18 @@ use Rattle.archive.specs.Headers.{HeaderAt, NoHeader}
 use Rattle.archive.specs.Recordings as recordings
 use Rattle.archive.specs.Demand.{NoneBears, on-none, Readable, Demand3}
 use Rattle.archive.proofs.Exchange.{world}
+use Rattle.archive.specs.Sample.{geometry, header, window, frame, sampleBlock, older, tape}
 use Rattle.archive.proofs.Flush.{buffered}
 use Rattle.archive.proofs.SampleHeaders.{exchanges}
-use Rattle.archive.proofs.SampleOpening.{geometry, header, opens, window, frame, framed, windowed, headersWritten, headers-written}
+use Rattle.archive.proofs.SampleOpening.{opens, windowed, headersWritten, headers-written}
 use Rattle.archive.proofs.SampleElements.{filled, blocks, calls, onTape, atClosing, elements-written}
 use Rattle.archive.proofs.SampleClosing.{closingCopy, copiesWritten, doneWorld, closed}
-
--- the block that is accepted
-abbrev pub sampleBlock : List ℕ
-sampleBlock = blank
 
 pub block-full : length sampleBlock ≡ 32768
 block-full = windowed
 
--- a frame of an earlier pass, where the block goes first
-abbrev pub older : Element
-older = record { kind = Data; pass = 7; last = record { 0 = 11999 }; seq = record { 0 = 0 }; filemarks = 0; marker = record { 0 = 0xFFFFFFFF } }
-
 pub older-fits : elementFits (older .kind) 33280 (length blank) ≡ true
 older-fits = eq-eqb (length blank) 32768 windowed
-
-abbrev pub tape : Tape
-tape = put (λ a. none) 10 (some (elementFrame older blank))
 
 -- the tape holds that frame and nothing else
 only : (a : ℕ) (f : List ℕ) → tape a ≡ some f → (a ≡ 10) × (f ≡ elementFrame older blank)

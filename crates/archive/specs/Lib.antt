@@ -2,3 +2,4 @@ pub mod Headers
 pub mod Recordings
 pub mod Readings
 pub mod Demand
+pub mod Sample
