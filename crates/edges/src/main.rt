@@ -1,6 +1,7 @@
-// Plays two recordings through the public calls and prints each command, with the AUX fields of an element's frame.
+// Plays three recordings through the public calls and prints each command, with the AUX fields of an element's frame.
 // The first is the example of 01, "Edges": block, filemark, block sent to 10, 11, 12, with an error at 11, skip 3.
 // The second goes by write errors to 2,985, over the second header group and to the end of a tape of 3,001 frames.
+// The third is the list that the archive crate proves to meet the premises of demand 3.
 use buffer::be16_at;
 use buffer::be32_at;
 use drive::Command;
@@ -231,7 +232,36 @@ fn crossing() {
     play_crossing(s, &window);
 }
 
+// The list of the archive crate's sample, from LOCATE 10 on: busy at 10, an error there with skip 2, close, done.
+fn play_sample(session: Recording, window: &[u8]) {
+    let mut s = play_good(session, window, 1);
+    s = play(s, window, busy());
+    s = play_good(s, window, 1);
+    s = play(s, window, write_error(10, 2));
+    s = play_good(s, window, 3);
+    s = session_of(s.close());
+    s = play_good(s, window, 16);
+    look(s, window);
+}
+
+// One block of zeros, accepted behind the opening headers.
+fn sample() {
+    let block = [0u8; 32768];
+    let mut window = [0u8; 32768];
+    print(b"busy, then an error, at 10\n");
+    let g = Geometry {
+        segtrk: 1000,
+        trks: 12,
+        load: LoadPoint::Beginning,
+    };
+    let mut s = session_of(Recording::open_blank(g, 16, 1));
+    s = play_good(s, &window, 14);
+    s = accept_blocks(s, &block, &mut window, 1);
+    play_sample(s, &window);
+}
+
 fn main() {
     example();
     crossing();
+    sample();
 }
