@@ -91,6 +91,11 @@ module _ (b : List ℕ) (full : length b ≡ 32768) where
   abbrev pub filled : List ℕ
   filled = windowWith b
 
+  -- that is what the accept leaves
+  pub stored : blockOf atElements b window ≡ record { result = accepting (withElement atElements false); window = filled }
+  unfolding blockOf
+  stored = rw (eq-eqb (length b) 32768 full, eq-eqb (length window) 32768 windowed)
+
   pub fits : length filled ≡ 32768
   fits = put-length window b 0 (omega (arith, windowed)) full ∙ windowed
 
@@ -177,18 +182,13 @@ module _ (b : List ℕ) (full : length b ≡ 32768) where
   abbrev pub blocks : List Element
   blocks = block b ∷ []
 
-  -- the block goes into the window
-  stored : blockOf atElements b window ≡ record { result = accepting (withElement atElements false); window = filled b full }
-  unfolding blockOf
-  stored = rw (eq-eqb (length b) 32768 full, eq-eqb (length window) 32768 windowed)
-
   abbrev storedWorld : Drive → Bool → Stored → World
   storedWorld d alike x = record { session = x .result .session; window = x .window; unaltered = alike; drive = d; flight = none; accepted = blocks; reported = false }
 
   accepting-block : (d : Drive) → Calls (world window frame framed atElements d [] none) (accept-block b window) (world (filled b full) frame framed (among accepted ReadPosition) d blocks none)
   accepting-block d =
-      let p : storedWorld d (true && agree window window) (blockOf atElements b window) ≡ world (filled b full) frame framed (among accepted ReadPosition) d blocks none = ap (λ t. storedWorld d t (blockOf atElements b window)) (agree-same window) ∙ ap (λ x. storedWorld d true x) stored in
-      subst (λ v. Calls (world window frame framed atElements d [] none) (accept-block b window) v) p (accepts-block b window (inl (ap (λ x. x .result .number) stored)))
+      let p : storedWorld d (true && agree window window) (blockOf atElements b window) ≡ world (filled b full) frame framed (among accepted ReadPosition) d blocks none = ap (λ t. storedWorld d t (blockOf atElements b window)) (agree-same window) ∙ ap (λ x. storedWorld d true x) (stored b full) in
+      subst (λ v. Calls (world window frame framed atElements d [] none) (accept-block b window) v) p (accepts-block b window (inl (ap (λ x. x .result .number) (stored b full))))
 
   closing : (d : Drive) → Calls (world (filled b full) frame framed (among confirmed ReadPosition) d blocks none) close (world (filled b full) frame framed (atEod eodDue ReadPosition) d blocks none)
   closing d =

@@ -70,7 +70,7 @@ no-header a h at =
 pub none-bears : NoneBears 11999 tape (header .pass)
 none-bears a f user reads bears =
     let e : f ≡ elementFrame older blank = only a f reads .1 in
-    let p : get16 (drop 32768 f) 22 ≡ 7 = ap (λ x. get16 (drop 32768 x) 22) e ∙ ap (λ x. get16 x 22) (element-aux older blank older-fits) ∙ aux-pass (elementAux older) (lit< tt) in
+    let p : get16 (drop 32768 f) 22 ≡ older .pass = ap (λ x. get16 (drop 32768 x) 22) e ∙ ap (λ x. get16 x 22) (element-aux older blank older-fits) ∙ aux-pass (elementAux older) (lit< tt) in
     omega (arith, bears, p)
 
 -- the drive behind the opening headers
