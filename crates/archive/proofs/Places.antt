@@ -1,7 +1,7 @@
 -- No address is both a header's and a user frame's. Assumes nothing.
 use Prim.Native.Nat.{ℕ, _≤_}
-use mathlib.Core.Path.{_≡_}
-use mathlib.Core.Bool.{true, _&&_, _||_}
+use mathlib.Core.Path.{_≡_, refl}
+use mathlib.Core.Bool.{Bool, true, false, _&&_, _||_}
 use mathlib.Core.Logic.{_⊎_, inl, inr, ⊎-elim}
 use native.Mathlib.Omega.{arith}
 use borrow.Author.Tests.{leb-true}
@@ -23,3 +23,10 @@ header-not-user last a h u =
     (λ x. ⊎-elim (λ y. omega (arith, x .1, y .0)) (λ y. omega (arith, x .1, y .0)) (ranges 10 2989 3000 last a u))
     (λ x. ⊎-elim (λ y. omega (arith, x .0, y .1)) (λ y. omega (arith, x .1, y .0)) (ranges 10 2989 3000 last a u))
     (ranges 5 9 2990 2994 a h)
+
+pub user-not-header : (last a : ℕ) → isUser last a ≡ true → isHeader a ≡ false
+user-not-header last a u = go (isHeader a) refl
+  where
+    go : (b : Bool) → isHeader a ≡ b → isHeader a ≡ false
+    go true h = absurd (header-not-user last a h u)
+    go false h = h

@@ -1,9 +1,11 @@
--- The stages joined: one list from an opened session to done, over a cartridge with an older frame, that meets every premise of demand 3.
+-- The stages joined: one list from an opened session to done, over a cartridge with an older frame and a drive that has stopped at a failure,
+-- that meets every premise of demand 3.
 -- Assumes nothing.
 use Prim.Native.Nat.{ℕ, _+_, _^_, _<_}
 use mathlib.Core.Path.{_≡_, refl, ap, sym, subst, _∙_}
 use mathlib.Core.Bool.{Bool, true, false}
 use mathlib.Core.List.{List, [], _∷_}
+use mathlib.Core.Logic.{inr}
 use mathlib.Core.Option.{Option, none, some}
 use native.Mathlib.Omega.{arith}
 use borrow.Author.Tests.{eq-eqb, eqb-true, ne-eqb}
@@ -19,6 +21,7 @@ use Rattle.frame.specs.declared.element.Element.{Element}
 use Rattle.frame.specs.declared.element.Kind.the-variants.{Data, Eod}
 use Rattle.frame.proofs.AuxFields.{aux-pass}
 use Rattle.frame.proofs.Frames.{element-length, element-aux}
+use Rattle.drive.specs.Conduct as conduct
 use Rattle.drive.specs.Conduct.{Drive}
 use Rattle.drive.specs.Tape.{Tape, put, Cartridge, Bears}
 use Rattle.drive.specs.declared.command.Command.the-variants.{ReadPosition}
@@ -31,7 +34,7 @@ use Rattle.archive.specs.Headers.{HeaderAt, NoHeader}
 use Rattle.archive.specs.Recordings as recordings
 use Rattle.archive.specs.Demand.{NoneBears, on-none, Readable, Demand3}
 use Rattle.archive.proofs.Exchange.{world}
-use Rattle.archive.specs.Sample.{geometry, header, window, frame, sampleBlock, older, tape}
+use Rattle.archive.specs.Sample.{geometry, header, window, frame, sampleBlock, older, tape, stopped}
 use Rattle.archive.proofs.Flush.{buffered}
 use Rattle.archive.proofs.SampleHeaders.{exchanges}
 use Rattle.archive.proofs.SampleOpening.{opens, windowed, headersWritten, headers-written}
@@ -75,7 +78,7 @@ none-bears a f user reads bears =
 
 -- the drive behind the opening headers
 abbrev opening : Drive
-opening = headersWritten (buffered tape 0 [] [])
+opening = headersWritten stopped
 
 abbrev withElements : Drive
 withElements = buffered (onTape sampleBlock block-full (opening .tape)) 14 (13 ∷ 12 ∷ 10 ∷ opening .written) []
@@ -86,15 +89,15 @@ sampleCalls = exchanges window frame 14 (calls sampleBlock block-full (exchanges
 abbrev pub sampleEnd : recordings.World
 sampleEnd = doneWorld sampleBlock block-full (copiesWritten sampleBlock block-full withElements)
 
-pub sample : recordings.Runs (recordings.started (fresh 16 0 header) window tape 0) sampleCalls sampleEnd
+pub sample : recordings.Runs (recordings.started (fresh 16 0 header) window stopped) sampleCalls sampleEnd
 unfolding answer.confirmedOf
 sample =
-    headers-written tape 0
+    headers-written stopped
     (elements-written sampleBlock block-full (opening .tape) (opening .written) (opening .at) (closed sampleBlock block-full withElements))
 
 -- demand 3 speaks of this list: its cartridge would be readable
 pub sample-readable : Demand3 → Readable geometry 11999 (sampleEnd .drive .tape) (recordings.block sampleBlock ∷ [])
 unfolding Demand3
 sample-readable demand =
-    demand geometry 11999 16 1 tape on-none (fresh 16 0 header) window 0 sampleCalls sampleEnd (lit< tt) (lit< tt) refl cartridge opens sample
+    demand geometry 11999 16 1 stopped on-none (fresh 16 0 header) window sampleCalls sampleEnd (lit< tt) (lit< tt) refl cartridge refl (conduct.stopped refl) opens sample
     .readable no-header none-bears refl refl

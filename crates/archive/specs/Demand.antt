@@ -1,14 +1,16 @@
 -- 00, demand 3, as 01, "The lists of demand 3", makes it exact: one claim over whole lists of calls.
-use Prim.Native.Nat.{ℕ, _+_, _*_, _^_, _≤_, _<_}
+use Prim.Native.Nat.{ℕ, _-_, _^_, _≤_, _<_}
 use mathlib.Core.Path.{_≡_}
 use mathlib.Core.Bool.{Bool, true, false, _||_}
 use mathlib.Core.List.{List, [], _∷_}
-use mathlib.Core.Option.{some}
-use lib.ListN.{take}
+use mathlib.Core.Option.{Option, some}
+use lib.ListN.{length, take}
 use Rattle.geometry.specs.Said.{address}
 use Rattle.geometry.specs.Cartridge.{lastOf, isUser, isHeader}
 use Rattle.geometry.specs.declared.cartridge.Geometry.{Geometry}
+use Rattle.drive.specs.Conduct.{Drive, AtRest}
 use Rattle.drive.specs.Tape.{Tape, Cartridge, Bears}
+use Rattle.drive.specs.declared.reply.Reply.{Reply}
 use Rattle.recording.specs.Session.{Result, accepting}
 use Rattle.recording.specs.Open.{openOf, openBlankOf}
 use Rattle.recording.specs.declared.session.Recording.{Recording}
@@ -37,9 +39,10 @@ OnNewest last t on-none = NoHeader last t
 abbrev pub NoneBears : ℕ → Tape → ℕ → Type 0
 NoneBears last t pass = (a : ℕ) (f : List ℕ) → isUser last a ≡ true → t a ≡ some f → Bears pass f → ⊥
 
--- a number fixed by LAST alone
+-- a number fixed by LAST alone: one reply for each of the LAST - 19 user frames, one for LOCATE 10 and one for LOCATE 3,000;
+-- a jump after 08/00/05 costs one LOCATE and passes 22 of them at least
 abbrev pub replyBound : ℕ → ℕ
-replyBound last = 2 * last
+replyBound last = last - 17
 
 abbrev pub GivesCommand : fetch.Said → Type 0
 GivesCommand (fetch.command n a) = Unit {0}
@@ -55,6 +58,11 @@ pub record Faithful (last : ℕ) (accepted : List Element) (w : readings.World) 
   pub never-refused : w .refused ≡ false
   -- until the end each fetch with no reply awaited gives a command
   pub goes-on : w .session .finished ≡ false → w .flight ≡ readings.none → GivesCommand (fetch.fetchOf (w .session) .said)
+  -- and the drive's answer, once given, is taken in with a lent frame of 33,280 bytes
+  pub taken : (r : Reply) (given : Option (List ℕ)) (lent : List ℕ) → w .flight ≡ readings.answered r given → readings.LentWith given lent
+      → length lent ≡ 33280 → readings.refusal (w .session) (readings.replying r lent) ≡ 0
+  -- as every frame is that the drive gave
+  pub full : (r : Reply) (frame : List ℕ) → w .flight ≡ readings.answered r (some frame) → length frame ≡ 33280
   -- the replies taken in are bounded, busy ones aside
   pub bounded : w .replies ≤ replyBound last
   -- at the end all of them are delivered
@@ -84,10 +92,10 @@ pub record Promised (g : Geometry) (last : ℕ) (t : Tape) (o : Opening) (s : Re
 -- SEGTRK and TRKS are 16-bit
 unfoldable pub Demand3 : Type 0
 Demand3 =
-    (g : Geometry) (last depth blocks : ℕ) (t : Tape) (o : Opening) (s : Recording) (window : List ℕ) (at : ℕ)
+    (g : Geometry) (last depth blocks : ℕ) (d : Drive) (o : Opening) (s : Recording) (window : List ℕ)
     (calls : List recordings.Call) (w : recordings.World)
     → g .segtrk < 2 ^ 16 → g .trks < 2 ^ 16 → lastOf g ≡ address last
-    → Cartridge last t
+    → Cartridge last (d .tape) → d .written ≡ [] → AtRest d
     → opened g depth blocks o ≡ accepting s
-    → recordings.Runs (recordings.started s window t at) calls w
-    → Promised g last t o s w
+    → recordings.Runs (recordings.started s window d) calls w
+    → Promised g last (d .tape) o s w

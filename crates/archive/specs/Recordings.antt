@@ -6,7 +6,6 @@ use mathlib.Core.List.{List, [], _∷_, _++_}
 use mathlib.Core.Logic.{_⊎_}
 use Rattle.buffer.specs.Bytes.{agree}
 use Rattle.drive.specs.Conduct.{Drive, Acts, Answers}
-use Rattle.drive.specs.Tape.{Tape}
 use Rattle.drive.specs.declared.command.Command.{Command}
 use Rattle.drive.specs.declared.reply.Reply.{Reply}
 use Rattle.recording.specs.Session.{Result}
@@ -62,6 +61,14 @@ refusal s (reply r) = replyOf s r .number
 -- the call is not refused with 1 to 7
 abbrev pub TakesEffect : ℕ → Type 0
 TakesEffect n = (n ≡ 0) ⊎ (8 ≤ n)
+
+-- the session that a call returns
+abbrev pub returned : Recording → Call → Recording
+returned s (accept-block b window) = blockOf s b window .result .session
+returned s accept-filemark = filemarkOf s .session
+returned s close = closeOf s .session
+returned s (fetch window frame) = fetchOf s window frame .session
+returned s (reply r) = replyOf s r .session
 
 abbrev pub withSession : World → Recording → World
 withSession w s = record { session = s; window = w .window; unaltered = w .unaltered; drive = w .drive; flight = w .flight; accepted = w .accepted; reported = w .reported }
@@ -127,7 +134,7 @@ afterReply w r = record {
 -- one call: each gets the session that the last one returned, and a reply is brought as the drive gave it
 pub data Calls (w : World) : Call → World → Type 0 where
   -- a call refused with 1 to 7 counts for nothing, whatever it brings
-  refuses : (c : Call) → 1 ≤ refusal (w .session) c → refusal (w .session) c ≤ 7 → Calls w c w
+  refuses : (c : Call) → 1 ≤ refusal (w .session) c → refusal (w .session) c ≤ 7 → Calls w c (withSession w (returned (w .session) c))
   accepts-block : (b lent : List ℕ) → TakesEffect (refusal (w .session) (accept-block b lent)) → Calls w (accept-block b lent) (afterBlock w b lent)
   accepts-filemark : TakesEffect (refusal (w .session) accept-filemark) → Calls w accept-filemark (afterFilemark w)
   closes : TakesEffect (refusal (w .session) close) → Calls w close (withSession w (closeOf (w .session) .session))
@@ -148,13 +155,13 @@ pub data Runs : World → List Call → World → Type 0 where
   call : {w v u : World} {c : Call} {cs : List Call} → Calls w c v → Runs v cs u → Runs w (c ∷ cs) u
   drive : {w v u : World} {cs : List Call} → Moves w v → Runs v cs u → Runs w cs u
 
--- a session just opened, any window, and a drive that stands anywhere on a tape with nothing buffered
-abbrev pub started : Recording → List ℕ → Tape → ℕ → World
-started s window t at = record {
+-- a session just opened, any window, and a drive that has written nothing for it yet
+abbrev pub started : Recording → List ℕ → Drive → World
+started s window d = record {
   session = s;
   window = window;
   unaltered = true;
-  drive = record { tape = t; at = at; buffer = []; failed = false; written = [] };
+  drive = d;
   flight = none;
   accepted = [];
   reported = false;

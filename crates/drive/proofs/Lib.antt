@@ -1,1 +1,2 @@
 pub mod SenseLaws
+pub mod Cases

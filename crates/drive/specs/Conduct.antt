@@ -6,6 +6,7 @@ use mathlib.Core.List.{List, [], _∷_, _++_}
 use mathlib.Core.Logic.{_⊎_}
 use mathlib.Core.Option.{Option, none, some}
 use lib.ListN.{length}
+use Rattle.geometry.specs.Cartridge.{isHeader}
 use Rattle.geometry.specs.declared.address.Address.{Address}
 use Rattle.frame.specs.Sent.{ReadsAs}
 use Rattle.drive.specs.declared.command.Command.{Command}
@@ -25,6 +26,11 @@ pub record Drive : Type 0 where
   pub failed : Bool
   -- the addresses written so far, failed ones too
   pub written : List ℕ
+
+-- a drive that writes nothing until a LOCATE: it has nothing buffered, or has stopped at a failure
+pub data AtRest (d : Drive) : Type 0 where
+  empty : d .buffer ≡ [] → AtRest d
+  stopped : d .failed ≡ true → AtRest d
 
 -- what a written frame reads as: as sent but for AUX 4 to 11
 pub data Written (sent : List ℕ) : Option (List ℕ) → Type 0 where
@@ -57,24 +63,31 @@ moved d a = record { tape = d .tape; at = a; buffer = []; failed = false; writte
 abbrev pub Means : Reply → ℕ → Type 0
 Means r m = meaningOf (r .key) (r .asc) (r .ascq) ≡ m
 
--- the meanings listed for a recording's command
+-- 01, "Replies": the meanings listed for a command
 pub data Listed : Command → ℕ → Type 0 where
   locate-good : {a : Address} → Listed (Locate a) good
   locate-busy : {a : Address} → Listed (Locate a) busy
   write-good : {a : Address} → Listed (Write a) good
   write-busy : {a : Address} → Listed (Write a) busy
   write-error : {a : Address} → Listed (Write a) writeError
-  write-overflow : {a : Address} → Listed (Write a) volumeOverflow
+  -- on WRITE of an element or EOD, and so not in a header group
+  write-overflow : {a : Address} → isHeader (a .0) ≡ false → Listed (Write a) volumeOverflow
   position-good : Listed ReadPosition good
   position-busy : Listed ReadPosition busy
   position-error : Listed ReadPosition writeError
+  read-good : {a : Address} → Listed (Read a) good
+  read-busy : {a : Address} → Listed (Read a) busy
+  read-recovered : {a : Address} → Listed (Read a) recovered
+  read-unreadable : {a : Address} → Listed (Read a) unreadable
+  read-end-of-data : {a : Address} → Listed (Read a) endOfData
+  read-end-of-medium : {a : Address} → Listed (Read a) endOfMedium
 
 -- what the drive answers to a recording's command, a WRITE with its frame, and does with it
 pub data Answers (d : Drive) (frame : List ℕ) : Command → Reply → Drive → Type 0 where
   -- only a WRITE answered good is taken
   takes : (a : Address) (r : Reply) → Means r good → Answers d frame (Write a) r (taking d frame)
-  -- 0D/00/02: not executed
-  overflows : (a : Address) (r : Reply) → Means r volumeOverflow → Answers d frame (Write a) r d
+  -- 0D/00/02 on WRITE of an element or EOD: not executed
+  overflows : (a : Address) (r : Reply) → isHeader (a .0) ≡ false → Means r volumeOverflow → Answers d frame (Write a) r d
   -- reply numbers are true: f is the frames still buffered, the failed one and those behind it among them
   counts : (r : Reply) → Means r good → r .buffered ≡ length (d .buffer) → Answers d frame ReadPosition r d
   -- 03/0C/00 comes only while a failed frame is buffered, p being its address
@@ -89,17 +102,17 @@ pub data Answers (d : Drive) (frame : List ℕ) : Command → Reply → Drive �
 
 -- ---- a drive that reads: its tape doesn't change, and at is where it stands
 
--- what it answers to a reading's command, with which frame lent, and where it stands then. Only listed replies come.
-pub data Serves (t : Tape) (at : ℕ) : Command → Reply → List ℕ → ℕ → Type 0 where
-  locates : (a : Address) (r : Reply) (frame : List ℕ) → Means r good → Serves t at (Locate a) r frame (a .0)
+-- what it answers to a reading's command, the frame that it brings with it or none, and where it stands then. Only listed replies come.
+pub data Serves (t : Tape) (at : ℕ) : Command → Reply → Option (List ℕ) → ℕ → Type 0 where
+  locates : (a : Address) (r : Reply) → Means r good → Serves t at (Locate a) r none (a .0)
   -- it brings what that address reads as
-  brings : (a : Address) (r : Reply) (frame : List ℕ) → Means r good ⊎ Means r recovered → t at ≡ some frame → Serves t at (Read a) r frame (at + 1)
+  brings : (a : Address) (r : Reply) (frame : List ℕ) → Means r good ⊎ Means r recovered → t at ≡ some frame → Serves t at (Read a) r (some frame) (at + 1)
   -- 03/11/00 only where nothing reads
-  misses : (a : Address) (r : Reply) (frame : List ℕ) → Means r unreadable → t at ≡ none → Serves t at (Read a) r frame (at + 1)
-  -- 08/00/05 only if 32 addresses from the next hold nothing readable
-  blanks : (a : Address) (r : Reply) (frame : List ℕ) (next : ℕ) → Means r endOfData → ((b : ℕ) → at ≤ b → b < at + 32 → t b ≡ none) → Serves t at (Read a) r frame next
+  misses : (a : Address) (r : Reply) → Means r unreadable → t at ≡ none → Serves t at (Read a) r none (at + 1)
+  -- 08/00/05 only if 32 addresses from the next hold nothing readable, those that are no user frames among them
+  blanks : (a : Address) (r : Reply) (next : ℕ) → Means r endOfData → ((b : ℕ) → at ≤ b → b < at + 32 → t b ≡ none) → Serves t at (Read a) r none next
   -- 00/00/02 only if none does from there on
-  ends : (a : Address) (r : Reply) (frame : List ℕ) (next : ℕ) → Means r endOfMedium → ((b : ℕ) → at ≤ b → t b ≡ none) → Serves t at (Read a) r frame next
+  ends : (a : Address) (r : Reply) (next : ℕ) → Means r endOfMedium → ((b : ℕ) → at ≤ b → t b ≡ none) → Serves t at (Read a) r none next
   -- it stays where it is when answered busy; a LOCATE may have been carried out
-  waits : (c : Command) (r : Reply) (frame : List ℕ) → Means r busy → Serves t at c r frame at
-  waits-located : (a : Address) (r : Reply) (frame : List ℕ) → Means r busy → Serves t at (Locate a) r frame (a .0)
+  waits : (c : Command) (r : Reply) → Means r busy → Serves t at c r none at
+  waits-located : (a : Address) (r : Reply) → Means r busy → Serves t at (Locate a) r none (a .0)

@@ -2,3 +2,4 @@ pub mod PickLaws
 pub mod TestLaws
 pub mod Table
 pub mod EdgeCases
+pub mod Impossible

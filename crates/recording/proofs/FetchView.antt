@@ -17,6 +17,7 @@ use Rattle.recording.specs.declared.session.Stage.{Stage}
 use Rattle.recording.specs.declared.session.Stage.the-variants as S
 use Rattle.recording.specs.Session.{windowLength, endedOf}
 use Rattle.recording.specs.Fetch.{Decision, elementDueBy, decisionBy, decisionOf, Said, idle, done, refused, Fetching, sending, answering, fetchOf}
+use Rattle.recording.proofs.Stages.{HeaderStage, ElementStage}
 
 -- the session can answer, and the buffers have their lengths
 pub record Ready (s : Recording) (window frame : List ℕ) : Type 0 where
@@ -27,13 +28,6 @@ pub record Ready (s : Recording) (window frame : List ℕ) : Type 0 where
 
 abbrev pub WrongLength : Recording → List ℕ → List ℕ → Type 0
 WrongLength s window frame = (length window ≡ windowLength s → ⊥) ⊎ (length frame ≡ 33280 → ⊥)
-
-abbrev pub HeaderStage : Recording → Type 0
-HeaderStage s = (s .stage ≡ S.OpeningHeaders) ⊎ (s .stage ≡ S.ClosingHeaders)
-
--- EOD counts as an element
-abbrev pub ElementStage : Recording → Type 0
-ElementStage s = (s .stage ≡ S.Elements) ⊎ (s .stage ≡ S.Eod)
 
 pub data FetchView (s : Recording) (window frame : List ℕ) : Fetching → Type 0 where
   wrongPhase : (s .ended ≡ true) ⊎ (s .awaiting ≡ true) → FetchView s window frame (record { session = s; said = refused 7; frame = frame })

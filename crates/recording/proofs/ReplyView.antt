@@ -16,7 +16,7 @@ use Rattle.recording.specs.declared.session.Stage.{Stage}
 use Rattle.recording.specs.declared.session.Stage.the-variants as S
 use Rattle.recording.specs.Session.{Result, accepting, refusing, ending, withStage, withCopies, withElements, settledOf}
 use Rattle.recording.specs.Reply.{caseOf, answeredOf, repeatedOf, completedBy, completedOf, headerReplyBy, headerReply, elementStep, elementReply, stageReplyBy, replyOf}
-use Rattle.recording.proofs.FetchView.{HeaderStage, ElementStage}
+use Rattle.recording.proofs.Stages.{HeaderStage, ElementStage}
 
 -- WRITE, LOCATE or READ POSITION, answered busy
 abbrev pub Busy : ℕ → Type 0

@@ -1,0 +1,112 @@
+-- Every call keeps the invariant, and so demand 3 holds. Assumes nothing.
+use Prim.Native.Nat.{ℕ, _+_, _*_, _≤_, _<_}
+use mathlib.Core.Path.{_≡_, refl, sym, ap, subst, _∙_}
+use mathlib.Core.Bool.{Bool, true, false, _||_}
+use mathlib.Core.List.{List}
+use mathlib.Core.Logic.{_⊎_, inl, inr, ⊎-elim}
+use native.Mathlib.Omega.{arith}
+use borrow.Author.Tests.{ne-eqb}
+use lib.Dec.{eqb}
+use Rattle.geometry.proofs.PickLaws.{pick-f}
+use Rattle.geometry.proofs.TestLaws.{neither}
+use Rattle.geometry.specs.declared.address.Address.{Address}
+use Rattle.drive.specs.Command.{commandCode}
+use Rattle.drive.specs.Conduct as conduct
+use Rattle.drive.specs.Conduct.{Listed}
+use Rattle.drive.specs.Senses.{meaningOf, volumeOverflow, endOfMedium}
+use Rattle.drive.specs.declared.command.Command.{Command}
+use Rattle.drive.specs.declared.command.Command.the-variants.{Read, Write, Locate, ReadPosition}
+use Rattle.drive.specs.declared.reply.Reply.{Reply}
+use Rattle.copies.specs.Copies as copying
+use Rattle.elements.specs.Answer as answer
+use Rattle.recording.specs.Session.{Result}
+use Rattle.recording.specs.Fetch as fetch
+use Rattle.recording.specs.Fetch.{Said, fetchOf}
+use Rattle.recording.specs.Reply.{caseOf, elementStep, replyOf}
+use Rattle.recording.specs.declared.session.Recording.{Recording}
+use Rattle.recording.specs.declared.session.Stage.the-variants as S
+use Rattle.recording.proofs.Stages.{HeaderStage, ElementStage}
+use Rattle.recording.proofs.ListedReplies.{unlisted-refused}
+use Rattle.recording.proofs.Refusals.{refused-block, refused-filemark, refused-close, refused-fetch, refused-reply}
+use Rattle.recording.proofs.ReplyView as view
+use Rattle.recording.proofs.ReplyView.{Busy, ReplyView, reply-view, copiesSaid, stepOf}
+use Rattle.reading.proofs.Cases.{meaning-bound}
+use Rattle.archive.specs.Recordings as recordings
+use Rattle.archive.specs.Recordings.{World, Flight, TakesEffect, afterReply}
+use Rattle.archive.specs.Demand.{Within, Demand3}
+use Rattle.archive.proofs.CopiesLink.{Copying}
+use Rattle.archive.proofs.CopiesMoves.{clash}
+use Rattle.archive.proofs.ElementsLink.{Writing}
+use Rattle.archive.proofs.Accepts.{no-effect, keeps-filemark, keeps-block}
+use Rattle.archive.proofs.Closes.{apart, keeps-close}
+use Rattle.archive.proofs.Fetches.{keeps-fetch}
+use Rattle.archive.proofs.HeaderReplies.{repliedWorld, opening-replies, closing-replies}
+use Rattle.archive.proofs.ElementReplies.{writing, ending-one, elements-reply}
+use Rattle.archive.proofs.ReadingSteps.{read-begins, read-keeps-move, read-keeps-call, read-faithful}
+use Rattle.archive.proofs.Completion.{completes, opens}
+use Rattle.archive.proofs.Beginning.{sets, begins}
+use Rattle.archive.proofs.DriveMoves.{keeps-move}
+use Rattle.archive.proofs.Invariant as inv
+use Rattle.archive.proofs.Invariant.{Course, Live, Rejecting, Over, Inv, live, rejecting, over}
+use Rattle.archive.proofs.Claim.{Setting, KeepsCall, demand3}
+
+-- ---- a reply that is not listed
+
+rejecting-reply : {last pass : ℕ} {premises : Type 0} (w : World) (r : Reply) → Within last (w .drive .written) → (d : Rejecting last w) → d .reply ≡ r → Inv last pass premises (afterReply w r)
+rejecting-reply w r written d same =
+    let s = w .session in
+    let refused : replyOf s (d .reply) .number ≡ 8 = unlisted-refused s (d .reply) (d .going) (d .awaits) (d .off-headers) (d .unlisted) in
+    let ended : replyOf s (d .reply) .session .ended ≡ true = refused-reply s (d .reply) .ended (omega arith) in
+    over written (record { ended = subst (λ (x : Reply). replyOf s x .session .ended ≡ true) same ended; none = refl; safe = d .safe; unreported = d .unreported })
+
+-- ---- a reply
+
+none-answered : {X : Type 0} {r : Reply} → _≡_ {A = Flight} recordings.none (recordings.answered r) → X
+none-answered e = let z : _≡_ {A = ℕ} 0 1 = cc in absurd (omega arith)
+
+answered-same : {a b : Reply} → _≡_ {A = Flight} (recordings.answered a) (recordings.answered b) → a ≡ b
+answered-same e = cc
+
+live-reply : {last pass : ℕ} {premises : Type 0} (w : World) (r : Reply) → Setting last pass → Within last (w .drive .written) → (l : Live last pass premises w) → w .flight ≡ recordings.answered r → Course last w (l .k) (l .edge) → Inv last pass premises (afterReply w r)
+live-reply w r set wr l q (inv.opening s t k e a) = opening-replies w r set wr l s t k e a (subst (Copying (w .session) (w .drive)) q (a .copying))
+live-reply {last} w r set wr l q (inv.writing s a) = elements-reply w r set wr l (inl s) (writing s) (subst (Writing last (w .session) (w .drive) (l .k) (l .edge)) q a)
+live-reply {last} w r set wr l q (inv.ending s c p a) = elements-reply w r set wr l (inr s) (ending-one s c p) (subst (Writing last (w .session) (w .drive) (l .k) (l .edge)) q a)
+live-reply w r set wr l q (inv.closing s c k e a) = closing-replies w r set wr l s c k e a (subst (Copying (w .session) (w .drive)) q (a .copying))
+live-reply w r set wr l q (inv.finished s c k e f a g rests y) = none-answered (sym f ∙ q)
+
+keeps-reply : {last pass : ℕ} {premises : Type 0} (w : World) (r : Reply) → Setting last pass → Inv last pass premises w → w .flight ≡ recordings.answered r → TakesEffect (replyOf (w .session) r .number) → Inv last pass premises (afterReply w r)
+keeps-reply w r set (live wr l) q te = live-reply w r set wr l q (l .course)
+keeps-reply w r set (rejecting wr d) q te = rejecting-reply w r wr d (answered-same (sym (d .replied) ∙ q))
+keeps-reply w r set (over wr o) q te = none-answered (sym (o .none) ∙ q)
+
+-- ---- a refused call
+
+-- the session that a call refused with 1 to 7 returned is the one that it got
+same-session : (s : Recording) (c : recordings.Call) → 1 ≤ recordings.refusal s c → recordings.refusal s c ≤ 7 → recordings.returned s c ≡ s
+same-session s (recordings.accept-block b window) l h = refused-block s b window .unchanged l h
+same-session s recordings.accept-filemark l h = refused-filemark s .unchanged l h
+same-session s recordings.close l h = refused-close s .unchanged l h
+same-session s (recordings.fetch window frame) l h = go (fetchOf s window frame .said) refl l h
+  where
+    go : (x : Said) → fetchOf s window frame .said ≡ x → 1 ≤ recordings.fetchNumber x → recordings.fetchNumber x ≤ 7 → fetchOf s window frame .session ≡ s
+    go (fetch.command _ _) e l h = absurd (omega arith)
+    go fetch.idle e l h = absurd (omega arith)
+    go fetch.done e l h = absurd (omega arith)
+    go (fetch.refused n) e l h = refused-fetch s n window frame e .unchanged l h
+same-session s (recordings.reply r) l h = refused-reply s r .unchanged l h
+
+pub keeps-call : KeepsCall
+keeps-call last pass premises w v c set i (recordings.refuses _ l h) =
+    subst (λ (s : Recording). Inv last pass premises (recordings.withSession w s)) (sym (same-session (w .session) c l h)) i
+keeps-call last pass premises w v c set i (recordings.accepts-block b lent te) = keeps-block w b lent set i te
+keeps-call last pass premises w v c set i (recordings.accepts-filemark te) = keeps-filemark w set i te
+keeps-call last pass premises w v c set i (recordings.closes te) = keeps-close w i te
+keeps-call last pass premises w v c set i (recordings.fetches lent frame te) = keeps-fetch w lent frame set i te
+keeps-call last pass premises w v c set i (recordings.replies r q te) = keeps-reply w r set i q te
+
+-- ---- the whole
+
+pub claim : Demand3
+claim =
+    demand3 sets begins keeps-call keeps-move completes opens (λ last pass t xs at k. read-begins k at) (λ last pass t xs w v c k i x. read-keeps-call k w v c i x) (λ last pass t xs w v k i x. read-keeps-move k w v i x)
+    (λ last pass t xs w k i. read-faithful k w i)
