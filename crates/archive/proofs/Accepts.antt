@@ -14,6 +14,7 @@ use lib.Seq.{getD-at}
 use Rattle.geometry.specs.Pick.{pick}
 use Rattle.geometry.proofs.PickLaws.{pick-by}
 use Rattle.geometry.proofs.TestLaws.{or-false, and-true}
+use Rattle.geometry.proofs.Impossible.{never, clash}
 use Rattle.buffer.specs.Bytes.{agree}
 use Rattle.buffer.proofs.Agreement.{agree-is}
 use Rattle.drive.specs.Conduct.{Drive, Listed}
@@ -35,21 +36,17 @@ use Rattle.recording.proofs.Kept.{Held, heldOf}
 use Rattle.archive.specs.Recordings as recordings
 use Rattle.archive.specs.Recordings.{World, Element, block, filemark, TakesEffect, withSession, afterBlock, afterFilemark}
 use Rattle.archive.specs.Demand.{Within}
+use Rattle.archive.proofs.Basics.{no-effect}
 use Rattle.archive.proofs.WindowLaws.{put-same-block, put-other-block}
 use Rattle.archive.proofs.Scan.{Seen}
 use Rattle.archive.proofs.SeenLaws.{seen-accept, seen-eod}
 use Rattle.archive.proofs.Stands.{Item, element, eod, itemAt, Stands, Queue, StoredAs}
 use Rattle.archive.proofs.StandsLaws.{item-in, item-past, item-more}
-use Rattle.archive.proofs.CopiesMoves.{clash}
 use Rattle.archive.proofs.ElementsLink.{Writing}
 use Rattle.archive.proofs.Rewrap.{agree-as, writing-as, Numbers, writing-numbers, sent-due}
 use Rattle.archive.proofs.Invariant as inv
-use Rattle.archive.proofs.Invariant.{totalOf, spareOf, Counted, Untouched, Course, Content, Live, Rejecting, Inv, live, rejecting, over}
+use Rattle.archive.proofs.Invariant.{totalOf, spareOf, Counted, Course, Content, Live, Rejecting, Inv, live, rejecting, over}
 use Rattle.archive.proofs.Claim.{Setting}
-
-pub no-effect : {X : Type 0} {n : ℕ} → 1 ≤ n → n ≤ 7 → TakesEffect n → X
-no-effect l u (inl e) = absurd (omega arith)
-no-effect l u (inr e) = absurd (omega arith)
 
 -- ---- calls that take effect
 
@@ -136,7 +133,7 @@ module _ {last pass : ℕ} {premises : Type 0} (w : World) (set : Setting last p
     writing : w .session .stage ≡ S.Elements → Writing last (w .session) (w .drive) k edge (w .flight) → Early k edge
 
   early : {k edge : ℕ} → Course last w k edge → Early k edge
-  early (inv.opening st t a b c) = opening st (inv.opening st t a b c)
+  early (inv.opening st t c) = opening st (inv.opening st t c)
   early (inv.writing st a) = writing st a
   early (inv.ending st c p a) = clash c (acc .unclosed)
   early (inv.closing st c a b g) = clash c (acc .unclosed)
@@ -170,15 +167,14 @@ module _ {last pass : ℕ} {premises : Type 0} (w : World) (set : Setting last p
   more-pending = omega (arith, plain-pending)
 
   course-more : (window : List ℕ) (unaltered : Bool) {k edge : ℕ} → Course last w k edge → Course last (acceptedWorld w (withElement (w .session) mark) window unaltered x) k edge
-  course-more window unaltered (inv.opening st t a b c) =
-      inv.opening st (record { first-is = t .first-is; none-out = t .none-out; relocates = t .relocates; target-is = t .target-is }) a b (agree-as (w .session) (withElement (w .session) mark) (w .drive) refl refl c)
+  course-more window unaltered (inv.opening st t c) = inv.opening st t (agree-as (w .session) (withElement (w .session) mark) (w .drive) refl refl c)
   course-more window unaltered {k} {edge} (inv.writing st a) = inv.writing st (writing-as last (w .session) (withElement (w .session) mark) (w .drive) k edge refl more-pending a)
   course-more window unaltered (inv.ending st c p a) = clash c (acc .unclosed)
   course-more window unaltered (inv.closing st c a b g) = clash c (acc .unclosed)
   course-more window unaltered (inv.finished st c a b f g h r y) = clash c (acc .unclosed)
 
   first-small : {k edge : ℕ} → Course last w k edge → w .session .elements .first .0 + w .session .elements .pending < 2 ^ 32
-  first-small (inv.opening st t a b c) = omega (arith, t .first-is, acc .room, l .counted .wide)
+  first-small (inv.opening st t c) = omega (arith, t .first-is, t .spread, t .roof, acc .room, l .counted .wide, set .small)
   first-small (inv.writing st a) = let n = writing-numbers (l .counted .held) a in omega (arith, n .low, acc .room, l .counted .wide, set .small)
   first-small (inv.ending st c p a) = clash c (acc .unclosed)
   first-small (inv.closing st c a b g) = clash c (acc .unclosed)
@@ -221,8 +217,8 @@ module _ {last pass : ℕ} {premises : Type 0} (w : World) (set : Setting last p
     writing-of st = go st (early (l .course))
       where
         go : ElementStage (w .session) → Early (l .k) (l .edge) → Writing last (w .session) (w .drive) (l .k) (l .edge) (w .flight)
-        go (inl q) (opening o _) = let z : _≡_ {A = ℕ} 0 1 = cc in absurd (omega arith)
-        go (inr q) (opening o _) = let z : _≡_ {A = ℕ} 0 1 = cc in absurd (omega arith)
+        go (inl q) (opening o _) = never (cc)
+        go (inr q) (opening o _) = never (cc)
         go q (writing o a) = a
 
     content-more : (unaltered : Bool) → Content last pass (acceptedWorld w (withElement (w .session) mark) window unaltered x) (l .k) (l .edge)

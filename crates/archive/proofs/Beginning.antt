@@ -18,6 +18,7 @@ use Rattle.geometry.specs.declared.cartridge.LoadPoint.{LoadPoint}
 use Rattle.geometry.specs.declared.cartridge.LoadPoint.the-variants.{Beginning, Centre}
 use Rattle.geometry.proofs.PickLaws.{pick-t, pick-by}
 use Rattle.geometry.proofs.TestLaws.{or-false}
+use Rattle.geometry.proofs.Impossible.{never}
 use Rattle.frame.specs.declared.header.Header.{Header}
 use Rattle.header.specs.Valid.{validHeader, updateOf, headerOf}
 use Rattle.header.proofs.Facts.{valid-last}
@@ -54,7 +55,7 @@ address-same : {a b : ℕ} → _≡_ {A = Said} (address a) (address b) → a �
 address-same e = cc
 
 refused-address : {X : Type 0} {a b : ℕ} → _≡_ {A = Said} (refused a) (address b) → X
-refused-address e = let z : _≡_ {A = ℕ} 0 1 = cc in absurd (omega arith)
+refused-address e = never (cc)
 
 frames-of : (g : Geometry) (last : ℕ) → lastOf g ≡ address last → Frames g last
 frames-of g last =
@@ -189,8 +190,8 @@ nothing-seen last pass t cart none = record {
     low c u (inr h) = let x = h .0 in omega arith
 
 not-element : (S.OpeningHeaders ≡ S.Elements) ⊎ (S.OpeningHeaders ≡ S.Eod) → ⊥
-not-element (inl a) = let z : _≡_ {A = ℕ} 0 1 = cc in omega arith
-not-element (inr a) = let z : _≡_ {A = ℕ} 0 1 = cc in omega arith
+not-element (inl a) = never (cc)
+not-element (inr a) = never (cc)
 
 begins-fresh : (last : ℕ) (d : Drive) (window : List ℕ) (s : Recording) (x : Started last s) (premises : Type 0) → Setting last (s .copies .header .pass) → d .written ≡ [] → AtRest d
     → (premises → Cartridge last (d .tape) × NoneBears last (d .tape) (s .copies .header .pass) × Below last (s .copies .header) (d .tape)) → Inv last (s .copies .header .pass) premises (recordings.started s window d)
@@ -214,7 +215,7 @@ begins-fresh last d window s x premises set unwritten rest pre =
         count-fits = x .count-fits;
       });
       course = subst (λ (r : Recording). inv.Course last (recordings.started r window d) 0 10) (x .is)
-          (inv.opening refl (record { first-is = refl; none-out = refl; relocates = refl; target-is = refl }) refl refl (record {
+          (inv.opening refl (record { first-is = refl; none-out = refl; relocates = refl; target-is = refl; roof = omega (arith, set .large); zone = inl (omega arith); spread = le-refl 10 }) (record {
             counts = start-counts (x .header);
             placed = start-placed (x .header);
             copying = to-seek refl refl (record { due = refl; rests = rest; kept = inl refl });

@@ -34,11 +34,11 @@ use Rattle.reading.proofs.Cases.{meaning-bound}
 use Rattle.archive.specs.Recordings as recordings
 use Rattle.archive.specs.Recordings.{World, Flight, TakesEffect, afterReply}
 use Rattle.archive.specs.Demand.{Within, Demand3}
+use Rattle.archive.proofs.Basics.{none-answered, answered-same}
 use Rattle.archive.proofs.CopiesLink.{Copying}
-use Rattle.archive.proofs.CopiesMoves.{clash}
 use Rattle.archive.proofs.ElementsLink.{Writing}
-use Rattle.archive.proofs.Accepts.{no-effect, keeps-filemark, keeps-block}
-use Rattle.archive.proofs.Closes.{apart, keeps-close}
+use Rattle.archive.proofs.Accepts.{keeps-filemark, keeps-block}
+use Rattle.archive.proofs.Closes.{keeps-close}
 use Rattle.archive.proofs.Fetches.{keeps-fetch}
 use Rattle.archive.proofs.HeaderReplies.{repliedWorld, opening-replies, closing-replies}
 use Rattle.archive.proofs.ElementReplies.{writing, ending-one, elements-reply}
@@ -61,14 +61,8 @@ rejecting-reply w r written d same =
 
 -- ---- a reply
 
-none-answered : {X : Type 0} {r : Reply} → _≡_ {A = Flight} recordings.none (recordings.answered r) → X
-none-answered e = let z : _≡_ {A = ℕ} 0 1 = cc in absurd (omega arith)
-
-answered-same : {a b : Reply} → _≡_ {A = Flight} (recordings.answered a) (recordings.answered b) → a ≡ b
-answered-same e = cc
-
 live-reply : {last pass : ℕ} {premises : Type 0} (w : World) (r : Reply) → Setting last pass → Within last (w .drive .written) → (l : Live last pass premises w) → w .flight ≡ recordings.answered r → Course last w (l .k) (l .edge) → Inv last pass premises (afterReply w r)
-live-reply w r set wr l q (inv.opening s t k e a) = opening-replies w r set wr l s t k e a (subst (Copying (w .session) (w .drive)) q (a .copying))
+live-reply w r set wr l q (inv.opening s t a) = opening-replies w r set wr l s t a (subst (Copying (w .session) (w .drive)) q (a .copying))
 live-reply {last} w r set wr l q (inv.writing s a) = elements-reply w r set wr l (inl s) (writing s) (subst (Writing last (w .session) (w .drive) (l .k) (l .edge)) q a)
 live-reply {last} w r set wr l q (inv.ending s c p a) = elements-reply w r set wr l (inr s) (ending-one s c p) (subst (Writing last (w .session) (w .drive) (l .k) (l .edge)) q a)
 live-reply w r set wr l q (inv.closing s c k e a) = closing-replies w r set wr l s c k e a (subst (Copying (w .session) (w .drive)) q (a .copying))

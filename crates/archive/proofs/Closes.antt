@@ -22,15 +22,12 @@ use Rattle.archive.proofs.SeenLaws.{seen-eod}
 use Rattle.archive.proofs.Stands.{Item, eod, itemAt, StoredAs}
 use Rattle.archive.proofs.StandsLaws.{item-past}
 use Rattle.archive.proofs.HeaderCopies.{Carried}
-use Rattle.archive.proofs.CopiesMoves.{clash}
 use Rattle.archive.proofs.Rewrap.{agree-as, writing-as}
 use Rattle.archive.proofs.Accepts.{close-view, settled-cases}
 use Rattle.archive.proofs.Invariant as inv
 use Rattle.archive.proofs.Invariant.{totalOf, spareOf, Counted, Course, Content, Live, Rejecting, Inv, live, rejecting, over}
 use Rattle.archive.proofs.Claim.{Setting}
-
-pub apart : {X : Type 0} → _≡_ {A = ℕ} 0 1 → X
-apart e = absurd (omega arith)
+use Rattle.geometry.proofs.Impossible.{never, clash}
 
 -- ---- EOD becomes due
 
@@ -42,11 +39,11 @@ module _ {last pass : ℕ} {premises : Type 0} (w : World) (l : Live last pass p
   count = let n = l .counted .numbered in let t = ap (λ (x : Stage). totalOf x (length (w .accepted))) st in omega arith
 
   eod-course : Course last w (l .k) (l .edge) → Course last (withSession w (eodDue (w .session))) (l .k) (l .edge)
-  eod-course (inv.opening q t a b c) = apart (cc)
+  eod-course (inv.opening q t c) = never (cc)
   eod-course (inv.writing q a) = inv.ending refl closed one (writing-as last (w .session) (eodDue (w .session)) (w .drive) (l .k) (l .edge) refl (omega (arith, one, none)) a)
-  eod-course (inv.ending q c p a) = apart (cc)
-  eod-course (inv.closing q c a b g) = apart (cc)
-  eod-course (inv.finished q c a b f g h r y) = apart (cc)
+  eod-course (inv.ending q c p a) = never (cc)
+  eod-course (inv.closing q c a b g) = never (cc)
+  eod-course (inv.finished q c a b f g h r y) = never (cc)
 
   eod-stored : (window : List ℕ) (marks : List Bool) (i : ℕ) → i < (w .session .elements .pending + 1) % 2 ^ 16 → StoredAs (itemAt (w .accepted) (w .session .elements .first .0 + i)) window marks (windowOf (w .session)) (w .session .elements .first .0 + i)
   eod-stored window marks i h =
@@ -70,7 +67,7 @@ module _ {last pass : ℕ} {premises : Type 0} (w : World) (l : Live last pass p
         };
         carried = subst (λ (n : ℕ). Carried last pass n (w .session .copies .header)) (ap spareOf st) (l .carried);
         course = eod-course (l .course);
-        reported = λ r. apart (let q = l .reported r in cc);
+        reported = λ r. never (let q = l .reported r in cc);
         content = λ p u.
             let x = l .content p u in
             record {
@@ -87,8 +84,8 @@ module _ {last pass : ℕ} {premises : Type 0} (w : World) (l : Live last pass p
 
 module _ {last pass : ℕ} {premises : Type 0} (w : World) (l : Live last pass premises w) (unclosed : w .session .closed ≡ false) where
   closed-course : Course last w (l .k) (l .edge) → Course last (withSession w (closedOf (w .session))) (l .k) (l .edge)
-  closed-course (inv.opening q t a b c) =
-      inv.opening q (record { first-is = t .first-is; none-out = t .none-out; relocates = t .relocates; target-is = t .target-is }) a b (agree-as (w .session) (closedOf (w .session)) (w .drive) refl refl c)
+  closed-course (inv.opening q t c) =
+      inv.opening q t (agree-as (w .session) (closedOf (w .session)) (w .drive) refl refl c)
   closed-course (inv.writing q a) = inv.writing q (writing-as last (w .session) (closedOf (w .session)) (w .drive) (l .k) (l .edge) refl (omega arith) a)
   closed-course (inv.ending q c p a) = clash c unclosed
   closed-course (inv.closing q c a b g) = clash c unclosed
@@ -109,8 +106,8 @@ module _ {last pass : ℕ} {premises : Type 0} (w : World) (l : Live last pass p
       }
 
   not-eod : {X : Type 0} → w .session .stage ≡ S.Eod → Course last w (l .k) (l .edge) → X
-  not-eod e (inv.opening q t a b c) = apart (cc)
-  not-eod e (inv.writing q a) = apart (cc)
+  not-eod e (inv.opening q t c) = never (cc)
+  not-eod e (inv.writing q a) = never (cc)
   not-eod e (inv.ending q c p a) = clash c unclosed
   not-eod e (inv.closing q c a b g) = clash c unclosed
   not-eod e (inv.finished q c a b f g h r y) = clash c unclosed

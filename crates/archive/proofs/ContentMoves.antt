@@ -26,6 +26,7 @@ use Rattle.recording.proofs.Stages.{ElementStage}
 use Rattle.archive.specs.Headers.{HeaderAt}
 use Rattle.archive.specs.Recordings as recordings
 use Rattle.archive.specs.Recordings.{World, Element, withDrive}
+use Rattle.archive.proofs.Basics.{none-some, some-same}
 use Rattle.archive.proofs.Places.{header-not-user}
 use Rattle.archive.proofs.Scan.{Seen}
 use Rattle.archive.proofs.ScanLaws.{put-same, put-other}
@@ -35,12 +36,6 @@ use Rattle.archive.proofs.StandsLaws.{stands-read, stands-long}
 use Rattle.archive.proofs.UserPlaces.{User, user-ranges}
 use Rattle.archive.proofs.HeaderCopies.{Below}
 use Rattle.archive.proofs.Invariant.{totalOf, Content}
-
-none-some : {X : Type 0} {f : List ℕ} → _≡_ {A = Option (List ℕ)} none (some f) → X
-none-some e = let z : _≡_ {A = ℕ} 0 1 = cc in absurd (omega arith)
-
-some-same : {f g : List ℕ} → _≡_ {A = Option (List ℕ)} (some f) (some g) → f ≡ g
-some-same e = cc
 
 -- what a tried address reads as
 pub left-reads : {before : Option (List ℕ)} {sent f : List ℕ} {v : Option (List ℕ)} → Left before sent v → v ≡ some f → (before ≡ some f) ⊎ ReadsAs sent f

@@ -11,6 +11,7 @@ use lib.ListN.{length, replicate, length-append, replicate-append-replicate}
 use Rattle.geometry.specs.Cartridge.{isHeader, isUser, headerAddress}
 use Rattle.geometry.specs.declared.address.Address.{Address}
 use Rattle.geometry.proofs.TestLaws.{either-left}
+use Rattle.geometry.proofs.Impossible.{clash}
 use Rattle.frame.specs.Header.{headerFrame}
 use Rattle.frame.specs.Sent.{ReadsAs}
 use Rattle.frame.specs.declared.header.Header.{Header}
@@ -33,9 +34,6 @@ use Rattle.archive.proofs.ScanLaws.{put-same, put-other}
 use Rattle.archive.proofs.CopiesLink.{CopyLink, CopySeek, CopyAsks, writes, asks, seeks, CopyAnswered, taken, counted, failed-write, failed-position, waits, HeaderSent, Copying, at-place, to-seek, again, under-way, replied}
 use Rattle.archive.proofs.CopiesLink as link
 use Rattle.archive.proofs.Invariant.{Safe, halted, allowed}
-
-pub clash : {X : Type 0} {b : Bool} → b ≡ true → b ≡ false → X
-clash t f = absurd (true≢false (sym t ∙ f))
 
 pub rests-still : {X : Type 0} {d : Drive} {f : List ℕ} {rest : List (List ℕ)} → d .buffer ≡ f ∷ rest → d .failed ≡ false → AtRest d → X
 rests-still b free (stopped e) = clash e free

@@ -12,6 +12,7 @@ use Rattle.geometry.specs.Pick.{pick}
 use Rattle.geometry.specs.Cartridge.{headerAddress}
 use Rattle.geometry.specs.declared.address.Address.{Address}
 use Rattle.geometry.proofs.PickLaws.{pick-by}
+use Rattle.geometry.proofs.Impossible.{clash}
 use Rattle.frame.specs.Header.{headerFrame}
 use Rattle.frame.specs.declared.header.Header.{Header}
 use Rattle.drive.specs.Conduct.{Drive, Means, AtRest, empty, stopped}
@@ -25,11 +26,7 @@ use Rattle.copies.proofs.Counts.{CountsOf, taken-counts, taken-exact, confirmed
 use Rattle.copies.proofs.DueAddress.{Placed, PlacedOf}
 use Rattle.archive.proofs.HeaderCopies.{Copy}
 use Rattle.archive.proofs.CopiesLink.{CopyLink, CopySeek}
-use Rattle.archive.proofs.CopiesMoves.{clash}
-
-no-frames : (fs : List (List ℕ)) → length fs ≤ 0 → fs ≡ []
-no-frames [] h = refl
-no-frames (f ∷ fs) h = absurd (omega arith)
+use Rattle.archive.proofs.Basics.{no-frames}
 
 pub copy-higher : {h : Header} {t : Tape} {a b : ℕ} → a ≤ b → Copy h t a → Copy h t b
 copy-higher l c = let low = c .low in record { address = c .address; frame = c .frame; group = c .group; low = omega arith; reads = c .reads; as-sent = c .as-sent }

@@ -10,6 +10,7 @@ use lib.ListN.{length}
 use Rattle.geometry.specs.Cartridge.{isHeader, isUser}
 use Rattle.geometry.specs.declared.address.Address.{Address}
 use Rattle.geometry.proofs.TestLaws.{either-left, either-right}
+use Rattle.geometry.proofs.Impossible.{clash}
 use Rattle.frame.specs.Header.{headerFrame}
 use Rattle.drive.specs.Conduct as conduct
 use Rattle.drive.specs.Conduct.{Drive, Acts, Answers, Left, Written, as-new, wrote, failing, taking, moved}
@@ -24,6 +25,7 @@ use Rattle.recording.proofs.Kept.{heldOf}
 use Rattle.archive.specs.Recordings as recordings
 use Rattle.archive.specs.Recordings.{World, Flight, Moves, withDrive}
 use Rattle.archive.specs.Demand.{Within, one-more}
+use Rattle.archive.proofs.Basics.{none-sent, answered-sent}
 use Rattle.archive.proofs.Stands.{itemAt, Stands, Queue}
 use Rattle.drive.specs.Senses.{meaningOf}
 use Rattle.drive.specs.Tape.{Cartridge}
@@ -32,21 +34,16 @@ use Rattle.archive.proofs.HeaderCopies.{Copy, Below}
 use Rattle.archive.proofs.CopiesLink as copies
 use Rattle.archive.proofs.CopiesLink.{CopyAsks, HeaderSent, Copying, CopiesAgree}
 use Rattle.archive.proofs.CopiesMoves as copying
-use Rattle.archive.proofs.CopiesMoves.{clash, rests-still, CopyGoes, copying-goes, CopyOutcome, copies-answer}
+use Rattle.archive.proofs.CopiesMoves.{rests-still, CopyGoes, copying-goes, CopyOutcome, copies-answer}
 use Rattle.archive.proofs.ElementsLink as elements
 use Rattle.archive.proofs.ElementsLink.{Linked, Moving, Asks, Answered, Writing}
 use Rattle.archive.proofs.ElementsMoves as writing
 use Rattle.archive.proofs.ElementsMoves.{Goes, writing-goes, Outcome, elements-answer, asks-off-header}
 use Rattle.archive.proofs.ContentMoves.{header-content, element-writes, element-fails, queue-more}
 use Rattle.archive.proofs.Invariant as inv
-use Rattle.archive.proofs.Invariant.{totalOf, Counted, Untouched, Course, Content, Live, Safe, halted, allowed, Rejecting, Over, Inv, live, rejecting, over}
+use Rattle.archive.proofs.Invariant.{totalOf, Counted, Course, Content, Live, Safe, halted, allowed, Rejecting, Over, Inv, live, rejecting, over}
+use Rattle.archive.proofs.InvariantLaws.{unreported}
 use Rattle.archive.proofs.Claim.{Setting, KeepsMove}
-
-none-sent : {X : Type 0} {c : Command} {f : List ℕ} → _≡_ {A = Flight} recordings.none (recordings.sent c f) → X
-none-sent e = let z : _≡_ {A = ℕ} 0 1 = cc in absurd (omega arith)
-
-answered-sent : {X : Type 0} {c : Command} {f : List ℕ} {r : Reply} → _≡_ {A = Flight} (recordings.answered r) (recordings.sent c f) → X
-answered-sent e = let z : _≡_ {A = ℕ} 0 1 = cc in absurd (omega arith)
 
 -- ---- a drive whose session has ended, or will
 
@@ -134,8 +131,8 @@ module _ {last pass : ℕ} {premises : Type 0} {w : World} (set : Setting last p
         (λ p u. element-fails w (set .large) (l .content p u) f rest b free st (on .place) (on .edge-here) room v x))
 
   live-acts : Course last w (l .k) (l .edge) → (d : Drive) → Acts (w .drive) d → Inv last pass premises (withDrive w d (w .flight))
-  live-acts (inv.opening s t k e a) d (conduct.writes f rest v b free x) = header-writes f rest b free (inl s) a (λ _ y. inv.opening s t k e y) v x
-  live-acts (inv.opening s t k e a) d (conduct.fails f rest v b free x) = header-fails f rest b free (inl s) a (λ _ y. inv.opening s t k e y) v x
+  live-acts (inv.opening s t a) d (conduct.writes f rest v b free x) = header-writes f rest b free (inl s) a (λ _ y. inv.opening s t y) v x
+  live-acts (inv.opening s t a) d (conduct.fails f rest v b free x) = header-fails f rest b free (inl s) a (λ _ y. inv.opening s t y) v x
   live-acts (inv.writing s a) d (conduct.writes f rest v b free x) = writes f rest b free (inl s) a (λ _ _ _ y. inv.writing s y) v x
   live-acts (inv.writing s a) d (conduct.fails f rest v b free x) = fails f rest b free (inl s) a (λ _ _ _ y. inv.writing s y) v x
   live-acts (inv.ending s c p a) d (conduct.writes f rest v b free x) = writes f rest b free (inr s) a (λ _ _ _ y. inv.ending s c p y) v x
@@ -164,16 +161,9 @@ module _ {last pass : ℕ} {premises : Type 0} {w : World} (set : Setting last p
     within : Within last (d .written)
     within = subst (Within last) (sym (same-tape an .1)) written
 
-    unreported : (w .session .stage ≡ S.Done → ⊥) → w .reported ≡ false
-    unreported n = go (w .reported) refl
-      where
-        go : (b : Bool) → w .reported ≡ b → w .reported ≡ false
-        go true e = absurd (n (l .reported e))
-        go false e = e
-
     lost : (w .session .stage ≡ S.Done → ⊥) → w .session .awaiting ≡ true → (conduct.Listed (w .session .command) (meaningOf (r .key) (r .asc) (r .ascq)) → ⊥) → OffHeaders (w .session) → Safe last d
         → Inv last pass premises (withDrive w d (recordings.answered r))
-    lost n a h off safe = rejecting within (record { reply = r; going = l .going; awaits = a; replied = refl; unlisted = h; off-headers = off; safe = safe; unreported = unreported n })
+    lost n a h off safe = rejecting within (record { reply = r; going = l .going; awaits = a; replied = refl; unlisted = h; off-headers = off; safe = safe; unreported = unreported l n })
 
     -- the tape stays
     same-content : {k edge : ℕ} → Content last pass w k edge → (ElementStage (w .session) → d .failed ≡ false → Queue last pass (w .accepted) k (d .buffer)) → Content last pass (withDrive w d (recordings.answered r)) k edge
@@ -235,7 +225,7 @@ module _ {last pass : ℕ} {premises : Type 0} {w : World} (set : Setting last p
           go (writing.reject m safe) = lost (element-not-done (w .session) st) a (λ z. m (subst (λ k. conduct.Listed k (meaningOf (r .key) (r .asc) (r .ascq))) e z)) (λ _ b f. asks-off-header (subst (λ k. Asks last (heldOf (w .session)) (w .session .elements .pending) (w .drive) (l .k) (l .edge) k) (sym e ∙ f) x)) safe
 
     live-answers : Course last w (l .k) (l .edge) → Inv last pass premises (withDrive w d (recordings.answered r))
-    live-answers (inv.opening s t k e a) = header-answers (inl s) a (λ _ y. inv.opening s t k e y) (subst (Copying (w .session) (w .drive)) q (a .copying))
+    live-answers (inv.opening s t a) = header-answers (inl s) a (λ _ y. inv.opening s t y) (subst (Copying (w .session) (w .drive)) q (a .copying))
     live-answers (inv.writing s a) = element-answers (inl s) a (λ _ y. inv.writing s y) (subst (Writing last (w .session) (w .drive) (l .k) (l .edge)) q a)
     live-answers (inv.ending s cl p a) = element-answers (inr s) a (λ _ y. inv.ending s cl p y) (subst (Writing last (w .session) (w .drive) (l .k) (l .edge)) q a)
     live-answers (inv.closing s cl k e a) = header-answers (inr s) a (λ _ y. inv.closing s cl k e y) (subst (Copying (w .session) (w .drive)) q (a .copying))

@@ -12,6 +12,7 @@ use lib.ListN.{length}
 use Rattle.geometry.specs.Cartridge.{isUser}
 use Rattle.geometry.specs.declared.address.Address.{Address}
 use Rattle.geometry.proofs.TestLaws.{either-right}
+use Rattle.geometry.proofs.Impossible.{never}
 use Rattle.frame.specs.declared.header.Header.{Header}
 use Rattle.drive.specs.Command.{commandAddress}
 use Rattle.drive.specs.Conduct.{Drive, Means, AtRest}
@@ -30,12 +31,13 @@ use Rattle.recording.specs.Reply.{caseOf, answeredOf, repeatedOf, elementReplyB
 use Rattle.recording.specs.declared.session.Recording.{Recording}
 use Rattle.recording.specs.declared.session.Stage.{Stage}
 use Rattle.recording.specs.declared.session.Stage.the-variants as S
-use Rattle.recording.proofs.Stages.{HeaderStage, ElementStage}
+use Rattle.recording.proofs.Stages.{HeaderStage, ElementStage, element-not-done}
 use Rattle.recording.proofs.Kept.{heldOf}
 use Rattle.recording.proofs.ReplyView.{isBusy}
 use Rattle.archive.specs.Recordings as recordings
 use Rattle.archive.specs.Recordings.{World, Element}
 use Rattle.archive.specs.Demand.{Within}
+use Rattle.archive.proofs.Basics.{none-sent}
 use Rattle.archive.proofs.Scan.{Seen}
 use Rattle.archive.proofs.ScanLaws.{scan-over}
 use Rattle.archive.proofs.SeenLaws.{seen-moves}
@@ -44,7 +46,7 @@ use Rattle.archive.proofs.UserPlaces.{User, user-ranges}
 use Rattle.archive.proofs.HeaderCopies.{Carried, Below}
 use Rattle.archive.proofs.Completion.{copy-update}
 use Rattle.archive.proofs.CopiesLink as copies
-use Rattle.archive.proofs.CopiesMoves.{clash, rests-safe}
+use Rattle.archive.proofs.CopiesMoves.{rests-safe}
 use Rattle.archive.proofs.ElementsLink as elements
 use Rattle.archive.proofs.ElementsLink.{Linked, Moving, Asks, Answered, Writing}
 use Rattle.archive.proofs.ElementsMoves.{link-safe}
@@ -52,8 +54,8 @@ use Rattle.archive.proofs.ElementSteps as steps
 use Rattle.archive.proofs.ElementSteps.{Step, Reached, taken-step, filled-step, moved-step, counted-step, failed-step}
 use Rattle.archive.proofs.Fetches.{reask}
 use Rattle.archive.proofs.Accepts.{settled-cases}
-use Rattle.archive.proofs.Closes.{apart, eod-live}
-use Rattle.archive.proofs.HeaderReplies.{case-is, reply-so, reply-busy, repliedWorld, none-sent, ends-so}
+use Rattle.archive.proofs.Closes.{eod-live}
+use Rattle.archive.proofs.HeaderReplies.{case-is, reply-so, reply-busy, repliedWorld, ends-so}
 use Rattle.archive.proofs.Invariant as inv
 use Rattle.archive.proofs.Invariant.{totalOf, spareOf, Counted, Course, Content, Live, Safe, Inv, live}
 use Rattle.archive.proofs.Claim.{Setting}
@@ -76,9 +78,6 @@ seen-top {last} {pass} {edge = edge} {t = t} large cart l h = record {
 module _ {last pass : ℕ} {premises : Type 0} (w : World) (r : Reply) (set : Setting last pass) (wr : Within last (w .drive .written)) (l : Live last pass premises w) (st : ElementStage (w .session)) where
   abbrev After : Result → Type 0
   After x = Inv last pass premises (repliedWorld w (x .session))
-
-  not-done : w .session .stage ≡ S.Done → ⊥
-  not-done q = ⊎-elim (λ x. apart (cc)) (λ x. apart (cc)) st
 
   -- ---- before the stage is looked at
 
@@ -177,7 +176,7 @@ module _ {last pass : ℕ} {premises : Type 0} (w : World) (r : Reply) (set : Se
               placed = start-placed (closingHeader stepped);
               copying = copies.to-seek refl again (record { due = refl; rests = on-tape .1; kept = inl refl });
             });
-            reported = λ x. apart (let z = l .reported x in cc);
+            reported = λ x. never (let z = l .reported x in cc);
             content = λ p u.
                 let x = l .content p u in
                 record {
@@ -185,7 +184,7 @@ module _ {last pass : ℕ} {premises : Type 0} (w : World) (r : Reply) (set : Se
                   seen = seen-all x;
                   below = below-so (x .below);
                   stored = λ i h. absurd (omega arith);
-                  queue = λ el _. ⊎-elim (λ z. apart (cc)) (λ z. apart (cc)) el;
+                  queue = λ el _. ⊎-elim (λ z. never (cc)) (λ z. never (cc)) el;
                   sent = λ _ _ _ z. none-sent z;
                 };
           }
@@ -200,17 +199,17 @@ module _ {last pass : ℕ} {premises : Type 0} (w : World) (r : Reply) (set : Se
   settles again (writing q) e s =
       let x = stepped-live e s (inv.writing q (s .writing)) in
       settled-cases (withElements (answeredOf (w .session)) e) (λ (v : Recording). Inv last pass premises (repliedWorld w v)) (λ _. live wr x)
-      (λ a b c. live wr (eod-live (repliedWorld w (withElements (answeredOf (w .session)) e)) x a b c)) (λ a _. apart (cc))
+      (λ a b c. live wr (eod-live (repliedWorld w (withElements (answeredOf (w .session)) e)) x a b c)) (λ a _. never (cc))
   settles again (ending-one q c one) e s =
       settled-cases (withElements (answeredOf (w .session)) e) (λ (v : Recording). Inv last pass premises (repliedWorld w v)) (λ why. live wr (stepped-live e s (inv.ending q c (still why) (s .writing))))
-      (λ a _ _. apart (cc)) (λ a none. live wr (closing-live e s q c (omega arith) none again))
+      (λ a _ _. never (cc)) (λ a none. live wr (closing-live e s q c (omega arith) none again))
     where
       still : (0 < e .pending) ⊎ (HeaderStage (withElements (answeredOf (w .session)) e) ⊎ (w .session .stage ≡ S.Done)) ⊎ ((w .session .stage ≡ S.Elements) × (w .session .closed ≡ false)) → e .pending ≡ 1
       still (inl h) = let p = s .pending-is in omega arith
-      still (inr (inl (inl (inl h)))) = apart (cc)
-      still (inr (inl (inl (inr h)))) = apart (cc)
-      still (inr (inl (inr h))) = apart (cc)
-      still (inr (inr h)) = let z = h .0 in apart (cc)
+      still (inr (inl (inl (inl h)))) = never (cc)
+      still (inr (inl (inl (inr h)))) = never (cc)
+      still (inr (inl (inr h))) = never (cc)
+      still (inr (inr h)) = let z = h .0 in never (cc)
 
   -- ---- by what the drive gave
 
@@ -220,8 +219,8 @@ module _ {last pass : ℕ} {premises : Type 0} (w : World) (r : Reply) (set : Se
 
     reached-so : {x : answer.Step} → Reached last (w .session) (w .drive) (l .k) (l .edge) x → Safe last (w .drive) → After (elementReplyBy (x .number) (x .elements) (w .session))
     reached-so (steps.goes e s) safe = settles again which e s
-    reached-so (steps.unlawful e) safe = ends-so w r set wr l 8 not-done safe
-    reached-so (steps.full e) safe = ends-so w r set wr l 9 not-done safe
+    reached-so (steps.unlawful e) safe = ends-so w r set wr l 8 (element-not-done (w .session) st) safe
+    reached-so (steps.full e) safe = ends-so w r set wr l 9 (element-not-done (w .session) st) safe
 
     by : {x : answer.Step} (n : ℕ) → caseOf (w .session) r ≡ n → isBusy n ≡ false → elementStep (w .session) n r ≡ x → Reached last (w .session) (w .drive) (l .k) (l .edge) x → Safe last (w .drive) → After (replyOf (w .session) r)
     unfolding elementReply

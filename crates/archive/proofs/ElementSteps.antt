@@ -27,13 +27,10 @@ use Rattle.recording.specs.declared.session.Recording.{Recording}
 use Rattle.recording.proofs.Kept.{Held, heldOf}
 use Rattle.reading.proofs.Jump.{past-reserved-least}
 use Rattle.archive.specs.Recordings as recordings
+use Rattle.archive.proofs.Basics.{no-frames}
 use Rattle.archive.proofs.UserPlaces.{ranges-user, Landing, before, across, behind, landing}
 use Rattle.archive.proofs.ElementsLink as elements
 use Rattle.archive.proofs.ElementsLink.{edgeOf, Linked, Moving, Writing}
-
-no-frames : (fs : List (List ℕ)) → length fs ≤ 0 → fs ≡ []
-no-frames [] h = refl
-no-frames (f ∷ fs) h = absurd (omega arith)
 
 -- the elements after a reply: some more are confirmed, and the tape was tried as far or further
 pub record Step (last : ℕ) (s : Recording) (d : Drive) (k edge : ℕ) (e : Elements) : Type 0 where

@@ -11,6 +11,7 @@ use lib.ListN.{length, length-append}
 use Rattle.geometry.specs.Cartridge.{isHeader, isUser}
 use Rattle.geometry.specs.declared.address.Address.{Address}
 use Rattle.geometry.proofs.TestLaws.{either-right}
+use Rattle.geometry.proofs.Impossible.{clash}
 use Rattle.drive.specs.Conduct as conduct
 use Rattle.drive.specs.Conduct.{Drive, Means, wrote, failing, taking, moved, empty}
 use Rattle.drive.specs.Senses.{meaningOf, good}
@@ -23,7 +24,7 @@ use Rattle.archive.specs.Recordings as recordings
 use Rattle.archive.specs.Recordings.{Flight}
 use Rattle.archive.proofs.Places.{user-not-header}
 use Rattle.archive.proofs.UserPlaces.{ranges-user}
-use Rattle.archive.proofs.CopiesMoves.{clash, rests-still, rests-safe}
+use Rattle.archive.proofs.CopiesMoves.{rests-still, rests-safe}
 use Rattle.archive.proofs.ElementsLink.{edgeOf, Linked, Moving, Asks, writes, asks, moves, Answered, taken, counted, failed-write, failed-position, filled, waits, Writing, at-place, to-locate, again, under-way, replied}
 use Rattle.archive.proofs.ElementsLink as link
 use Rattle.archive.proofs.Invariant.{Safe, halted, allowed}

@@ -10,6 +10,7 @@ use lib.ListN.{length}
 use Rattle.geometry.specs.declared.address.Address.{Address}
 use Rattle.geometry.specs.declared.address.Seq.{Seq}
 use Rattle.geometry.proofs.TestLaws.{and-true}
+use Rattle.geometry.proofs.Impossible.{never, clash}
 use Rattle.buffer.specs.Bytes.{agree}
 use Rattle.buffer.proofs.Agreement.{agree-is}
 use Rattle.frame.specs.Header.{headerFrame}
@@ -33,26 +34,26 @@ use Rattle.recording.specs.declared.session.Stage.{Stage}
 use Rattle.recording.specs.declared.session.Stage.the-variants as S
 use Rattle.recording.proofs.FetchView as view
 use Rattle.recording.proofs.FetchView.{Ready, FetchView, fetch-view}
-use Rattle.recording.proofs.Stages.{HeaderStage, ElementStage}
+use Rattle.recording.proofs.Stages.{HeaderStage, ElementStage, header-not-element, header-not-done, element-not-done}
 use Rattle.recording.proofs.Kept.{Held, heldOf}
 use Rattle.archive.specs.Recordings as recordings
 use Rattle.archive.specs.Recordings.{World, Flight, TakesEffect, fetchNumber, flightAfter, reportedAfter, afterFetch}
 use Rattle.archive.specs.Demand.{Within}
+use Rattle.archive.proofs.Basics.{no-effect, no-frames}
 use Rattle.archive.proofs.Scan.{Seen}
 use Rattle.archive.proofs.SeenLaws.{seen-moves}
 use Rattle.archive.proofs.Stands.{itemAt, Stands, Queue, StoredAs}
 use Rattle.archive.proofs.CopiesLink as copies
 use Rattle.archive.proofs.CopiesLink.{CopyLink, CopySeek, CopyAsks, HeaderSent, Copying, CopiesAgree}
-use Rattle.archive.proofs.CopiesMoves.{clash, rests-safe}
+use Rattle.archive.proofs.CopiesMoves.{rests-safe}
 use Rattle.archive.proofs.ElementsLink as elements
 use Rattle.archive.proofs.ElementsLink.{edgeOf, Linked, Moving, Asks, Answered, Writing}
 use Rattle.archive.proofs.ElementsMoves.{link-safe}
 use Rattle.archive.proofs.Rewrap.{Numbers, writing-numbers}
 use Rattle.archive.proofs.SentFrames.{sent-element, sent-eod}
-use Rattle.archive.proofs.Accepts.{no-effect}
-use Rattle.archive.proofs.Closes.{apart}
 use Rattle.archive.proofs.Invariant as inv
 use Rattle.archive.proofs.Invariant.{totalOf, Counted, Course, Content, Live, Safe, Over, Inv, live, rejecting, over}
+use Rattle.archive.proofs.InvariantLaws.{unreported}
 use Rattle.archive.proofs.Claim.{Setting}
 
 -- ---- the same elements, by another command
@@ -131,7 +132,7 @@ module _ {last pass : ℕ} {premises : Type 0} (w : World) (lent frame : List �
   }
     where
       course : Course last w (l .k) (l .edge) → Course last (lentWorld w lent (w .session) (w .flight) reported) (l .k) (l .edge)
-      course (inv.opening q t a b c) = inv.opening q t a b c
+      course (inv.opening q t c) = inv.opening q t c
       course (inv.writing q a) = inv.writing q a
       course (inv.ending q c p a) = inv.ending q c p a
       course (inv.closing q c a b g) = inv.closing q c a b g
@@ -178,21 +179,12 @@ module _ {last pass : ℕ} {premises : Type 0} (w : World) (lent frame : List �
     header-sent (Locate a) = tt
     header-sent ReadPosition = tt
 
-    no-elements : {X : Type 0} → ElementStage (w .session) → X
-    no-elements el = go st el
-      where
-        go : {X : Type 0} → HeaderStage (w .session) → ElementStage (w .session) → X
-        go (inl a) (inl b) = apart (cc)
-        go (inl a) (inr b) = apart (cc)
-        go (inr a) (inl b) = apart (cc)
-        go (inr a) (inr b) = apart (cc)
-
     header-out : (c : Command) (agree : CopiesAgree (w .session) (w .drive) (w .flight)) → CopyAsks (w .session .copies) (w .drive) c
         → (CopiesAgree (awaits (w .session) c) (w .drive) (recordings.sent c (frameFor c (w .session) lent frame)) → Course last (sentWorld c) (l .k) (l .edge)) → Inv last pass premises (sentWorld c)
     header-out c agree asked course =
         live wr
         (goes-out c (l .edge) (course (record { counts = agree .counts; placed = agree .placed; copying = copies.under-way c (frameFor c (w .session) lent frame) refl refl refl (header-sent c) asked }))
-        (λ p u same. content-out c p u same (l .content p u .seen) (λ _ _ el _. no-elements el)))
+        (λ p u same. content-out c p u same (l .content p u .seen) (λ _ _ el _. header-not-element (w .session) st el)))
 
     asks-header : {c : Command} → PlacedOf (w .session .copies) → command.CommandView (w .session .depth) (w .session .copies) c → w .session .again ≡ false → Copying (w .session) (w .drive) recordings.none → CopyAsks (w .session .copies) (w .drive) c
     asks-header pl (command.locating t) ag (copies.at-place a g x) = clash t (x .placed)
@@ -242,10 +234,6 @@ module _ {last pass : ℕ} {premises : Type 0} (w : World) (lent frame : List �
           edge-is = refl;
         });
       }
-    where
-      no-frames : (fs : List (List ℕ)) → length fs ≤ 0 → fs ≡ []
-      no-frames [] h = refl
-      no-frames (f ∷ fs) h = absurd (omega arith)
 
   out-element : {c : Command} → rule.DueView (w .session .depth) (w .session .elements) (due.send c) → w .session .again ≡ false → Writing last (w .session) (w .drive) (l .k) (l .edge) recordings.none → Out c
   out-element (rule.relocating r) ag (elements.at-place a g x) = clash r (x .placed)
@@ -327,13 +315,6 @@ module _ {last pass : ℕ} {premises : Type 0} (w : World) (lent frame : List �
   abbrev After : Fetching → Type 0
   After x = Inv last pass premises (fetchedWorld w lent x)
 
-  unreported : (w .session .stage ≡ S.Done → ⊥) → w .reported ≡ false
-  unreported n = go (w .reported) refl
-    where
-      go : (b : Bool) → w .reported ≡ b → w .reported ≡ false
-      go true e = absurd (n (l .reported e))
-      go false e = e
-
   -- in a header stage
   module _ (st : HeaderStage (w .session)) (agree : CopiesAgree (w .session) (w .drive) (w .flight))
       (course : (c : Command) → CopiesAgree (awaits (w .session) c) (w .drive) (recordings.sent c (frameFor c (w .session) lent frame)) → Course last (sentWorld w lent frame set wr l c) (l .k) (l .edge)) where
@@ -345,10 +326,10 @@ module _ {last pass : ℕ} {premises : Type 0} (w : World) (lent frame : List �
     fetch-header (view.copying r ag _) te =
         let c = copying.commandOf (w .session .depth) (w .session .copies) in
         header-out w lent frame set wr l st c agree (asks-header w lent frame set wr l st (agree .placed) (command.command-view (w .session .depth) (w .session .copies)) ag (copying-idle (r .free) (agree .copying))) (course c)
-    fetch-header (view.stepping r ag el c d) te = no-elements w lent frame set wr l st el
-    fetch-header (view.resting r ag el d) te = no-elements w lent frame set wr l st el
-    fetch-header (view.stopping r ag el n d) te = no-elements w lent frame set wr l st el
-    fetch-header (view.finished r ag d) te = ⊎-elim (λ q. apart (cc)) (λ q. apart (cc)) st
+    fetch-header (view.stepping r ag el c d) te = header-not-element (w .session) st el
+    fetch-header (view.resting r ag el d) te = header-not-element (w .session) st el
+    fetch-header (view.stopping r ag el n d) te = header-not-element (w .session) st el
+    fetch-header (view.finished r ag d) te = header-not-done (w .session) st d
 
   -- among the elements
   module _ (st : ElementStage (w .session)) (agree : Writing last (w .session) (w .drive) (l .k) (l .edge) (w .flight)) (alone : w .session .stage ≡ S.Eod → w .session .elements .pending ≡ 1)
@@ -356,37 +337,34 @@ module _ {last pass : ℕ} {premises : Type 0} (w : World) (lent frame : List �
     numbers : Numbers last (w .session .elements .first .0) (w .session .elements .outstanding) (w .session .elements .pending) (l .k) (w .drive)
     numbers = writing-numbers (l .counted .held) agree
 
-    not-done : w .session .stage ≡ S.Done → ⊥
-    not-done q = ⊎-elim (λ x. apart (cc)) (λ x. apart (cc)) st
-
     fetch-elements : {x : Fetching} → FetchView (w .session) lent frame x → TakesEffect (fetchNumber (x .said)) → After x
     unfolding sending
     fetch-elements (view.wrongPhase _) te = no-effect (omega arith) (omega arith) te
     fetch-elements (view.wrongLength _ _ _) te = no-effect (omega arith) (omega arith) te
     fetch-elements (view.repeating r ag) te =
         element-out w lent frame set wr l (r .windowRight) numbers alone (w .session .command) (again-element w lent frame set wr l ag (writing-idle (r .free) agree .0)) st (course (w .session .command))
-    fetch-elements (view.copying r ag h) te = no-elements w lent frame set wr l h st
+    fetch-elements (view.copying r ag h) te = header-not-element (w .session) h st
     fetch-elements (view.stepping r ag el c d) te =
         element-out w lent frame set wr l (r .windowRight) numbers alone c (out-element w lent frame set wr l (subst (rule.DueView (w .session .depth) (w .session .elements)) d (rule.due-view (w .session .depth) (w .session .elements))) ag (writing-idle (r .free) agree .0)) st (course c)
     fetch-elements (view.resting r ag el d) te = live wr (quiet w lent frame set wr l (w .reported) (l .reported))
     fetch-elements (view.stopping r ag el n d) te =
         let i = writing-idle (r .free) agree in
-        over wr (record { ended = refl; none = i .1; safe = writing-safe ag (i .0); unreported = unreported not-done })
-    fetch-elements (view.finished r ag d) te = absurd (not-done d)
+        over wr (record { ended = refl; none = i .1; safe = writing-safe ag (i .0); unreported = unreported l (element-not-done (w .session) st) })
+    fetch-elements (view.finished r ag d) te = element-not-done (w .session) st d
 
   fetch-done : {x : Fetching} → w .session .stage ≡ S.Done → w .session .again ≡ false → FetchView (w .session) lent frame x → TakesEffect (fetchNumber (x .said)) → After x
   fetch-done st ag (view.wrongPhase _) te = no-effect (omega arith) (omega arith) te
   fetch-done st ag (view.wrongLength _ _ _) te = no-effect (omega arith) (omega arith) te
   fetch-done st ag (view.repeating r again) te = clash again ag
-  fetch-done st ag (view.copying r _ h) te = ⊎-elim (λ q. apart (cc)) (λ q. apart (cc)) h
-  fetch-done st ag (view.stepping r _ el c d) te = ⊎-elim (λ q. apart (cc)) (λ q. apart (cc)) el
-  fetch-done st ag (view.resting r _ el d) te = ⊎-elim (λ q. apart (cc)) (λ q. apart (cc)) el
-  fetch-done st ag (view.stopping r _ el n d) te = ⊎-elim (λ q. apart (cc)) (λ q. apart (cc)) el
+  fetch-done st ag (view.copying r _ h) te = header-not-done (w .session) h st
+  fetch-done st ag (view.stepping r _ el c d) te = element-not-done (w .session) el st
+  fetch-done st ag (view.resting r _ el d) te = element-not-done (w .session) el st
+  fetch-done st ag (view.stopping r _ el n d) te = element-not-done (w .session) el st
   fetch-done st ag (view.finished r _ d) te = live wr (quiet w lent frame set wr l true (λ _. st))
 
   live-fetch : Course last w (l .k) (l .edge) → {x : Fetching} → FetchView (w .session) lent frame x → TakesEffect (fetchNumber (x .said)) → After x
-  live-fetch (inv.opening q t a b c) v te = fetch-header (inl q) c (λ _ y. inv.opening q t a b y) v te
-  live-fetch (inv.writing q a) v te = fetch-elements (inl q) a (λ e. apart (cc)) (λ _ _ y. inv.writing q y) v te
+  live-fetch (inv.opening q t c) v te = fetch-header (inl q) c (λ _ y. inv.opening q t y) v te
+  live-fetch (inv.writing q a) v te = fetch-elements (inl q) a (λ e. never (cc)) (λ _ _ y. inv.writing q y) v te
   live-fetch (inv.ending q c p a) v te = fetch-elements (inr q) a (λ _. p) (λ _ _ y. inv.ending q c p y) v te
   live-fetch (inv.closing q c a b g) v te = fetch-header (inr q) g (λ _ y. inv.closing q c a b y) v te
   live-fetch (inv.finished q c a b f g h r y) v te = fetch-done q h v te

@@ -10,6 +10,7 @@ use lib.ListN.{length}
 use Rattle.geometry.specs.declared.address.Address.{Address}
 use Rattle.geometry.proofs.PickLaws.{pick-t, pick-f}
 use Rattle.geometry.proofs.TestLaws.{neither}
+use Rattle.geometry.proofs.Impossible.{never, clash}
 use Rattle.frame.specs.declared.header.Header.{Header}
 use Rattle.drive.specs.Command.{commandCode, commandAddress}
 use Rattle.drive.specs.Conduct.{Drive, Means, AtRest, empty, stopped}
@@ -27,25 +28,27 @@ use Rattle.recording.specs.Reply.{caseOf, answeredOf, repeatedOf, completedBy, 
 use Rattle.recording.specs.declared.session.Recording.{Recording}
 use Rattle.recording.specs.declared.session.Stage.{Stage}
 use Rattle.recording.specs.declared.session.Stage.the-variants as S
-use Rattle.recording.proofs.Stages.{HeaderStage, ElementStage}
+use Rattle.recording.proofs.Stages.{HeaderStage, ElementStage, header-not-element}
 use Rattle.recording.proofs.ReplyView.{isBusy}
 use Rattle.recording.proofs.Kept.{heldOf}
 use Rattle.archive.specs.Recordings as recordings
 use Rattle.archive.specs.Recordings.{World, Flight, afterReply}
 use Rattle.archive.specs.Demand.{Within}
+use Rattle.archive.proofs.Basics.{none-sent}
 use Rattle.archive.proofs.Scan.{Seen}
 use Rattle.archive.proofs.Stands.{itemAt, Queue, StoredAs}
 use Rattle.archive.proofs.HeaderCopies.{Carried, Copy, Below}
 use Rattle.archive.proofs.CopiesLink as copies
 use Rattle.archive.proofs.CopiesLink.{CopyAsks, CopyAnswered, Copying, CopiesAgree}
-use Rattle.archive.proofs.CopiesMoves.{clash, answered-safe}
+use Rattle.archive.proofs.CopiesMoves.{answered-safe}
 use Rattle.archive.proofs.CopiesReplies as next
 use Rattle.archive.proofs.CopiesReplies.{copy-higher, Next, taken-next, located-next, counted-next, failed-next}
 use Rattle.archive.proofs.ElementsLink as elements
 use Rattle.archive.proofs.Accepts.{settled-cases}
-use Rattle.archive.proofs.Closes.{apart, eod-live}
+use Rattle.archive.proofs.Closes.{eod-live}
 use Rattle.archive.proofs.Invariant as inv
 use Rattle.archive.proofs.Invariant.{totalOf, spareOf, Counted, Course, Content, Live, Safe, Over, Inv, live, rejecting, over}
+use Rattle.archive.proofs.InvariantLaws.{unreported}
 use Rattle.archive.proofs.Claim.{Setting}
 
 -- ---- which case a reply is
@@ -70,36 +73,14 @@ record Sized : Type 0 where
   top : ℕ
   els : Elements
 
-pub none-sent : {X : Type 0} {c : Command} {f : List ℕ} → _≡_ {A = Flight} recordings.none (recordings.sent c f) → X
-none-sent e = let z : _≡_ {A = ℕ} 0 1 = cc in absurd (omega arith)
-
 module _ {last pass : ℕ} {premises : Type 0} (w : World) (r : Reply) (set : Setting last pass) (wr : Within last (w .drive .written)) (l : Live last pass premises w) where
   abbrev After : Result → Type 0
   After x = Inv last pass premises (repliedWorld w (x .session))
 
-  pub unreported : (w .session .stage ≡ S.Done → ⊥) → w .reported ≡ false
-  unreported n = go (w .reported) refl
-    where
-      go : (b : Bool) → w .reported ≡ b → w .reported ≡ false
-      go true e = absurd (n (l .reported e))
-      go false e = e
-
   pub ends-so : (n : ℕ) → (w .session .stage ≡ S.Done → ⊥) → Safe last (w .drive) → After (ending (w .session) n)
-  ends-so n d safe = over wr (record { ended = refl; none = refl; safe = safe; unreported = unreported d })
+  ends-so n d safe = over wr (record { ended = refl; none = refl; safe = safe; unreported = unreported l d })
 
   module _ (st : HeaderStage (w .session)) (again : w .session .again ≡ false) (asked : w .session .awaiting ≡ true) where
-    not-done : w .session .stage ≡ S.Done → ⊥
-    not-done q = ⊎-elim (λ x. apart (cc)) (λ x. apart (cc)) st
-
-    no-elements : {X : Type 0} → ElementStage (w .session) → X
-    no-elements el = go st el
-      where
-        go : {X : Type 0} → HeaderStage (w .session) → ElementStage (w .session) → X
-        go (inl a) (inl b) = apart (cc)
-        go (inl a) (inr b) = apart (cc)
-        go (inr a) (inl b) = apart (cc)
-        go (inr a) (inr b) = apart (cc)
-
     sized-same : (v : Recording) → v .highest ≡ w .session .highest → v .elements ≡ w .session .elements → _≡_ {A = Sized} (record { top = v .highest; els = v .elements }) (record { top = w .session .highest; els = w .session .elements })
     sized-same v high els = ap (λ (n : ℕ). record { top = n; els = v .elements }) high ∙ ap (λ (x : Elements). record { top = w .session .highest; els = x }) els
 
@@ -134,14 +115,14 @@ module _ {last pass : ℕ} {premises : Type 0} (w : World) (r : Reply) (set : Se
             seen = subst (λ (x : Stage). Seen last pass (w .accepted) (totalOf x (length (w .accepted))) (l .k) (l .edge) (w .drive .tape)) (sym stage) (c .seen);
             below = subst (λ (x : Header). Below last x (w .drive .tape)) (sym head) (c .below);
             stored = subst (λ (p : Sized). (i : ℕ) → i < p .els .pending → StoredAs (itemAt (w .accepted) (p .els .first .0 + i)) (w .window) (p .els .marks) (p .top + 1) (p .els .first .0 + i)) (sym (sized-same v high els)) (c .stored);
-            queue = λ el _. no-elements (⊎-elim (λ q. inl (sym stage ∙ q)) (λ q. inr (sym stage ∙ q)) el);
+            queue = λ el _. header-not-element (w .session) st (⊎-elim (λ q. inl (sym stage ∙ q)) (λ q. inr (sym stage ∙ q)) el);
             sent = λ _ _ _ z. none-sent z;
           };
     }
 
   -- ---- the opening headers
 
-  module _ (q : w .session .stage ≡ S.OpeningHeaders) (t : inv.Untouched (w .session .elements)) (k0 : l .k ≡ 0) (e0 : l .edge ≡ 10) (again : w .session .again ≡ false) (asked : w .session .awaiting ≡ true) where
+  module _ (q : w .session .stage ≡ S.OpeningHeaders) (t : inv.Unstarted last (w .session .elements) (l .k) (l .edge)) (again : w .session .again ≡ false) (asked : w .session .awaiting ≡ true) where
     abbrev opened : Recording
     opened = withStage (answeredOf (w .session)) S.Elements
 
@@ -163,14 +144,14 @@ module _ {last pass : ℕ} {premises : Type 0} (w : World) (r : Reply) (set : Se
           carried = subst (λ (n : ℕ). Carried last pass n (w .session .copies .header)) (ap spareOf q) (l .carried);
           course = inv.writing refl (elements.to-locate refl again (t .relocates) (record {
             none-out = t .none-out;
-            first-is = t .first-is ∙ sym k0;
+            first-is = t .first-is;
             rests = rests;
-            roof = omega (arith, set .large);
-            zone = inl (omega arith);
-            spread = omega arith;
-            edge-is = e0 ∙ sym (t .target-is);
+            roof = omega (arith, t .roof);
+            zone = ⊎-elim (λ z. inl (omega arith)) (λ z. inr (omega arith)) (t .zone);
+            spread = omega (arith, t .spread);
+            edge-is = sym (t .target-is);
           }));
-          reported = λ e. apart (let z = l .reported e in cc);
+          reported = λ e. never (let z = l .reported e in cc);
           content = λ p u.
               let x = l .content p u in
               record {
@@ -185,13 +166,13 @@ module _ {last pass : ℕ} {premises : Type 0} (w : World) (r : Reply) (set : Se
 
     opening-next : {s : copying.Said} → Next (w .session .copies .header) (w .drive) s → Safe last (w .drive) → After (headerReplyBy s (w .session))
     opening-next (next.at-place c e n p x) safe =
-        live wr (more-live (inl q) again asked (withCopies (answeredOf (w .session)) c) (l .going) refl refl refl e (inv.opening q t k0 e0 (record { counts = n; placed = p; copying = copies.at-place refl again x })))
+        live wr (more-live (inl q) again asked (withCopies (answeredOf (w .session)) c) (l .going) refl refl refl e (inv.opening q t (record { counts = n; placed = p; copying = copies.at-place refl again x })))
     opening-next (next.to-seek c e n p x) safe =
-        live wr (more-live (inl q) again asked (withCopies (answeredOf (w .session)) c) (l .going) refl refl refl e (inv.opening q t k0 e0 (record { counts = n; placed = p; copying = copies.to-seek refl again x })))
+        live wr (more-live (inl q) again asked (withCopies (answeredOf (w .session)) c) (l .going) refl refl refl e (inv.opening q t (record { counts = n; placed = p; copying = copies.to-seek refl again x })))
     opening-next (next.through rests copy) safe =
         subst (λ (x : Stage). Inv last pass premises (repliedWorld w (settledOf (completedBy x (answeredOf (w .session)))))) (sym q)
-        (settled-cases opened (λ (v : Recording). Inv last pass premises (repliedWorld w v)) (λ _. live wr (opened-live rests)) (λ a b c. live wr (eod-live (repliedWorld w opened) (opened-live rests) a b c)) (λ a _. apart (cc)))
-    opening-next (next.ends n) safe = ends-so n (λ z. apart (cc)) safe
+        (settled-cases opened (λ (v : Recording). Inv last pass premises (repliedWorld w v)) (λ _. live wr (opened-live rests)) (λ a b c. live wr (eod-live (repliedWorld w opened) (opened-live rests) a b c)) (λ a _. never (cc)))
+    opening-next (next.ends n) safe = ends-so n (λ z. never (cc)) safe
 
   -- ---- the closing headers
 
@@ -218,7 +199,7 @@ module _ {last pass : ℕ} {premises : Type 0} (w : World) (r : Reply) (set : Se
                 seen = subst (λ (n : ℕ). Seen last pass (w .accepted) n (l .k) (l .edge) (w .drive .tape)) same (x .seen);
                 below = x .below;
                 stored = x .stored;
-                queue = λ el _. ⊎-elim (λ z. apart (cc)) (λ z. apart (cc)) el;
+                queue = λ el _. ⊎-elim (λ z. never (cc)) (λ z. never (cc)) el;
                 sent = λ _ _ _ z. none-sent z;
               };
         }
@@ -230,8 +211,8 @@ module _ {last pass : ℕ} {premises : Type 0} (w : World) (r : Reply) (set : Se
         live wr (more-live (inr q) again asked (withCopies (answeredOf (w .session)) c) (l .going) refl refl refl e (inv.closing q closed k0 e0 (record { counts = n; placed = p; copying = copies.to-seek refl again x })))
     closing-next (next.through rests copy) safe =
         subst (λ (x : Stage). Inv last pass premises (repliedWorld w (settledOf (completedBy x (answeredOf (w .session)))))) (sym q)
-        (settled-cases done (λ (v : Recording). Inv last pass premises (repliedWorld w v)) (λ _. live wr (done-live rests copy)) (λ a _ _. apart (cc)) (λ a _. apart (cc)))
-    closing-next (next.ends n) safe = ends-so n (λ z. apart (cc)) safe
+        (settled-cases done (λ (v : Recording). Inv last pass premises (repliedWorld w v)) (λ _. live wr (done-live rests copy)) (λ a _ _. never (cc)) (λ a _. never (cc)))
+    closing-next (next.ends n) safe = ends-so n (λ z. never (cc)) safe
 
   -- ---- by what the drive gave
 
@@ -264,10 +245,10 @@ module _ {last pass : ℕ} {premises : Type 0} (w : World) (r : Reply) (set : Se
         by 0x2B01 (case-is (w .session) r (l .going) asked e m) refl refl (located-next (w .session .copies) (w .drive) (agree .counts) (agree .placed) x none-left (at ∙ p)) (answered-safe {r = r} (agree .counts) (copies.moved a m p none-left f at x))
     header-replies c e (copies.waits k m x) = busy-by m e x
 
-  pub opening-replies : (q : w .session .stage ≡ S.OpeningHeaders) → inv.Untouched (w .session .elements) → l .k ≡ 0 → l .edge ≡ 10 → CopiesAgree (w .session) (w .drive) (w .flight) → Copying (w .session) (w .drive) (recordings.answered r) → After (replyOf (w .session) r)
-  opening-replies q t k0 e0 agree (copies.replied _ a g x) =
-      header-replies (inl q) g a agree (λ _ y safe. opening-next q t k0 e0 g a y safe)
-      (λ y. live wr (more-live (inl q) g a (repeatedOf (w .session)) (l .going) refl refl refl refl (inv.opening q t k0 e0 (record { counts = agree .counts; placed = agree .placed; copying = copies.again refl refl y }))))
+  pub opening-replies : (q : w .session .stage ≡ S.OpeningHeaders) → inv.Unstarted last (w .session .elements) (l .k) (l .edge) → CopiesAgree (w .session) (w .drive) (w .flight) → Copying (w .session) (w .drive) (recordings.answered r) → After (replyOf (w .session) r)
+  opening-replies q t agree (copies.replied _ a g x) =
+      header-replies (inl q) g a agree (λ _ y safe. opening-next q t g a y safe)
+      (λ y. live wr (more-live (inl q) g a (repeatedOf (w .session)) (l .going) refl refl refl refl (inv.opening q t (record { counts = agree .counts; placed = agree .placed; copying = copies.again refl refl y }))))
       (w .session .command) refl x
 
   pub closing-replies : (q : w .session .stage ≡ S.ClosingHeaders) → w .session .closed ≡ true → l .k ≡ length (w .accepted) + 1 → l .edge ≡ last + 1 → CopiesAgree (w .session) (w .drive) (w .flight) → Copying (w .session) (w .drive) (recordings.answered r) → After (replyOf (w .session) r)

@@ -7,6 +7,7 @@ use mathlib.Core.Logic.{_⊎_}
 use lib.ListN.{length}
 use Rattle.geometry.specs.Cartridge.{isUser, isHeader}
 use Rattle.geometry.specs.declared.address.Address.{Address}
+use Rattle.geometry.proofs.Impossible.{never}
 use Rattle.drive.specs.Conduct.{Drive, Listed, AtRest}
 use Rattle.drive.specs.Senses.{meaningOf}
 use Rattle.drive.specs.Tape.{Tape, Cartridge}
@@ -54,17 +55,23 @@ pub record Counted (last n : ℕ) (s : Recording) : Type 0 where
   pub marks : length (s .elements .marks) ≡ 64
   pub room : s .elements .limit .0 ≤ last + 1
 
--- before LOCATE 10
-pub record Untouched (e : Elements) : Type 0 where
-  pub first-is : e .first .0 ≡ 0
-  pub none-out : e .outstanding ≡ 0
-  pub relocates : e .relocate ≡ true
-  pub target-is : e .target .0 ≡ 10
+-- before the first LOCATE of the elements, which are to start from a number and an address: 0 and 10 in a fresh recording
+pub record StartsFrom (last : ℕ) (first outstanding : ℕ) (relocate : Bool) (target : ℕ) (k edge : ℕ) : Type 0 where
+  pub first-is : first ≡ k
+  pub none-out : outstanding ≡ 0
+  pub relocates : relocate ≡ true
+  pub target-is : target ≡ edge
+  pub roof : edge ≤ last
+  pub zone : (edge ≤ 2990) ⊎ (3000 ≤ edge)
+  pub spread : k + 10 ≤ edge
+
+abbrev pub Unstarted : ℕ → Elements → ℕ → ℕ → Type 0
+Unstarted last e k edge = StartsFrom last (e .first .0) (e .outstanding) (e .relocate) (e .target .0) k edge
 
 -- ---- the session and the drive, by stage
 
 pub data Course (last : ℕ) (w : World) (k edge : ℕ) : Type 0 where
-  opening : w .session .stage ≡ S.OpeningHeaders → Untouched (w .session .elements) → k ≡ 0 → edge ≡ 10
+  opening : w .session .stage ≡ S.OpeningHeaders → Unstarted last (w .session .elements) k edge
       → CopiesAgree (w .session) (w .drive) (w .flight) → Course last w k edge
   writing : w .session .stage ≡ S.Elements → Writing last (w .session) (w .drive) k edge (w .flight) → Course last w k edge
   ending : w .session .stage ≡ S.Eod → w .session .closed ≡ true → w .session .elements .pending ≡ 1

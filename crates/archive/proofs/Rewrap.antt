@@ -7,6 +7,7 @@ use mathlib.Core.Logic.{_⊎_, inl, inr, ⊎-elim}
 use native.Mathlib.Omega.{arith}
 use lib.ListN.{length}
 use Rattle.geometry.specs.declared.address.Address.{Address}
+use Rattle.geometry.proofs.Impossible.{clash}
 use Rattle.drive.specs.Conduct.{Drive, AtRest, empty, stopped}
 use Rattle.drive.specs.declared.command.Command.{Command}
 use Rattle.drive.specs.declared.command.Command.the-variants.{Write, Locate, ReadPosition}
@@ -22,7 +23,6 @@ use Rattle.archive.proofs.CopiesLink as copies
 use Rattle.archive.proofs.CopiesLink.{CopyLink, CopySeek, CopyAsks, CopyAnswered, HeaderSent, Copying, CopiesAgree}
 use Rattle.archive.proofs.ElementsLink as elements
 use Rattle.archive.proofs.ElementsLink.{Linked, Moving, Asks, Answered, Writing}
-use Rattle.archive.proofs.CopiesMoves.{clash}
 
 -- ---- header copies
 
