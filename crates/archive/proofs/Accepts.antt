@@ -1,52 +1,46 @@
 -- Accepting and close keep the invariant. Assumes nothing.
 use Prim.Native.Nat.{ℕ, suc, _+_, _-_, _*_, _/_, _%_, _^_, _≤_, _<_}
 use mathlib.Core.Path.{_≡_, refl, sym, ap, subst, _∙_}
-use mathlib.Core.Bool.{Bool, true, false, _&&_, _||_, true≢false}
+use mathlib.Core.Bool.{Bool, true, false, _&&_}
 use mathlib.Core.List.{List, [], _∷_, _++_}
 use mathlib.Core.Logic.{_⊎_, inl, inr, ⊎-elim}
 use native.Mathlib.Decide.{decLe}
-use native.Mathlib.Nat.{le-refl, eq-or-lt-of-le, div-add-mod', mul-le-mul-right, mod-eq-of-lt}
+use native.Mathlib.Nat.{eq-or-lt-of-le, div-add-mod', mul-le-mul-right, mod-eq-of-lt}
 use native.Mathlib.Omega.{arith}
 use borrow.Author.Tests.{ltb-true, ltb-false, eqb-true}
 use lib.Dec.{eqb, ltb}
-use lib.ListN.{length, getD, set, length-append, length-set}
+use lib.ListN.{length, set, length-append, length-set}
 use lib.Seq.{getD-at}
-use Rattle.geometry.specs.Pick.{pick}
 use Rattle.geometry.proofs.PickLaws.{pick-by}
 use Rattle.geometry.proofs.TestLaws.{or-false, and-true}
 use Rattle.geometry.proofs.Impossible.{never, clash}
 use Rattle.buffer.specs.Bytes.{agree}
 use Rattle.buffer.proofs.Agreement.{agree-is}
-use Rattle.drive.specs.Conduct.{Drive, Listed}
+use Rattle.drive.specs.Conduct.{Listed}
 use Rattle.drive.specs.Senses.{meaningOf}
-use Rattle.drive.specs.Tape.{Tape}
-use Rattle.drive.specs.declared.reply.Reply.{Reply}
 use Rattle.elements.specs.Elements as elements
 use Rattle.elements.specs.declared.state.Elements.{Elements}
 use Rattle.elements.proofs.AcceptLaws.{mark-kept, accepted-new}
 use Rattle.recording.specs.Accept.{acceptsNone, isFull, withElement, filemarkOf, placeOf, Stored, blockOf, closedOf, closeOf}
-use Rattle.recording.specs.Session.{Result, windowOf, windowLength, accepting, refusing, withElements, withStage, eodDue, closingStarted, settledBy, settledOf}
+use Rattle.recording.specs.Session.{Result, windowOf, windowLength, accepting, eodDue, closingStarted, settledBy, settledOf}
 use Rattle.recording.specs.Window.{blockAt, putBlock}
 use Rattle.recording.specs.declared.session.Recording.{Recording}
 use Rattle.recording.specs.declared.session.Stage.{Stage}
 use Rattle.recording.specs.declared.session.Stage.the-variants as S
 use Rattle.recording.proofs.BlockPlace.{place-inside}
 use Rattle.recording.proofs.Stages.{HeaderStage, ElementStage}
-use Rattle.recording.proofs.Kept.{Held, heldOf}
-use Rattle.archive.specs.Recordings as recordings
-use Rattle.archive.specs.Recordings.{World, Element, block, filemark, TakesEffect, withSession, afterBlock, afterFilemark}
-use Rattle.archive.specs.Demand.{Within}
+use Rattle.archive.specs.Recordings.{World, Element, block, filemark, TakesEffect, afterBlock, afterFilemark}
 use Rattle.archive.proofs.Basics.{no-effect}
 use Rattle.archive.proofs.WindowLaws.{put-same-block, put-other-block}
 use Rattle.archive.proofs.Scan.{Seen}
-use Rattle.archive.proofs.SeenLaws.{seen-accept, seen-eod}
+use Rattle.archive.proofs.SeenLaws.{seen-accept}
 use Rattle.archive.proofs.Stands.{Item, element, eod, itemAt, Stands, Queue, StoredAs}
-use Rattle.archive.proofs.StandsLaws.{item-in, item-past, item-more}
+use Rattle.archive.proofs.StandsLaws.{item-in, item-more}
 use Rattle.archive.proofs.ElementsLink.{Writing}
-use Rattle.archive.proofs.Rewrap.{agree-as, writing-as, Numbers, writing-numbers, sent-due}
+use Rattle.archive.proofs.KeptAgreement.{agree-as, writing-as, writing-numbers, sent-due}
 use Rattle.archive.proofs.Invariant as inv
-use Rattle.archive.proofs.Invariant.{totalOf, spareOf, Counted, Course, Content, Live, Rejecting, Inv, live, rejecting, over}
-use Rattle.archive.proofs.Claim.{Setting}
+use Rattle.archive.proofs.Invariant.{totalOf, Counted, Course, Content, Live, Rejecting, Inv, live, rejecting, over}
+use Rattle.archive.proofs.Setting.{Setting}
 
 -- ---- calls that take effect
 

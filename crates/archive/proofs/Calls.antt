@@ -1,38 +1,18 @@
--- Every call keeps the invariant, and so demand 3 holds. Assumes nothing.
-use Prim.Native.Nat.{ℕ, _+_, _*_, _≤_, _<_}
-use mathlib.Core.Path.{_≡_, refl, sym, ap, subst, _∙_}
-use mathlib.Core.Bool.{Bool, true, false, _||_}
-use mathlib.Core.List.{List}
-use mathlib.Core.Logic.{_⊎_, inl, inr, ⊎-elim}
+-- Every call keeps the invariant. Assumes nothing.
+use Prim.Native.Nat.{ℕ, _≤_}
+use mathlib.Core.Path.{_≡_, refl, sym, subst, _∙_}
+use mathlib.Core.Bool.{true}
+use mathlib.Core.Logic.{inl, inr}
 use native.Mathlib.Omega.{arith}
-use borrow.Author.Tests.{ne-eqb}
-use lib.Dec.{eqb}
-use Rattle.geometry.proofs.PickLaws.{pick-f}
-use Rattle.geometry.proofs.TestLaws.{neither}
-use Rattle.geometry.specs.declared.address.Address.{Address}
-use Rattle.drive.specs.Command.{commandCode}
-use Rattle.drive.specs.Conduct as conduct
-use Rattle.drive.specs.Conduct.{Listed}
-use Rattle.drive.specs.Senses.{meaningOf, volumeOverflow, endOfMedium}
-use Rattle.drive.specs.declared.command.Command.{Command}
-use Rattle.drive.specs.declared.command.Command.the-variants.{Read, Write, Locate, ReadPosition}
 use Rattle.drive.specs.declared.reply.Reply.{Reply}
-use Rattle.copies.specs.Copies as copying
-use Rattle.elements.specs.Answer as answer
-use Rattle.recording.specs.Session.{Result}
 use Rattle.recording.specs.Fetch as fetch
 use Rattle.recording.specs.Fetch.{Said, fetchOf}
-use Rattle.recording.specs.Reply.{caseOf, elementStep, replyOf}
+use Rattle.recording.specs.Reply.{replyOf}
 use Rattle.recording.specs.declared.session.Recording.{Recording}
-use Rattle.recording.specs.declared.session.Stage.the-variants as S
-use Rattle.recording.proofs.Stages.{HeaderStage, ElementStage}
 use Rattle.recording.proofs.ListedReplies.{unlisted-refused}
 use Rattle.recording.proofs.Refusals.{refused-block, refused-filemark, refused-close, refused-fetch, refused-reply}
-use Rattle.recording.proofs.ReplyView as view
-use Rattle.recording.proofs.ReplyView.{Busy, ReplyView, reply-view, copiesSaid, stepOf}
-use Rattle.reading.proofs.Cases.{meaning-bound}
 use Rattle.archive.specs.Recordings as recordings
-use Rattle.archive.specs.Recordings.{World, Flight, TakesEffect, afterReply}
+use Rattle.archive.specs.Recordings.{World, TakesEffect, afterReply}
 use Rattle.archive.specs.Demand.{Within, Demand3}
 use Rattle.archive.proofs.Basics.{none-answered, answered-same}
 use Rattle.archive.proofs.CopiesLink.{Copying}
@@ -40,15 +20,15 @@ use Rattle.archive.proofs.ElementsLink.{Writing}
 use Rattle.archive.proofs.Accepts.{keeps-filemark, keeps-block}
 use Rattle.archive.proofs.Closes.{keeps-close}
 use Rattle.archive.proofs.Fetches.{keeps-fetch}
-use Rattle.archive.proofs.HeaderReplies.{repliedWorld, opening-replies, closing-replies}
+use Rattle.archive.proofs.HeaderReplies.{opening-replies, closing-replies}
 use Rattle.archive.proofs.ElementReplies.{writing, ending-one, elements-reply}
 use Rattle.archive.proofs.ReadingSteps.{read-begins, read-keeps-move, read-keeps-call, read-faithful}
 use Rattle.archive.proofs.Completion.{completes, opens}
-use Rattle.archive.proofs.Beginning.{sets, begins}
+use Rattle.archive.proofs.Start.{sets, begins}
 use Rattle.archive.proofs.DriveMoves.{keeps-move}
 use Rattle.archive.proofs.Invariant as inv
-use Rattle.archive.proofs.Invariant.{Course, Live, Rejecting, Over, Inv, live, rejecting, over}
-use Rattle.archive.proofs.Claim.{Setting, KeepsCall, demand3}
+use Rattle.archive.proofs.Invariant.{Course, Live, Rejecting, Inv, live, rejecting, over}
+use Rattle.archive.proofs.Setting.{Setting}
 
 -- ---- a reply that is not listed
 
@@ -89,18 +69,11 @@ same-session s (recordings.fetch window frame) l h = go (fetchOf s window frame 
     go (fetch.refused n) e l h = refused-fetch s n window frame e .unchanged l h
 same-session s (recordings.reply r) l h = refused-reply s r .unchanged l h
 
-pub keeps-call : KeepsCall
-keeps-call last pass premises w v c set i (recordings.refuses _ l h) =
+pub keeps-call : {last pass : ℕ} {premises : Type 0} (w v : World) (c : recordings.Call) → Setting last pass → Inv last pass premises w → recordings.Calls w c v → Inv last pass premises v
+keeps-call {last} {pass} {premises} w v c set i (recordings.refuses _ l h) =
     subst (λ (s : Recording). Inv last pass premises (recordings.withSession w s)) (sym (same-session (w .session) c l h)) i
-keeps-call last pass premises w v c set i (recordings.accepts-block b lent te) = keeps-block w b lent set i te
-keeps-call last pass premises w v c set i (recordings.accepts-filemark te) = keeps-filemark w set i te
-keeps-call last pass premises w v c set i (recordings.closes te) = keeps-close w i te
-keeps-call last pass premises w v c set i (recordings.fetches lent frame te) = keeps-fetch w lent frame set i te
-keeps-call last pass premises w v c set i (recordings.replies r q te) = keeps-reply w r set i q te
-
--- ---- the whole
-
-pub claim : Demand3
-claim =
-    demand3 sets begins keeps-call keeps-move completes opens (λ last pass t xs at k. read-begins k at) (λ last pass t xs w v c k i x. read-keeps-call k w v c i x) (λ last pass t xs w v k i x. read-keeps-move k w v i x)
-    (λ last pass t xs w k i. read-faithful k w i)
+keeps-call w v c set i (recordings.accepts-block b lent te) = keeps-block w b lent set i te
+keeps-call w v c set i (recordings.accepts-filemark te) = keeps-filemark w set i te
+keeps-call w v c set i (recordings.closes te) = keeps-close w i te
+keeps-call w v c set i (recordings.fetches lent frame te) = keeps-fetch w lent frame set i te
+keeps-call w v c set i (recordings.replies r q te) = keeps-reply w r set i q te

@@ -1,12 +1,12 @@
 -- Close keeps the invariant, and so does EOD's becoming due. Assumes nothing.
-use Prim.Native.Nat.{ℕ, _+_, _%_, _^_, _≤_, _<_}
+use Prim.Native.Nat.{ℕ, _+_, _%_, _^_, _<_}
 use mathlib.Core.Path.{_≡_, refl, sym, ap, subst, _∙_}
 use mathlib.Core.Bool.{Bool, true, false}
-use mathlib.Core.List.{List, []}
-use mathlib.Core.Logic.{_⊎_, inl, inr, ⊎-elim}
+use mathlib.Core.List.{List}
+use mathlib.Core.Logic.{inl, inr}
 use native.Mathlib.Omega.{arith}
 use lib.ListN.{length, length-set}
-use Rattle.drive.specs.Conduct.{Drive, Listed}
+use Rattle.drive.specs.Conduct.{Listed}
 use Rattle.drive.specs.Senses.{meaningOf}
 use Rattle.elements.specs.Elements as elements
 use Rattle.recording.specs.Accept.{closedOf, closeOf}
@@ -14,19 +14,17 @@ use Rattle.recording.specs.Session.{Result, windowOf, eodDue, closingStarted, s
 use Rattle.recording.specs.declared.session.Recording.{Recording}
 use Rattle.recording.specs.declared.session.Stage.{Stage}
 use Rattle.recording.specs.declared.session.Stage.the-variants as S
-use Rattle.recording.proofs.Stages.{HeaderStage, ElementStage}
-use Rattle.archive.specs.Recordings as recordings
+use Rattle.recording.proofs.Stages.{ElementStage}
 use Rattle.archive.specs.Recordings.{World, TakesEffect, withSession}
 use Rattle.archive.proofs.Scan.{Seen}
 use Rattle.archive.proofs.SeenLaws.{seen-eod}
-use Rattle.archive.proofs.Stands.{Item, eod, itemAt, StoredAs}
+use Rattle.archive.proofs.Stands.{Item, itemAt, StoredAs}
 use Rattle.archive.proofs.StandsLaws.{item-past}
 use Rattle.archive.proofs.HeaderCopies.{Carried}
-use Rattle.archive.proofs.Rewrap.{agree-as, writing-as}
+use Rattle.archive.proofs.KeptAgreement.{agree-as, writing-as}
 use Rattle.archive.proofs.Accepts.{close-view, settled-cases}
 use Rattle.archive.proofs.Invariant as inv
-use Rattle.archive.proofs.Invariant.{totalOf, spareOf, Counted, Course, Content, Live, Rejecting, Inv, live, rejecting, over}
-use Rattle.archive.proofs.Claim.{Setting}
+use Rattle.archive.proofs.Invariant.{totalOf, spareOf, Course, Live, Rejecting, Inv, live, rejecting, over}
 use Rattle.geometry.proofs.Impossible.{never, clash}
 
 -- ---- EOD becomes due

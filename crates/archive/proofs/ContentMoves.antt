@@ -1,15 +1,15 @@
 -- What the drive's own writes and failures leave of tape and window. Assumes nothing.
 use Prim.Native.Nat.{ℕ, _+_, _≤_, _<_}
 use mathlib.Core.Path.{_≡_, refl, sym, ap, subst, _∙_}
-use mathlib.Core.Bool.{Bool, true, false, true≢false, _||_}
+use mathlib.Core.Bool.{Bool, true, false, true≢false}
 use mathlib.Core.List.{List, [], _∷_, _++_}
 use mathlib.Core.Logic.{_⊎_, inl, inr, ⊎-elim}
-use mathlib.Core.Option.{Option, none, some}
+use mathlib.Core.Option.{Option, some}
 use native.Mathlib.Decide.{ℕ-discrete}
 use native.Mathlib.Omega.{arith}
 use borrow.Author.Tests.{leb-true}
 use lib.Dec.{leb}
-use lib.ListN.{length, length-append}
+use lib.ListN.{length}
 use Rattle.geometry.specs.Cartridge.{isHeader, isUser}
 use Rattle.geometry.proofs.TestLaws.{and-true, or-true}
 use Rattle.frame.specs.Header.{headerFrame}
@@ -23,8 +23,6 @@ use Rattle.drive.specs.Tape.{Tape, Cartridge, put}
 use Rattle.recording.specs.declared.session.Stage.{Stage}
 use Rattle.recording.specs.declared.session.Stage.the-variants as S
 use Rattle.recording.proofs.Stages.{ElementStage}
-use Rattle.archive.specs.Headers.{HeaderAt}
-use Rattle.archive.specs.Recordings as recordings
 use Rattle.archive.specs.Recordings.{World, Element, withDrive}
 use Rattle.archive.proofs.Basics.{none-some, some-same}
 use Rattle.archive.proofs.Places.{header-not-user}
@@ -33,7 +31,7 @@ use Rattle.archive.proofs.ScanLaws.{put-same, put-other}
 use Rattle.archive.proofs.SeenLaws.{cartridge-put, seen-elsewhere, seen-writes, seen-fails}
 use Rattle.archive.proofs.Stands.{itemAt, Stands, Queue}
 use Rattle.archive.proofs.StandsLaws.{stands-read, stands-long}
-use Rattle.archive.proofs.UserPlaces.{User, user-ranges}
+use Rattle.archive.proofs.UserPlaces.{user-ranges}
 use Rattle.archive.proofs.HeaderCopies.{Below}
 use Rattle.archive.proofs.Invariant.{totalOf, Content}
 

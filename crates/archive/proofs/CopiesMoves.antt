@@ -1,7 +1,7 @@
 -- The drive's own moves and its answers keep what the header copies know of it. Assumes nothing.
 use Prim.Native.Nat.{ℕ, suc, _+_, _-_, _≤_, _<_}
 use mathlib.Core.Path.{_≡_, refl, sym, ap, subst, _∙_}
-use mathlib.Core.Bool.{Bool, true, false, true≢false, _||_}
+use mathlib.Core.Bool.{true, false}
 use mathlib.Core.List.{List, [], _∷_, _++_, nil≢cons, head-eq-of-cons-eq, tail-eq-of-cons-eq}
 use mathlib.Core.Logic.{_⊎_, inl, inr, ⊎-elim}
 use mathlib.Core.Option.{Option, some}
@@ -9,29 +9,27 @@ use native.Mathlib.Nat.{le-refl}
 use native.Mathlib.Omega.{arith}
 use lib.ListN.{length, replicate, length-append, replicate-append-replicate}
 use Rattle.geometry.specs.Cartridge.{isHeader, isUser, headerAddress}
-use Rattle.geometry.specs.declared.address.Address.{Address}
 use Rattle.geometry.proofs.TestLaws.{either-left}
 use Rattle.geometry.proofs.Impossible.{clash}
 use Rattle.frame.specs.Header.{headerFrame}
 use Rattle.frame.specs.Sent.{ReadsAs}
 use Rattle.frame.specs.declared.header.Header.{Header}
 use Rattle.drive.specs.Conduct as conduct
-use Rattle.drive.specs.Conduct.{Drive, Means, Written, wrote, failing, taking, moved, AtRest, empty, stopped}
-use Rattle.drive.specs.Senses.{meaningOf, good, volumeOverflow}
+use Rattle.drive.specs.Conduct.{Drive, Written, wrote, failing, taking, moved, AtRest, empty, stopped}
+use Rattle.drive.specs.Senses.{meaningOf}
 use Rattle.drive.specs.Tape.{Tape, put}
 use Rattle.drive.specs.declared.command.Command.{Command}
-use Rattle.drive.specs.declared.command.Command.the-variants.{Read, Write, Locate, ReadPosition}
+use Rattle.drive.specs.declared.command.Command.the-variants.{Write, Locate, ReadPosition}
 use Rattle.drive.specs.declared.reply.Reply.{Reply}
-use Rattle.copies.specs.Copies.{nextAddress, firstAddress}
+use Rattle.copies.specs.Copies.{nextAddress}
 use Rattle.copies.specs.declared.state.Copies.{Copies}
 use Rattle.copies.proofs.Counts.{CountsOf}
 use Rattle.copies.proofs.HeaderPlaces.{is-header, header-from-first}
 use Rattle.recording.specs.declared.session.Recording.{Recording}
-use Rattle.archive.specs.Recordings as recordings
 use Rattle.archive.specs.Recordings.{Flight}
 use Rattle.archive.proofs.HeaderCopies.{Copy}
 use Rattle.archive.proofs.ScanLaws.{put-same, put-other}
-use Rattle.archive.proofs.CopiesLink.{CopyLink, CopySeek, CopyAsks, writes, asks, seeks, CopyAnswered, taken, counted, failed-write, failed-position, waits, HeaderSent, Copying, at-place, to-seek, again, under-way, replied}
+use Rattle.archive.proofs.CopiesLink.{CopyLink, CopyAsks, writes, asks, seeks, CopyAnswered, taken, counted, failed-write, failed-position, waits, HeaderSent, Copying, at-place, to-seek, again, under-way, replied}
 use Rattle.archive.proofs.CopiesLink as link
 use Rattle.archive.proofs.Invariant.{Safe, halted, allowed}
 

@@ -1,25 +1,23 @@
 -- What a reply leaves of the header copies and the drive. Assumes nothing.
-use Prim.Native.Nat.{ℕ, _+_, _-_, _*_, _%_, _^_, _≤_, _<_}
-use mathlib.Core.Path.{_≡_, refl, sym, ap, subst, _∙_}
+use Prim.Native.Nat.{ℕ, _+_, _-_, _%_, _≤_, _<_}
+use mathlib.Core.Path.{_≡_, refl, sym, ap, _∙_}
 use mathlib.Core.Bool.{Bool, true, false}
-use mathlib.Core.List.{List, [], _∷_}
+use mathlib.Core.List.{[]}
 use mathlib.Core.Logic.{_⊎_, inl, inr, ⊎-elim}
 use native.Mathlib.Omega.{arith}
-use borrow.Author.Tests.{ltb-true, ltb-false, leb-true, leb-false}
+use borrow.Author.Tests.{ltb-false, leb-false}
 use lib.Dec.{eqb, ltb, leb}
 use lib.ListN.{length, replicate}
 use Rattle.geometry.specs.Pick.{pick}
 use Rattle.geometry.specs.Cartridge.{headerAddress}
-use Rattle.geometry.specs.declared.address.Address.{Address}
 use Rattle.geometry.proofs.PickLaws.{pick-by}
 use Rattle.geometry.proofs.Impossible.{clash}
 use Rattle.frame.specs.Header.{headerFrame}
 use Rattle.frame.specs.declared.header.Header.{Header}
-use Rattle.drive.specs.Conduct.{Drive, Means, AtRest, empty, stopped}
+use Rattle.drive.specs.Conduct.{Drive, AtRest, empty, stopped}
 use Rattle.drive.specs.Tape.{Tape}
-use Rattle.drive.specs.declared.reply.Reply.{Reply}
 use Rattle.copies.specs.Copies as copying
-use Rattle.copies.specs.Copies.{nextAddress, oldestAddress, firstAddress, takenOf, locatedOf, confirmedOf, failedAt, nextGroup, onwardOf, positionedOf, failedOf}
+use Rattle.copies.specs.Copies.{nextAddress, oldestAddress, firstAddress, takenOf, locatedOf, confirmedOf, failedAt, nextGroup, positionedOf, failedOf}
 use Rattle.copies.specs.declared.state.Copies.{Copies}
 use Rattle.copies.proofs.AnswerView as view
 use Rattle.copies.proofs.Counts.{CountsOf, taken-counts, taken-exact, confirmed-counts, confirmed-exact, failed-counts}

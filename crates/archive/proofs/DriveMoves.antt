@@ -1,49 +1,46 @@
 -- Every move of the drive keeps the invariant. Assumes nothing.
-use Prim.Native.Nat.{ℕ, suc, _+_, _≤_, _<_}
+use Prim.Native.Nat.{ℕ, suc, _+_, _≤_}
 use mathlib.Core.Path.{_≡_, refl, sym, ap, subst, _∙_}
-use mathlib.Core.Bool.{Bool, true, false, _||_}
-use mathlib.Core.List.{List, [], _∷_, _++_}
-use mathlib.Core.Logic.{_⊎_, inl, inr, ⊎-elim}
+use mathlib.Core.Bool.{true, false, _||_}
+use mathlib.Core.List.{List, _∷_}
+use mathlib.Core.Logic.{inl, inr}
 use mathlib.Core.Option.{Option}
 use native.Mathlib.Omega.{arith}
 use lib.ListN.{length}
 use Rattle.geometry.specs.Cartridge.{isHeader, isUser}
-use Rattle.geometry.specs.declared.address.Address.{Address}
 use Rattle.geometry.proofs.TestLaws.{either-left, either-right}
 use Rattle.geometry.proofs.Impossible.{clash}
 use Rattle.frame.specs.Header.{headerFrame}
 use Rattle.drive.specs.Conduct as conduct
-use Rattle.drive.specs.Conduct.{Drive, Acts, Answers, Left, Written, as-new, wrote, failing, taking, moved}
+use Rattle.drive.specs.Conduct.{Drive, Acts, Answers, Left, Written, as-new, wrote, failing}
 use Rattle.drive.specs.declared.command.Command.{Command}
-use Rattle.drive.specs.declared.command.Command.the-variants.{Write}
 use Rattle.drive.specs.declared.reply.Reply.{Reply}
-use Rattle.recording.specs.declared.session.Stage.{Stage}
 use Rattle.recording.specs.declared.session.Stage.the-variants as S
 use Rattle.recording.proofs.ListedReplies.{OffHeaders}
 use Rattle.recording.proofs.Stages.{HeaderStage, ElementStage, header-not-element, header-not-done, element-not-done}
 use Rattle.recording.proofs.Kept.{heldOf}
 use Rattle.archive.specs.Recordings as recordings
-use Rattle.archive.specs.Recordings.{World, Flight, Moves, withDrive}
+use Rattle.archive.specs.Recordings.{World, Flight, withDrive, Moves}
 use Rattle.archive.specs.Demand.{Within, one-more}
 use Rattle.archive.proofs.Basics.{none-sent, answered-sent}
 use Rattle.archive.proofs.Stands.{itemAt, Stands, Queue}
 use Rattle.drive.specs.Senses.{meaningOf}
 use Rattle.drive.specs.Tape.{Cartridge}
 use Rattle.archive.proofs.Scan.{Seen}
-use Rattle.archive.proofs.HeaderCopies.{Copy, Below}
+use Rattle.archive.proofs.HeaderCopies.{Below}
 use Rattle.archive.proofs.CopiesLink as copies
-use Rattle.archive.proofs.CopiesLink.{CopyAsks, HeaderSent, Copying, CopiesAgree}
+use Rattle.archive.proofs.CopiesLink.{Copying, CopiesAgree}
 use Rattle.archive.proofs.CopiesMoves as copying
 use Rattle.archive.proofs.CopiesMoves.{rests-still, CopyGoes, copying-goes, CopyOutcome, copies-answer}
 use Rattle.archive.proofs.ElementsLink as elements
-use Rattle.archive.proofs.ElementsLink.{Linked, Moving, Asks, Answered, Writing}
+use Rattle.archive.proofs.ElementsLink.{Asks, Answered, Writing}
 use Rattle.archive.proofs.ElementsMoves as writing
 use Rattle.archive.proofs.ElementsMoves.{Goes, writing-goes, Outcome, elements-answer, asks-off-header}
 use Rattle.archive.proofs.ContentMoves.{header-content, element-writes, element-fails, queue-more}
 use Rattle.archive.proofs.Invariant as inv
-use Rattle.archive.proofs.Invariant.{totalOf, Counted, Course, Content, Live, Safe, halted, allowed, Rejecting, Over, Inv, live, rejecting, over}
+use Rattle.archive.proofs.Invariant.{totalOf, Course, Content, Live, Safe, halted, allowed, Inv, live, rejecting, over}
 use Rattle.archive.proofs.InvariantLaws.{unreported}
-use Rattle.archive.proofs.Claim.{Setting, KeepsMove}
+use Rattle.archive.proofs.Setting.{Setting}
 
 -- ---- a drive whose session has ended, or will
 
@@ -233,14 +230,14 @@ module _ {last pass : ℕ} {premises : Type 0} {w : World} (set : Setting last p
 
 -- ---- the whole
 
-pub keeps-move : KeepsMove
-keeps-move last pass premises w v set (live wr l) (recordings.acts d a) = live-acts set wr l (l .course) d a
-keeps-move last pass premises w v set (live wr l) (recordings.answers c frame r d q a) = live-answers set wr l c frame r d q a (l .course)
-keeps-move last pass premises w v set (rejecting wr x) (recordings.acts d a) =
+pub keeps-move : {last pass : ℕ} {premises : Type 0} (w v : World) → Setting last pass → Inv last pass premises w → Moves w v → Inv last pass premises v
+keeps-move w v set (live wr l) (recordings.acts d a) = live-acts set wr l (l .course) d a
+keeps-move w v set (live wr l) (recordings.answers c frame r d q a) = live-answers set wr l c frame r d q a (l .course)
+keeps-move w v set (rejecting wr x) (recordings.acts d a) =
     let s = safe-acts (x .safe) a in
     rejecting (s .1 wr) (record { reply = x .reply; going = x .going; awaits = x .awaits; replied = x .replied; unlisted = x .unlisted; off-headers = x .off-headers; safe = s .0; unreported = x .unreported })
-keeps-move last pass premises w v set (rejecting wr x) (recordings.answers c frame r d q a) = answered-sent (sym (x .replied) ∙ q)
-keeps-move last pass premises w v set (over wr x) (recordings.acts d a) =
+keeps-move w v set (rejecting wr x) (recordings.answers c frame r d q a) = answered-sent (sym (x .replied) ∙ q)
+keeps-move w v set (over wr x) (recordings.acts d a) =
     let s = safe-acts (x .safe) a in
     over (s .1 wr) (record { ended = x .ended; none = x .none; safe = s .0; unreported = x .unreported })
-keeps-move last pass premises w v set (over wr x) (recordings.answers c frame r d q a) = none-sent (sym (x .none) ∙ q)
+keeps-move w v set (over wr x) (recordings.answers c frame r d q a) = none-sent (sym (x .none) ∙ q)

@@ -1,32 +1,29 @@
 -- A reply among the elements keeps the invariant. Assumes nothing.
-use Prim.Native.Nat.{ℕ, _+_, _-_, _*_, _%_, _^_, _≤_, _<_}
+use Prim.Native.Nat.{ℕ, _+_, _-_, _%_, _^_, _≤_, _<_}
 use mathlib.Core.Path.{_≡_, refl, sym, ap, subst, _∙_}
-use mathlib.Core.Bool.{Bool, true, false, _||_}
-use mathlib.Core.List.{List, [], _∷_}
+use mathlib.Core.Bool.{Bool, true, false}
+use mathlib.Core.List.{List}
 use mathlib.Core.Logic.{_⊎_, inl, inr, ⊎-elim}
 use native.Mathlib.Decide.{decLe}
-use native.Mathlib.Nat.{le-refl, mod-eq-of-lt}
+use native.Mathlib.Nat.{mod-eq-of-lt}
 use native.Mathlib.Omega.{arith}
 use lib.Dec.{eqb}
 use lib.ListN.{length}
 use Rattle.geometry.specs.Cartridge.{isUser}
-use Rattle.geometry.specs.declared.address.Address.{Address}
 use Rattle.geometry.proofs.TestLaws.{either-right}
 use Rattle.geometry.proofs.Impossible.{never}
-use Rattle.frame.specs.declared.header.Header.{Header}
 use Rattle.drive.specs.Command.{commandAddress}
-use Rattle.drive.specs.Conduct.{Drive, Means, AtRest}
+use Rattle.drive.specs.Conduct.{Means, AtRest}
 use Rattle.drive.specs.Senses.{busy}
 use Rattle.drive.specs.Tape.{Tape, Cartridge}
 use Rattle.drive.specs.declared.command.Command.{Command}
-use Rattle.drive.specs.declared.command.Command.the-variants.{Write, Locate, ReadPosition}
 use Rattle.drive.specs.declared.reply.Reply.{Reply}
 use Rattle.copies.proofs.Counts.{start-counts}
 use Rattle.copies.proofs.DueAddress.{start-placed}
 use Rattle.elements.specs.Elements as counting
 use Rattle.elements.specs.Answer as answer
 use Rattle.elements.specs.declared.state.Elements.{Elements}
-use Rattle.recording.specs.Session.{Result, windowOf, accepting, ending, withElements, eodDue, closingHeader, closingStarted, settledOf}
+use Rattle.recording.specs.Session.{Result, windowOf, ending, withElements, closingHeader, closingStarted, settledOf}
 use Rattle.recording.specs.Reply.{caseOf, answeredOf, repeatedOf, elementReplyBy, elementStep, elementReply, stageReplyBy, stageReply, replyOf}
 use Rattle.recording.specs.declared.session.Recording.{Recording}
 use Rattle.recording.specs.declared.session.Stage.{Stage}
@@ -43,12 +40,12 @@ use Rattle.archive.proofs.ScanLaws.{scan-over}
 use Rattle.archive.proofs.SeenLaws.{seen-moves}
 use Rattle.archive.proofs.Stands.{itemAt, StoredAs}
 use Rattle.archive.proofs.UserPlaces.{User, user-ranges}
-use Rattle.archive.proofs.HeaderCopies.{Carried, Below}
+use Rattle.archive.proofs.HeaderCopies.{Below}
 use Rattle.archive.proofs.Completion.{copy-update}
 use Rattle.archive.proofs.CopiesLink as copies
 use Rattle.archive.proofs.CopiesMoves.{rests-safe}
 use Rattle.archive.proofs.ElementsLink as elements
-use Rattle.archive.proofs.ElementsLink.{Linked, Moving, Asks, Answered, Writing}
+use Rattle.archive.proofs.ElementsLink.{Asks, Answered, Writing}
 use Rattle.archive.proofs.ElementsMoves.{link-safe}
 use Rattle.archive.proofs.ElementSteps as steps
 use Rattle.archive.proofs.ElementSteps.{Step, Reached, taken-step, filled-step, moved-step, counted-step, failed-step}
@@ -58,7 +55,7 @@ use Rattle.archive.proofs.Closes.{eod-live}
 use Rattle.archive.proofs.HeaderReplies.{case-is, reply-so, reply-busy, repliedWorld, ends-so}
 use Rattle.archive.proofs.Invariant as inv
 use Rattle.archive.proofs.Invariant.{totalOf, spareOf, Counted, Course, Content, Live, Safe, Inv, live}
-use Rattle.archive.proofs.Claim.{Setting}
+use Rattle.archive.proofs.Setting.{Setting}
 
 -- nothing of the user's is above LAST
 seen-top : {last pass total k edge : ℕ} {xs : List Element} {t : Tape} → 3000 ≤ last → Cartridge last t → last + 1 ≤ edge → Seen last pass xs total k edge t → Seen last pass xs total k (last + 1) t

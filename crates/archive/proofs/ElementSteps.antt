@@ -1,18 +1,17 @@
 -- What a reply leaves of the elements and the drive. Assumes nothing.
-use Prim.Native.Nat.{ℕ, _+_, _-_, _*_, _%_, _^_, _≤_, _<_}
-use mathlib.Core.Path.{_≡_, refl, sym, ap, subst, _∙_}
+use Prim.Native.Nat.{ℕ, _+_, _-_, _%_, _^_, _≤_, _<_}
+use mathlib.Core.Path.{_≡_, refl, sym, ap, _∙_}
 use mathlib.Core.Bool.{Bool, true, false}
-use mathlib.Core.List.{List, [], _∷_}
+use mathlib.Core.List.{[]}
 use mathlib.Core.Logic.{_⊎_, inl, inr, ⊎-elim}
 use native.Mathlib.Nat.{le-refl, mod-eq-of-lt}
 use native.Mathlib.Omega.{arith}
 use borrow.Author.Tests.{ltb-true, ltb-false, leb-false, eqb-false}
 use lib.Dec.{eqb, ltb, leb}
 use lib.ListN.{length}
-use Rattle.geometry.specs.Pick.{pick}
 use Rattle.geometry.specs.Cartridge.{isUser, pastReserved}
 use Rattle.geometry.specs.Said as said
-use Rattle.geometry.specs.Target.{stepOf, targetOf}
+use Rattle.geometry.specs.Target.{stepOf}
 use Rattle.geometry.specs.declared.address.Address.{Address}
 use Rattle.geometry.proofs.PickLaws.{pick-by}
 use Rattle.drive.specs.Conduct.{Drive, AtRest, empty, stopped}
@@ -24,7 +23,7 @@ use Rattle.elements.specs.declared.state.Elements.{Elements}
 use Rattle.recording.specs.Session.{withElements}
 use Rattle.recording.specs.Reply.{answeredOf}
 use Rattle.recording.specs.declared.session.Recording.{Recording}
-use Rattle.recording.proofs.Kept.{Held, heldOf}
+use Rattle.recording.proofs.Kept.{heldOf}
 use Rattle.reading.proofs.Jump.{past-reserved-least}
 use Rattle.archive.specs.Recordings as recordings
 use Rattle.archive.proofs.Basics.{no-frames}

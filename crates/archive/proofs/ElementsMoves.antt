@@ -1,11 +1,10 @@
 -- The drive's own moves and its answers keep what the elements know of it. Assumes nothing.
-use Prim.Native.Nat.{ℕ, suc, _+_, _-_, _≤_, _<_}
+use Prim.Native.Nat.{ℕ, suc, _+_, _-_, _≤_}
 use mathlib.Core.Path.{_≡_, refl, sym, ap, subst, _∙_}
-use mathlib.Core.Bool.{Bool, true, false, _||_}
+use mathlib.Core.Bool.{Bool, true, false}
 use mathlib.Core.List.{List, [], _∷_, _++_}
 use mathlib.Core.Logic.{_⊎_, inl, inr, ⊎-elim}
 use mathlib.Core.Option.{Option}
-use native.Mathlib.Nat.{le-refl}
 use native.Mathlib.Omega.{arith}
 use lib.ListN.{length, length-append}
 use Rattle.geometry.specs.Cartridge.{isHeader, isUser}
@@ -13,21 +12,20 @@ use Rattle.geometry.specs.declared.address.Address.{Address}
 use Rattle.geometry.proofs.TestLaws.{either-right}
 use Rattle.geometry.proofs.Impossible.{clash}
 use Rattle.drive.specs.Conduct as conduct
-use Rattle.drive.specs.Conduct.{Drive, Means, wrote, failing, taking, moved, empty}
-use Rattle.drive.specs.Senses.{meaningOf, good}
+use Rattle.drive.specs.Conduct.{Drive, wrote, failing, taking, moved, empty}
+use Rattle.drive.specs.Senses.{meaningOf}
 use Rattle.drive.specs.declared.command.Command.{Command}
-use Rattle.drive.specs.declared.command.Command.the-variants.{Read, Write, Locate, ReadPosition}
+use Rattle.drive.specs.declared.command.Command.the-variants.{Write, Locate, ReadPosition}
 use Rattle.drive.specs.declared.reply.Reply.{Reply}
 use Rattle.recording.specs.declared.session.Recording.{Recording}
 use Rattle.recording.proofs.Kept.{Held, heldOf}
-use Rattle.archive.specs.Recordings as recordings
 use Rattle.archive.specs.Recordings.{Flight}
 use Rattle.archive.proofs.Places.{user-not-header}
 use Rattle.archive.proofs.UserPlaces.{ranges-user}
 use Rattle.archive.proofs.CopiesMoves.{rests-still, rests-safe}
 use Rattle.archive.proofs.ElementsLink.{edgeOf, Linked, Moving, Asks, writes, asks, moves, Answered, taken, counted, failed-write, failed-position, filled, waits, Writing, at-place, to-locate, again, under-way, replied}
 use Rattle.archive.proofs.ElementsLink as link
-use Rattle.archive.proofs.Invariant.{Safe, halted, allowed}
+use Rattle.archive.proofs.Invariant.{Safe, allowed}
 
 -- what a step of the drive's own leaves: so many on tape, and the address that it tried
 pub record Goes (last : ℕ) (first pending : ℕ) (d : Drive) (rest : List (List ℕ)) (k edge : ℕ) (A : Drive → ℕ → ℕ → Type 0) : Type 0 where

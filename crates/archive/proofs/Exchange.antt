@@ -1,9 +1,9 @@
 -- One exchange of a recording: a fetch that gives a command, the drive's answer, and its reply. Assumes nothing.
-use Prim.Native.Nat.{ℕ, _≤_}
-use mathlib.Core.Path.{_≡_, refl, sym, ap, subst, _∙_}
+use Prim.Native.Nat.{ℕ}
+use mathlib.Core.Path.{_≡_, refl, ap, subst, _∙_}
 use mathlib.Core.Bool.{Bool, true, false, _&&_, _||_}
-use mathlib.Core.List.{List, [], _∷_}
-use mathlib.Core.Logic.{_⊎_, inl, inr}
+use mathlib.Core.List.{List, _∷_}
+use mathlib.Core.Logic.{inl}
 use lib.ListN.{length}
 use Rattle.buffer.proofs.Agreement.{agree-same}
 use Rattle.buffer.specs.Bytes.{agree}
@@ -15,7 +15,7 @@ use Rattle.recording.specs.Fetch.{Fetching, decisionOf, send, command, awaits, 
 use Rattle.recording.specs.Reply.{replyOf}
 use Rattle.recording.specs.declared.session.Recording.{Recording}
 use Rattle.recording.proofs.FetchView.{fetch-decided}
-use Rattle.archive.specs.Recordings.{Element, Flight, none, sent, answered, World, Call, fetch, reply, fetchNumber, flightAfter, reportedAfter, Calls, fetches, replies, Moves, acts, answers, Runs, call, drive}
+use Rattle.archive.specs.Recordings.{Element, Flight, none, sent, answered, World, Call, fetch, reply, fetchNumber, flightAfter, reportedAfter, Calls, fetches, replies, acts, answers, Runs, call, drive}
 
 module _ (window frame : List ℕ) (framed : length frame ≡ 33280) where
   -- a world in which no command is in flight, or one is

@@ -1,8 +1,8 @@
 -- A fetch keeps the invariant. Assumes nothing.
-use Prim.Native.Nat.{ℕ, _+_, _%_, _^_, _≤_, _<_}
+use Prim.Native.Nat.{ℕ, _+_, _≤_, _<_}
 use mathlib.Core.Path.{_≡_, refl, sym, ap, subst, _∙_}
-use mathlib.Core.Bool.{Bool, true, false, _&&_, true≢false}
-use mathlib.Core.List.{List, [], _∷_}
+use mathlib.Core.Bool.{Bool, true, false, _&&_}
+use mathlib.Core.List.{List}
 use mathlib.Core.Logic.{_⊎_, inl, inr, ⊎-elim}
 use native.Mathlib.Nat.{le-refl}
 use native.Mathlib.Omega.{arith}
@@ -17,23 +17,20 @@ use Rattle.frame.specs.Header.{headerFrame}
 use Rattle.drive.specs.Conduct.{Drive, empty}
 use Rattle.drive.specs.declared.command.Command.{Command}
 use Rattle.drive.specs.declared.command.Command.the-variants.{Read, Write, Locate, ReadPosition}
-use Rattle.drive.specs.declared.reply.Reply.{Reply}
 use Rattle.copies.specs.Copies as copying
-use Rattle.copies.specs.declared.state.Copies.{Copies}
 use Rattle.copies.proofs.CommandView as command
 use Rattle.copies.proofs.DueAddress.{PlacedOf}
 use Rattle.copies.proofs.HeaderPlaces.{header-from-first}
 use Rattle.elements.specs.Elements as counting
 use Rattle.elements.specs.Due as due
 use Rattle.elements.proofs.DueView as rule
-use Rattle.recording.specs.Session.{windowOf, windowLength, endedOf}
-use Rattle.recording.specs.Fetch as fetch
+use Rattle.recording.specs.Session.{windowOf, windowLength}
 use Rattle.recording.specs.Fetch.{Fetching, fetchOf, awaits, frameFor, sending, writtenBy, writtenFrame}
 use Rattle.recording.specs.declared.session.Recording.{Recording}
 use Rattle.recording.specs.declared.session.Stage.{Stage}
 use Rattle.recording.specs.declared.session.Stage.the-variants as S
 use Rattle.recording.proofs.FetchView as view
-use Rattle.recording.proofs.FetchView.{Ready, FetchView, fetch-view}
+use Rattle.recording.proofs.FetchView.{FetchView, fetch-view}
 use Rattle.recording.proofs.Stages.{HeaderStage, ElementStage, header-not-element, header-not-done, element-not-done}
 use Rattle.recording.proofs.Kept.{Held, heldOf}
 use Rattle.archive.specs.Recordings as recordings
@@ -42,19 +39,19 @@ use Rattle.archive.specs.Demand.{Within}
 use Rattle.archive.proofs.Basics.{no-effect, no-frames}
 use Rattle.archive.proofs.Scan.{Seen}
 use Rattle.archive.proofs.SeenLaws.{seen-moves}
-use Rattle.archive.proofs.Stands.{itemAt, Stands, Queue, StoredAs}
+use Rattle.archive.proofs.Stands.{itemAt, Stands, StoredAs}
 use Rattle.archive.proofs.CopiesLink as copies
-use Rattle.archive.proofs.CopiesLink.{CopyLink, CopySeek, CopyAsks, HeaderSent, Copying, CopiesAgree}
+use Rattle.archive.proofs.CopiesLink.{CopyAsks, HeaderSent, Copying, CopiesAgree}
 use Rattle.archive.proofs.CopiesMoves.{rests-safe}
 use Rattle.archive.proofs.ElementsLink as elements
-use Rattle.archive.proofs.ElementsLink.{edgeOf, Linked, Moving, Asks, Answered, Writing}
+use Rattle.archive.proofs.ElementsLink.{edgeOf, Linked, Moving, Asks, Writing}
 use Rattle.archive.proofs.ElementsMoves.{link-safe}
-use Rattle.archive.proofs.Rewrap.{Numbers, writing-numbers}
+use Rattle.archive.proofs.KeptAgreement.{Numbers, writing-numbers}
 use Rattle.archive.proofs.SentFrames.{sent-element, sent-eod}
 use Rattle.archive.proofs.Invariant as inv
-use Rattle.archive.proofs.Invariant.{totalOf, Counted, Course, Content, Live, Safe, Over, Inv, live, rejecting, over}
+use Rattle.archive.proofs.Invariant.{totalOf, Course, Content, Live, Safe, Inv, live, rejecting, over}
 use Rattle.archive.proofs.InvariantLaws.{unreported}
-use Rattle.archive.proofs.Claim.{Setting}
+use Rattle.archive.proofs.Setting.{Setting}
 
 -- ---- the same elements, by another command
 

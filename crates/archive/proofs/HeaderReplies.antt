@@ -1,38 +1,30 @@
 -- A reply in a header stage keeps the invariant. Assumes nothing.
-use Prim.Native.Nat.{ℕ, _+_, _*_, _^_, _≤_, _<_}
+use Prim.Native.Nat.{ℕ, _+_, _*_, _≤_, _<_}
 use mathlib.Core.Path.{_≡_, refl, sym, ap, subst, _∙_}
-use mathlib.Core.Bool.{Bool, true, false, not, _||_}
-use mathlib.Core.List.{List, [], _∷_}
+use mathlib.Core.Bool.{true, false, not}
 use mathlib.Core.Logic.{_⊎_, inl, inr, ⊎-elim}
-use native.Mathlib.Nat.{le-refl}
 use native.Mathlib.Omega.{arith}
 use lib.ListN.{length}
-use Rattle.geometry.specs.declared.address.Address.{Address}
 use Rattle.geometry.proofs.PickLaws.{pick-t, pick-f}
 use Rattle.geometry.proofs.TestLaws.{neither}
 use Rattle.geometry.proofs.Impossible.{never, clash}
 use Rattle.frame.specs.declared.header.Header.{Header}
-use Rattle.drive.specs.Command.{commandCode, commandAddress}
-use Rattle.drive.specs.Conduct.{Drive, Means, AtRest, empty, stopped}
-use Rattle.drive.specs.Senses.{meaningOf, good, busy, writeError}
+use Rattle.drive.specs.Command.{commandCode}
+use Rattle.drive.specs.Conduct.{Means, AtRest, empty, stopped}
+use Rattle.drive.specs.Senses.{meaningOf, busy}
 use Rattle.drive.specs.declared.command.Command.{Command}
-use Rattle.drive.specs.declared.command.Command.the-variants.{Read, Write, Locate, ReadPosition}
 use Rattle.drive.specs.declared.reply.Reply.{Reply}
 use Rattle.copies.specs.Copies as copying
 use Rattle.elements.specs.declared.state.Elements.{Elements}
-use Rattle.copies.specs.declared.state.Copies.{Copies}
-use Rattle.copies.proofs.Counts.{CountsOf}
-use Rattle.copies.proofs.DueAddress.{PlacedOf}
 use Rattle.recording.specs.Session.{Result, accepting, ending, withStage, withCopies, settledOf}
-use Rattle.recording.specs.Reply.{caseOf, answeredOf, repeatedOf, completedBy, completedOf, headerReplyBy, headerReply, stageReplyBy, stageReply, replyOf}
+use Rattle.recording.specs.Reply.{caseOf, answeredOf, repeatedOf, completedBy, headerReplyBy, headerReply, stageReplyBy, stageReply, replyOf}
 use Rattle.recording.specs.declared.session.Recording.{Recording}
 use Rattle.recording.specs.declared.session.Stage.{Stage}
 use Rattle.recording.specs.declared.session.Stage.the-variants as S
-use Rattle.recording.proofs.Stages.{HeaderStage, ElementStage, header-not-element}
+use Rattle.recording.proofs.Stages.{HeaderStage, header-not-element}
 use Rattle.recording.proofs.ReplyView.{isBusy}
-use Rattle.recording.proofs.Kept.{heldOf}
 use Rattle.archive.specs.Recordings as recordings
-use Rattle.archive.specs.Recordings.{World, Flight, afterReply}
+use Rattle.archive.specs.Recordings.{World}
 use Rattle.archive.specs.Demand.{Within}
 use Rattle.archive.proofs.Basics.{none-sent}
 use Rattle.archive.proofs.Scan.{Seen}
@@ -47,9 +39,9 @@ use Rattle.archive.proofs.ElementsLink as elements
 use Rattle.archive.proofs.Accepts.{settled-cases}
 use Rattle.archive.proofs.Closes.{eod-live}
 use Rattle.archive.proofs.Invariant as inv
-use Rattle.archive.proofs.Invariant.{totalOf, spareOf, Counted, Course, Content, Live, Safe, Over, Inv, live, rejecting, over}
+use Rattle.archive.proofs.Invariant.{totalOf, spareOf, Course, Live, Safe, Inv, live, over}
 use Rattle.archive.proofs.InvariantLaws.{unreported}
-use Rattle.archive.proofs.Claim.{Setting}
+use Rattle.archive.proofs.Setting.{Setting}
 
 -- ---- which case a reply is
 

@@ -2,15 +2,14 @@
 use Prim.Native.Nat.{ℕ, _+_, _≤_, _<_}
 use mathlib.Core.Path.{_≡_}
 use mathlib.Core.Bool.{Bool, true, false, _||_}
-use mathlib.Core.List.{List, []}
+use mathlib.Core.List.{List}
 use mathlib.Core.Logic.{_⊎_}
 use lib.ListN.{length}
 use Rattle.geometry.specs.Cartridge.{isUser, isHeader}
 use Rattle.geometry.specs.declared.address.Address.{Address}
-use Rattle.geometry.proofs.Impossible.{never}
 use Rattle.drive.specs.Conduct.{Drive, Listed, AtRest}
 use Rattle.drive.specs.Senses.{meaningOf}
-use Rattle.drive.specs.Tape.{Tape, Cartridge}
+use Rattle.drive.specs.Tape.{Cartridge}
 use Rattle.drive.specs.declared.command.Command.the-variants.{Write}
 use Rattle.drive.specs.declared.reply.Reply.{Reply}
 use Rattle.elements.specs.declared.state.Elements.{Elements}
@@ -21,7 +20,7 @@ use Rattle.recording.specs.declared.session.Stage.the-variants as S
 use Rattle.recording.proofs.ListedReplies.{OffHeaders}
 use Rattle.recording.proofs.Stages.{ElementStage}
 use Rattle.archive.specs.Recordings as recordings
-use Rattle.archive.specs.Recordings.{World, Element}
+use Rattle.archive.specs.Recordings.{World}
 use Rattle.archive.specs.Demand.{Within}
 use Rattle.archive.proofs.Scan.{Seen}
 use Rattle.archive.proofs.Stands.{itemAt, Stands, Queue, StoredAs}

@@ -1,5 +1,5 @@
 -- 01, "The lists of demand 3": a recording's list of calls, with the drive acting between them.
-use Prim.Native.Nat.{ℕ, _≤_, _<_}
+use Prim.Native.Nat.{ℕ, _≤_}
 use mathlib.Core.Path.{_≡_}
 use mathlib.Core.Bool.{Bool, true, false, _&&_}
 use mathlib.Core.List.{List, [], _∷_, _++_}
@@ -8,9 +8,8 @@ use Rattle.buffer.specs.Bytes.{agree}
 use Rattle.drive.specs.Conduct.{Drive, Acts, Answers}
 use Rattle.drive.specs.declared.command.Command.{Command}
 use Rattle.drive.specs.declared.reply.Reply.{Reply}
-use Rattle.recording.specs.Session.{Result}
-use Rattle.recording.specs.Accept.{Stored, filemarkOf, blockOf, closeOf}
-use Rattle.recording.specs.Fetch.{Said, command, idle, done, refused, Fetching, fetchOf}
+use Rattle.recording.specs.Accept.{filemarkOf, blockOf, closeOf}
+use Rattle.recording.specs.Fetch.{Said, command, idle, done, refused, fetchOf}
 use Rattle.recording.specs.Reply.{replyOf}
 use Rattle.recording.specs.declared.session.Recording.{Recording}
 

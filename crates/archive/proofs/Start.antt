@@ -2,48 +2,43 @@
 use Prim.Native.Nat.{ℕ, _+_, _-_, _*_, _%_, _^_, _≤_, _<_}
 use mathlib.Core.Path.{_≡_, refl, sym, ap, subst, _∙_}
 use mathlib.Core.Bool.{Bool, true, false, _||_, true≢false}
-use mathlib.Core.List.{List, [], _∷_}
+use mathlib.Core.List.{List, []}
 use mathlib.Core.Logic.{_⊎_, inl, inr, ⊎-elim}
-use mathlib.Core.Option.{some}
 use native.Mathlib.Nat.{le-refl, mod-eq-of-lt, mul-le-mul}
 use native.Mathlib.Omega.{arith}
-use borrow.Author.Tests.{ltb-true, ltb-false, leb-false, eqb-false}
+use borrow.Author.Tests.{ltb-false, leb-false}
 use lib.Dec.{eqb, ltb, leb}
-use lib.ListN.{length, take, length-replicate}
-use Rattle.geometry.specs.Pick.{pick}
+use lib.ListN.{length, length-replicate}
 use Rattle.geometry.specs.Said.{Said, address, refused}
 use Rattle.geometry.specs.Cartridge.{trackFrames, framesOf, lastOf, isUser}
 use Rattle.geometry.specs.declared.cartridge.Geometry.{Geometry}
 use Rattle.geometry.specs.declared.cartridge.LoadPoint.{LoadPoint}
 use Rattle.geometry.specs.declared.cartridge.LoadPoint.the-variants.{Beginning, Centre}
-use Rattle.geometry.proofs.PickLaws.{pick-t, pick-by}
+use Rattle.geometry.proofs.PickLaws.{pick-by}
 use Rattle.geometry.proofs.TestLaws.{or-false}
 use Rattle.geometry.proofs.Impossible.{never}
 use Rattle.frame.specs.declared.header.Header.{Header}
-use Rattle.header.specs.Valid.{validHeader, updateOf, headerOf}
+use Rattle.header.specs.Valid.{validHeader, headerOf}
 use Rattle.header.proofs.Facts.{valid-last}
 use Rattle.drive.specs.Conduct.{Drive, AtRest}
 use Rattle.drive.specs.Tape.{Tape, Cartridge}
-use Rattle.copies.specs.Copies as copies
 use Rattle.copies.proofs.Counts.{start-counts}
 use Rattle.copies.proofs.DueAddress.{start-placed}
 use Rattle.recording.specs.Session.{Result, accepting}
 use Rattle.recording.specs.Open.{fresh, openRefused, openWith, isExhausted, renewed, openingHeader, openOn, openFor, openOf, openBlankFor, openBlankOf}
 use Rattle.recording.specs.declared.session.Recording.{Recording}
-use Rattle.recording.specs.declared.session.Stage.{Stage}
 use Rattle.recording.specs.declared.session.Stage.the-variants as S
-use Rattle.archive.specs.Headers.{Newest, NoHeader}
 use Rattle.archive.specs.Recordings as recordings
 use Rattle.archive.specs.Demand as demand
 use Rattle.archive.specs.Demand.{Opening, on-header, on-none, opened, OnNewest, NoneBears}
-use Rattle.archive.proofs.Scan.{going, scan, seenAs, Seen}
+use Rattle.archive.proofs.Scan.{going, scan, Seen}
 use Rattle.archive.proofs.ScanLaws.{seen-part, scan-over}
 use Rattle.archive.proofs.UserPlaces.{User, user-ranges}
 use Rattle.archive.proofs.HeaderCopies.{Carried, Below}
 use Rattle.archive.proofs.CopiesLink.{to-seek}
 use Rattle.archive.proofs.Invariant as inv
-use Rattle.archive.proofs.Invariant.{Content, Live, Inv, live}
-use Rattle.archive.proofs.Claim.{Setting, Premises, Sets, Begins}
+use Rattle.archive.proofs.Invariant.{Inv, live}
+use Rattle.archive.proofs.Setting.{Setting, Premises}
 
 -- ---- the geometry
 
@@ -162,7 +157,8 @@ module _ (g : Geometry) (last depth blocks : ℕ) (s : Recording) (e : lastOf g 
       inl (omega (arith, n .highest a f at, few, is))
   starts-below t on-none q n a f at = absurd (n a f at)
 
-pub sets : Sets
+pub sets : (g : Geometry) (last depth blocks : ℕ) (o : Opening) (s : Recording) → g .segtrk < 2 ^ 16 → g .trks < 2 ^ 16 → lastOf g ≡ address last
+    → opened g depth blocks o ≡ accepting s → Setting last (s .copies .header .pass)
 sets g last depth blocks o s seg trk e q =
     let f = frames-of g last e in
     let x = started-as g last depth blocks s e o q in
@@ -244,7 +240,9 @@ begins-fresh last d window s x premises set unwritten rest pre =
         let e : S.OpeningHeaders ≡ s .stage = ap (λ (r : Recording). r .stage) (x .is) in
         not-element (⊎-elim (λ q. inl (e ∙ q)) (λ q. inr (e ∙ q)) st)
 
-pub begins : Begins
+pub begins : (g : Geometry) (last depth blocks : ℕ) (d : Drive) (o : Opening) (s : Recording) (window : List ℕ) → lastOf g ≡ address last
+    → Setting last (s .copies .header .pass) → Cartridge last (d .tape) → d .written ≡ [] → AtRest d → opened g depth blocks o ≡ accepting s
+    → Inv last (s .copies .header .pass) (Premises last (s .copies .header .pass) (d .tape) o) (recordings.started s window d)
 begins g last depth blocks d o s window e set cart unwritten rest q =
     begins-fresh last d window s (started-as g last depth blocks s e o q) (Premises last (s .copies .header .pass) (d .tape) o) set unwritten rest
     (λ p. (cart, p .1, starts-below g last depth blocks s e (d .tape) o q (p .0)))

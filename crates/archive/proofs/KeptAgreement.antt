@@ -1,16 +1,15 @@
 -- What accepting and close leave alone, the agreement of session and drive holds on. Assumes nothing.
 use Prim.Native.Nat.{ℕ, _+_, _≤_, _<_}
-use mathlib.Core.Path.{_≡_, refl, sym, ap, subst, _∙_}
-use mathlib.Core.Bool.{Bool, true, false}
-use mathlib.Core.List.{List, []}
-use mathlib.Core.Logic.{_⊎_, inl, inr, ⊎-elim}
+use mathlib.Core.Path.{_≡_, sym, ap, subst, _∙_}
+use mathlib.Core.Bool.{false}
+use mathlib.Core.List.{List}
 use native.Mathlib.Omega.{arith}
 use lib.ListN.{length}
 use Rattle.geometry.specs.declared.address.Address.{Address}
 use Rattle.geometry.proofs.Impossible.{clash}
 use Rattle.drive.specs.Conduct.{Drive, AtRest, empty, stopped}
 use Rattle.drive.specs.declared.command.Command.{Command}
-use Rattle.drive.specs.declared.command.Command.the-variants.{Write, Locate, ReadPosition}
+use Rattle.drive.specs.declared.command.Command.the-variants.{Write}
 use Rattle.drive.specs.declared.reply.Reply.{Reply}
 use Rattle.copies.specs.declared.state.Copies.{Copies}
 use Rattle.copies.proofs.Counts.{CountsOf}
