@@ -1,7 +1,7 @@
 -- 01, "A recording session", the paragraph on headers: group by group, LOCATE the group, WRITE five, at most D outstanding,
 -- READ POSITION till none are.
 use Prim.Native.Nat.{ℕ, _+_, _-_, _%_, _^_}
-use mathlib.Core.Bool.{Bool, true, false, _&&_, _||_}
+use mathlib.Core.Bool.{true, false, _&&_, _||_}
 use lib.Dec.{eqb, ltb, leb}
 use Rattle.geometry.specs.Pick.{pick}
 use Rattle.geometry.specs.Refused.{refusalNumber}

@@ -1,6 +1,6 @@
 -- 01, "Replies", for elements and EOD.
 use Prim.Native.Nat.{ℕ, _+_, _-_, _%_, _^_}
-use mathlib.Core.Bool.{Bool, true, false, _||_}
+use mathlib.Core.Bool.{true, false, _||_}
 use lib.Dec.{eqb, ltb, leb}
 use Rattle.geometry.specs.Pick.{pick}
 use Rattle.geometry.specs.Refused.{verdictNumber}

@@ -3,7 +3,6 @@
 -- Numbers of 32 and 16 bits wrap in a session that no call returned; the remainders say how.
 use Prim.Native.Nat.{ℕ, _+_, _-_, _%_, _^_}
 use mathlib.Core.Bool.{Bool, true, false}
-use mathlib.Core.List.{List}
 use lib.ListN.{getD, set, replicate}
 use Rattle.geometry.specs.declared.address.Address.{Address}
 use Rattle.elements.specs.declared.state.Elements.{Elements}

@@ -1,10 +1,10 @@
 -- What of a frame that was read is as it was sent. Assumes nothing.
-use mathlib.Core.Path.{_≡_, sym, ap, _∙_}
+use mathlib.Core.Path.{_≡_, sym, _∙_}
 use mathlib.Core.List.{List}
 use Prim.Native.Nat.{ℕ, _+_, _≤_, _<_}
 use native.Mathlib.Omega.{arith}
 use lib.Dec.{lit<}
-use lib.ListN.{length, take, drop, getD, length-drop}
+use lib.ListN.{take, drop, getD, length-drop}
 use lib.Seq.{getD-drop}
 use Rattle.buffer.specs.Bytes.{get16, get32}
 use Rattle.frame.specs.Sent.{ReadsAs}

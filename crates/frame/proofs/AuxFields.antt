@@ -1,6 +1,6 @@
 -- Every field that AUX bytes are built from is read back from them. Assumes nothing.
 use mathlib.Core.Path.{_≡_, refl}
-use Prim.Native.Nat.{ℕ, _^_, _<_}
+use Prim.Native.Nat.{_^_, _<_}
 use lib.ListN.{take, drop, getD}
 use Rattle.buffer.specs.Bytes.{get16, get32}
 use Rattle.frame.specs.Aux.{accessBytes, auxBytes}

@@ -1,6 +1,6 @@
 -- 01, "AUX bytes": the last 512 bytes of a frame. Unnamed bytes are 0.
 use Prim.Native.Nat.{ℕ}
-use mathlib.Core.List.{List, [], _∷_, _++_}
+use mathlib.Core.List.{List, _∷_, _++_}
 use Rattle.buffer.specs.Bytes.{zeros, be16, be32}
 use Rattle.frame.specs.declared.element.Kind.{Kind}
 use Rattle.frame.specs.declared.element.Kind.the-variants.{Data, Marker, Eod}

@@ -1,6 +1,6 @@
 -- 01, "AUX bytes": the header's data, and its frame.
 use Prim.Native.Nat.{ℕ}
-use mathlib.Core.List.{List, [], _∷_, _++_}
+use mathlib.Core.List.{List, _∷_, _++_}
 use Rattle.buffer.specs.Bytes.{zeros, be16, be32}
 use Rattle.frame.specs.Aux.{auxBytes, headerAux}
 use Rattle.frame.specs.declared.header.Header.{Header}

@@ -1,13 +1,13 @@
 -- The cases of 01, "Edges", that are marked P hold of the definitions. Assumes nothing.
-use mathlib.Core.Path.{_≡_, refl, ap}
-use mathlib.Core.Bool.{Bool, true, false}
+use mathlib.Core.Path.{_≡_, ap}
+use mathlib.Core.Bool.{Bool, false}
 use Prim.Native.Nat.{ℕ, _<_}
 use lib.Dec.{T, eqb, eqb→eq}
 use lib.ListN.{length, getD}
 use Rattle.geometry.specs.declared.cartridge.LoadPoint.the-variants.{Beginning}
 use Rattle.geometry.specs.Said.{Said, address, refused}
-use Rattle.geometry.specs.Edges.{Question, lastFor, Case, answer, cases}
-use Rattle.geometry.proofs.Table.{upto, at-index}
+use Rattle.geometry.specs.Edges.{lastFor, Case, answer, cases}
+use Rattle.geometry.proofs.Table.{at-index}
 
 same : Said → Said → Bool
 same (address a) (address b) = eqb a b

@@ -1,7 +1,7 @@
 -- The meanings that the conduct lists for a command are those that a recording does not refuse with 8. Assumes nothing.
 use Prim.Native.Nat.{ℕ, _+_, _*_, _≤_, _<_}
-use mathlib.Core.Path.{_≡_, refl, sym, ap, subst, _∙_}
-use mathlib.Core.Bool.{Bool, true, false}
+use mathlib.Core.Path.{_≡_, refl, sym, subst, _∙_}
+use mathlib.Core.Bool.{true, false}
 use mathlib.Core.Logic.{_⊎_, inl, inr, ⊎-elim}
 use native.Mathlib.Decide.{ℕ-discrete}
 use native.Mathlib.Omega.{arith}
@@ -10,8 +10,8 @@ use Rattle.geometry.specs.declared.address.Address.{Address}
 use Rattle.geometry.proofs.Impossible.{never, clash}
 use Rattle.drive.specs.Command.{commandCode, commandAddress}
 use Rattle.drive.specs.Conduct as conduct
-use Rattle.drive.specs.Conduct.{Means, Listed}
-use Rattle.drive.specs.Senses.{meaningOf, good, writeError}
+use Rattle.drive.specs.Conduct.{Listed}
+use Rattle.drive.specs.Senses.{meaningOf}
 use Rattle.drive.specs.declared.command.Command.{Command}
 use Rattle.drive.specs.declared.command.Command.the-variants.{Read, Write, Locate, ReadPosition}
 use Rattle.drive.specs.declared.reply.Reply.{Reply}
@@ -25,7 +25,7 @@ use Rattle.elements.proofs.AnswerView as answers
 use Rattle.recording.specs.Session.{Result}
 use Rattle.recording.specs.Reply.{caseOf, replyOf}
 use Rattle.recording.specs.declared.session.Recording.{Recording}
-use Rattle.recording.proofs.Stages.{HeaderStage, ElementStage, header-not-element, header-not-done, element-not-done}
+use Rattle.recording.proofs.Stages.{HeaderStage, ElementStage, header-not-done, element-not-done}
 use Rattle.recording.proofs.Refusals.{onward-number}
 use Rattle.recording.proofs.ReplyView as view
 use Rattle.recording.proofs.ReplyView.{Busy, Awaited, ReplyView, reply-view}
@@ -186,16 +186,13 @@ module _ (s : Recording) (r : Reply) where
       go (overflowed a _ _ n) = o n
       go (busy n) = aw .ready n
 
-  -- what a session that awaits a reply has sent, and the numbers that the reply may bring
+  -- the numbers that a reply may bring, by stage
   pub record Lawful : Type 0 where
-    pub stage : HeaderStage s ⊎ ElementStage s
-    pub sent : (a : Address) → s .command ≡ Read a → ⊥
-    pub on-headers : OnHeaders s
     pub in-headers : HeaderStage s → Possible (s .copies .outstanding) (oldestAddress (s .copies)) (nextAddress (s .copies))
     pub in-elements : ElementStage s → Possible (s .elements .outstanding) (baseOf (s .elements)) (s .elements .next .0)
 
-  pub listed-taken : Lawful → Here → replyOf s r .number ≡ 8 → ⊥
-  listed-taken lawful listed = go (reply-view s r) (listed-case (s .command) meaning refl listed (lawful .sent))
+  pub listed-taken : HeaderStage s ⊎ ElementStage s → ((a : Address) → s .command ≡ Read a → ⊥) → OnHeaders s → Lawful → Here → replyOf s r .number ≡ 8 → ⊥
+  listed-taken stage no-read on lawful listed = go (reply-view s r) (listed-case (s .command) meaning refl listed no-read)
     where
       go : {x : Result} → ReplyView s r x → Case (caseOf s r) → x .number ≡ 8 → ⊥
       go (view.unasked _) c q = omega arith
@@ -203,7 +200,7 @@ module _ (s : Recording) (r : Reply) where
       go (view.copying _ _ _ _) c q = omega arith
       go (view.opened _ _ _) c q = omega arith
       go (view.finished _ _ _) c q = omega arith
-      go (view.uncopied aw st n e) c q = copies-refuse st (lawful .on-headers) aw (lawful .in-headers st) c (copying.answer-view (s .copies) (caseOf s r) r) e q
+      go (view.uncopied aw st n e) c q = copies-refuse st on aw (lawful .in-headers st) c (copying.answer-view (s .copies) (caseOf s r) r) e q
       go (view.stepping _ _ _) c q = omega arith
       go (view.stopping aw st _) c q = elements-refuse aw (lawful .in-elements st) c (answers.answer-view (s .elements) (caseOf s r) (at (commandAddress (s .command))) r) q
-      go (view.unforeseen _ e) c q = ⊎-elim (λ st. header-not-done s st e) (λ st. element-not-done s st e) (lawful .stage)
+      go (view.unforeseen _ e) c q = ⊎-elim (λ st. header-not-done s st e) (λ st. element-not-done s st e) stage

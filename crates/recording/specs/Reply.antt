@@ -1,6 +1,6 @@
 -- 01, "Replies": what a reply changes.
 use Prim.Native.Nat.{ℕ, _+_, _*_}
-use mathlib.Core.Bool.{Bool, true, false, _||_, not}
+use mathlib.Core.Bool.{true, false, _||_, not}
 use lib.Dec.{eqb}
 use Rattle.geometry.specs.Pick.{pick}
 use Rattle.drive.specs.Command.{commandCode, commandAddress}

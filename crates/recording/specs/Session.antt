@@ -1,11 +1,10 @@
 -- 01, "A recording session": the session's terms, and what a call's outcome is in 01's numbers.
 use Prim.Native.Nat.{ℕ, _+_, _-_, _*_, _%_, _^_}
-use mathlib.Core.Bool.{Bool, true, false}
+use mathlib.Core.Bool.{true, false}
 use lib.Dec.{ltb}
 use Rattle.geometry.specs.Pick.{pick}
 use Rattle.geometry.specs.Refused.{verdictNumber}
 use Rattle.frame.specs.declared.header.Header.{Header}
-use Rattle.drive.specs.declared.command.Command.{Command}
 use Rattle.copies.specs.Copies as copies
 use Rattle.copies.specs.declared.state.Copies.{Copies}
 use Rattle.elements.specs.Elements as elements

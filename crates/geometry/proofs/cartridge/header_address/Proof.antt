@@ -2,17 +2,14 @@ use Rattle.geometry.proofs.Table.{upto, at-index}
 use Rattle.geometry.specs.Pick.{pick}
 use Rattle.geometry.specs.declared.address.Address.{Address}
 use lib.ListN.{getD}
-use lib.Dec.{T, eqb, eqb→eq}
+use lib.Dec.{eqb, eqb→eq}
 use native.Mathlib.Omega.{arith}
-use Prim.Native.Nat.{ℕ, _+_, _%_, _<_}
+use Prim.Native.Nat.{ℕ, _+_, _%_}
 use mathlib.Core.List.{List, [], _∷_}
 use mathlib.Core.Bool.{Bool}
-use mathlib.Core.Path.{_≡_}
 use borrow.Author.Needs.{needs}
 use Rattle.geometry.proofs.cartridge.header_address.Statement.{statement}
 use Rattle.geometry.proofs.cartridge.header_address.Tie as tie
-use Rattle.geometry.proofs.cartridge.header_address.Reads as reads
-use Rattle.geometry.proofs.cartridge.header_address.Lts as lts
 
 abbrev at : ℕ → Address
 at n = record { 0 = n }

@@ -1,8 +1,6 @@
 use borrow.Author.Tests.{lt-ltb, le-ltb}
 use Rattle.geometry.proofs.error.past_reserved.Statement.{statement}
 use Rattle.geometry.proofs.error.past_reserved.Tie as tie
-use Rattle.geometry.proofs.error.past_reserved.Reads as reads
-use Rattle.geometry.proofs.error.past_reserved.Lts as lts
 
 -- src/error.rt:15:9
 returns : tie.Need-returns

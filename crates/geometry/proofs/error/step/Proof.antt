@@ -1,8 +1,6 @@
 use borrow.Author.Tests.{eq-eqb, ne-eqb}
 use Rattle.geometry.proofs.error.step.Statement.{statement}
 use Rattle.geometry.proofs.error.step.Tie as tie
-use Rattle.geometry.proofs.error.step.Reads as reads
-use Rattle.geometry.proofs.error.step.Lts as lts
 
 -- src/error.rt:21:1
 returns : tie.Need-returns

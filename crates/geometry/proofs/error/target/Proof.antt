@@ -9,10 +9,6 @@ use borrow.Author.Tests.{lt-ltb, le-ltb}
 use borrow.Author.Needs.{needs}
 use Rattle.geometry.proofs.error.target.Statement.{statement}
 use Rattle.geometry.proofs.error.target.Tie as tie
-use Rattle.geometry.proofs.error.target.Reads as reads
-use Rattle.geometry.proofs.error.target.Lts as lts
-use Rattle.geometry.proofs.error.past_reserved.Reads as past-reserved-reads
-use Rattle.geometry.proofs.error.step.Reads as step-reads
 
 found : (c : tie.After-past-reserved) → c .past-reserved .result ≡ pastReserved (c .before .before .before .args .p .0 + stepOf (c .before .before .before .args .skip))
 found c = c .past-reserved .ensures ∙ ap (λ (n : ℕ). pastReserved (c .before .before .before .args .p .0 + n)) (c .before .step .ensures)

@@ -5,9 +5,6 @@ use native.Mathlib.Omega.{arith}
 use borrow.Author.Needs.{needs}
 use Rattle.geometry.proofs.cartridge.Geometry.frames.Statement.{statement}
 use Rattle.geometry.proofs.cartridge.Geometry.frames.Tie as tie
-use Rattle.geometry.proofs.cartridge.Geometry.frames.Reads as reads
-use Rattle.geometry.proofs.cartridge.Geometry.frames.Lts as lts
-use Rattle.geometry.proofs.cartridge.Geometry.track_frames.Reads as track-frames-reads
 
 -- src/cartridge.rt:62:10
 track-frames-requires : tie.Need-track-frames-requires

@@ -8,9 +8,6 @@ use borrow.Author.Tests.{lt-ltb, le-ltb}
 use borrow.Author.Needs.{needs}
 use Rattle.geometry.proofs.cartridge.Geometry.last.Statement.{statement}
 use Rattle.geometry.proofs.cartridge.Geometry.last.Tie as tie
-use Rattle.geometry.proofs.cartridge.Geometry.last.Reads as reads
-use Rattle.geometry.proofs.cartridge.Geometry.last.Lts as lts
-use Rattle.geometry.proofs.cartridge.Geometry.frames.Reads as frames-reads
 
 -- src/cartridge.rt:69:13
 frames-requires : tie.Need-frames-requires

@@ -2,8 +2,6 @@ use native.Mathlib.Omega.{arith}
 use borrow.Author.Needs.{needs}
 use Rattle.geometry.proofs.cartridge.Geometry.track_frames.Statement.{statement}
 use Rattle.geometry.proofs.cartridge.Geometry.track_frames.Tie as tie
-use Rattle.geometry.proofs.cartridge.Geometry.track_frames.Reads as reads
-use Rattle.geometry.proofs.cartridge.Geometry.track_frames.Lts as lts
 
 -- src/cartridge.rt:47:37
 enum-told : tie.Need-enum-told

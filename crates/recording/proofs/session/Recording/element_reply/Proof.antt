@@ -10,7 +10,7 @@ use Rattle.geometry.specs.Refused.{refusalNumber, verdictNumber}
 use Rattle.elements.specs.Answer as answer
 use Rattle.elements.specs.Elements.{at}
 use Rattle.recording.specs.Reply.{elementReplyBy, elementReply}
-use Rattle.recording.specs.Session.{accepting, settledOf}
+use Rattle.recording.specs.Session.{accepting}
 use Rattle.recording.proofs.session.Recording.element_reply.Statement.{statement}
 use Rattle.recording.proofs.session.Recording.element_reply.Tie as tie
 

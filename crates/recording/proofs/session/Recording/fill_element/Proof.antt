@@ -1,8 +1,7 @@
 -- `recording::session::Recording::fill_element` meets its contract: the block lies in the window, and block and frame have the lengths that any kind asks for. Assumes nothing.
-use Prim.Native.Nat.{ℕ, _+_, _*_, _%_, _≤_}
-use mathlib.Core.List.{List}
+use Prim.Native.Nat.{ℕ}
 use mathlib.Core.Bool.{true}
-use mathlib.Core.Path.{_≡_, _∙_, sym, ap}
+use mathlib.Core.Path.{_≡_, _∙_, ap}
 use native.Mathlib.Omega.{arith}
 use lib.ListN.{length}
 use Rattle.geometry.proofs.PickLaws.{pick-t}
@@ -10,7 +9,7 @@ use Rattle.frame.specs.declared.element.Kind.the-variants.{Data, Marker, Eod}
 use Rattle.frame.specs.declared.element.Kind.{Kind}
 use Rattle.frame.specs.Frame.{elementFrame, elementFits}
 use Rattle.elements.specs.Elements.{numberOf}
-use Rattle.recording.specs.Fetch.{elementOf, elementPlace, writtenElement}
+use Rattle.recording.specs.Fetch.{elementOf, writtenElement}
 use Rattle.recording.specs.Window.{blockAt}
 use Rattle.recording.proofs.BlockPlace.{place-low, place-inside, block-length}
 use Rattle.recording.proofs.session.Recording.fill_element.Statement.{statement}
