@@ -1,13 +1,11 @@
--- After busy the next fetch gives the same command, and the session awaits its reply as before. Assumes nothing.
+-- After busy the next fetch gives the same command, whichever rule then applies, and the session awaits its reply as before. Assumes nothing.
 use mathlib.Core.Path.{_≡_}
-use mathlib.Core.Bool.{false}
 use mathlib.Core.List.{List}
 use mathlib.Core.Logic.{_⊎_, inl, inr}
-use Prim.Native.Nat.{ℕ, _≤_}
-use borrow.Author.Tests.{le-ltb}
+use Prim.Native.Nat.{ℕ}
 use Rattle.drive.specs.declared.reply.Reply.{Reply}
 use Rattle.reading.specs.declared.session.Reading.{Reading}
-use Rattle.reading.specs.Fetch.{commandOf, sending, fetchOf}
+use Rattle.reading.specs.Fetch.{sending, fetchOf}
 use Rattle.reading.specs.Reply.{nothing, repeatedOf, caseOf, answerOf, replyOf}
 use Rattle.reading.proofs.ReplyView.{Taken, taken-so}
 
@@ -17,6 +15,6 @@ module _ (s : Reading) (r : Reply) (frame : List ℕ) (taken : Taken s frame) wh
   busy-so (inl e) = taken-so s r frame taken e
   busy-so (inr e) = taken-so s r frame taken e
 
-  pub busy-repeats : (caseOf s r ≡ 0x2B02) ⊎ (caseOf s r ≡ 0x0802) → s .finished ≡ false → s .next .0 ≤ s .last .0 → fetchOf (replyOf s r frame .session) ≡ sending s (s .command)
-  unfolding fetchOf commandOf
-  busy-repeats e unfinished within = rw (busy-so e, taken .phase .running, unfinished, le-ltb (s .last .0) (s .next .0) within)
+  pub busy-repeats : (caseOf s r ≡ 0x2B02) ⊎ (caseOf s r ≡ 0x0802) → fetchOf (replyOf s r frame .session) ≡ sending s (s .command)
+  unfolding fetchOf
+  busy-repeats e = rw (busy-so e, taken .phase .running)

@@ -7,3 +7,4 @@ pub mod Ended
 pub mod Busy
 pub mod Jump
 pub mod Onward
+pub mod Unread

@@ -36,9 +36,9 @@ module _ (s : Reading) (n : ℕ) where
       go (fetching.ends _ _) e = never (cc)
       go (fetching.past-last _ _ _) e = let number : 12 ≡ n = cc in ended-by n (omega arith)
       go (fetching.repeats _ _) e = never (cc)
-      go (fetching.locates _ _ _) e = never (cc)
-      go (fetching.crosses _ _ _ _) e = never (cc)
-      go (fetching.reads _ _ _ _) e = never (cc)
+      go (fetching.locates _ _) e = never (cc)
+      go (fetching.crosses _ _ _) e = never (cc)
+      go (fetching.reads _ _ _) e = never (cc)
 
   module _ (frame : List ℕ) where
     abbrev JudgedAs : judgement.Judged → Type 0

@@ -13,12 +13,11 @@ use Rattle.reading.specs.declared.session.Fetched.{Fetched}
 use Rattle.reading.specs.declared.session.Answer.{Answer}
 use Rattle.reading.specs.declared.session.Answer.the-variants as A
 
--- after busy the same command; LOCATE 10 at first, and LOCATE after 08/00/05; before 2,990 LOCATE 3,000; else READ
+-- LOCATE 10 at first, and LOCATE after 08/00/05; before 2,990 LOCATE 3,000; else READ
 unfoldable pub commandOf : Reading → Command
 commandOf s =
-    pick (s .again) (s .command)
-    (pick (s .locate) (Locate (s .next))
-    (pick (eqb (s .next .0) 2990) (Locate (record { 0 = 3000 })) (Read (s .next))))
+    pick (s .locate) (Locate (s .next))
+    (pick (eqb (s .next .0) 2990) (Locate (record { 0 = 3000 })) (Read (s .next)))
 
 -- what a fetch answers: a command by its operation code and address, the end, or a refusal by its number
 pub data Said : Type 0 where
@@ -49,10 +48,12 @@ sending s c = record { session = awaits s c; said = command (commandCode c) (com
 abbrev pub endedOf : Reading → Reading
 endedOf s = record { last = s .last; pass = s .pass; next = s .next; locate = s .locate; expected = s .expected; command = s .command; awaiting = s .awaiting; again = s .again; finished = s .finished; ended = true }
 
--- refusal 7 where the session has ended or a reply is awaited; the end, said again at each fetch; next address above LAST: refusal 12
+-- refusal 7 where the session has ended or a reply is awaited; after busy the same command, whichever rule then applies;
+-- the end, said again at each fetch; next address above LAST: refusal 12
 unfoldable pub fetchOf : Reading → Fetching
 fetchOf s =
     pick (s .ended || s .awaiting) (record { session = s; said = refused 7 })
+    (pick (s .again) (sending s (s .command))
     (pick (s .finished) (record { session = s; said = end })
     (pick (ltb (s .last .0) (s .next .0)) (record { session = endedOf s; said = refused 12 })
-    (sending s (commandOf s))))
+    (sending s (commandOf s)))))

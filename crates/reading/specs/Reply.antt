@@ -5,12 +5,16 @@ use mathlib.Core.List.{List}
 use lib.Dec.{eqb}
 use lib.ListN.{length, take}
 use Rattle.geometry.specs.Pick.{pick}
+use Rattle.geometry.specs.Refused.{refusalNumber}
 use Rattle.geometry.specs.Cartridge.{pastReserved}
 use Rattle.drive.specs.Command.{commandCode, commandAddress}
 use Rattle.drive.specs.Senses.{meaningOf}
 use Rattle.drive.specs.declared.reply.Reply.{Reply}
 use Rattle.judgement.specs.Judgement as judgement
 use Rattle.reading.specs.declared.session.Reading.{Reading}
+use Rattle.reading.specs.declared.session.Taken.{Taken}
+use Rattle.reading.specs.declared.session.Delivery.{Delivery}
+use Rattle.reading.specs.declared.session.Delivery.the-variants as D
 use Rattle.reading.specs.Fetch.{endedOf}
 
 -- what a reply is answered: nothing delivered, a block (the first 32,768 bytes of the lent frame), a filemark, the end, or a refusal by its number
@@ -21,9 +25,22 @@ pub data Said : Type 0 where
   end : Said
   refused : ℕ → Said
 
+abbrev pub deliverySaid : Delivery → Said
+deliverySaid D.Nothing = nothing
+deliverySaid D.Block = block
+deliverySaid D.Filemark = filemark
+deliverySaid D.End = end
+deliverySaid (D.Refused r) = refused (refusalNumber r)
+
 pub record Taking : Type 0 where
   pub session : Reading
   pub said : Said
+
+abbrev pub takenSaid : Taken → Taking
+takenSaid t = record { session = t .session; said = deliverySaid (t .delivery) }
+
+abbrev pub answering : Reading → Said → Taking
+answering s said = record { session = s; said = said }
 
 -- refusals 1 to 7: session unchanged; 8 to 12: session ended
 abbrev pub refusing : Reading → ℕ → Taking

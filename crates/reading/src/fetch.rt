@@ -14,10 +14,6 @@ impl Reading {
         ensures { λ r. ⌜ r ≡ commandOf self ⌝ }
     {
         let next = self.next;
-        if self.again {
-            let c = self.command;
-            return c;
-        }
         if self.locate {
             return Command::Locate(next);
         }
@@ -41,7 +37,7 @@ impl Reading {
         }
     }
 
-    // The next command, or the end once EOD was read.
+    // The same command after busy, whichever rule then applies; else the next command, or the end once EOD was read.
     pub fn fetch(mut self) -> Fetched
         ensures { λ r. ⌜ fetchedSaid r ≡ fetchOf self ⌝ }
     {
@@ -50,6 +46,10 @@ impl Reading {
                 session: self,
                 answer: Answer::Refused(Refusal::Phase),
             };
+        }
+        if self.again {
+            let c = self.command;
+            return self.send(c);
         }
         if self.finished {
             return Fetched {

@@ -41,3 +41,21 @@ pub struct Fetched {
     pub session: Reading,
     pub answer: Answer,
 }
+
+// The answer to a reply.
+pub enum Delivery {
+    // The reply is taken in and delivers nothing.
+    Nothing,
+    // A block: the first 32,768 bytes of the lent frame.
+    Block,
+    // A filemark; the lent frame holds no data.
+    Filemark,
+    // EOD was read: everything was delivered.
+    End,
+    Refused(Refusal),
+}
+
+pub struct Taken {
+    pub session: Reading,
+    pub delivery: Delivery,
+}

@@ -12,15 +12,11 @@ returns c = sym (pick-t _ (c .if1 .taken))
 
 returns-2 : tie.Need-returns-2
 unfolding commandOf
-returns-2 c = sym (pick-f _ (c .before .if1 .left) ∙ pick-t _ (c .if2 .taken))
+returns-2 c = sym (pick-f _ (c .before .before .if1 .left) ∙ pick-t _ (eq-eqb _ _ (c .if2 .taken)))
 
 returns-3 : tie.Need-returns-3
 unfolding commandOf
-returns-3 c = sym (pick-f _ (c .before .before .before .if1 .left) ∙ pick-f _ (c .before .before .if2 .left) ∙ pick-t _ (eq-eqb _ _ (c .if3 .taken)))
-
-returns-4 : tie.Need-returns-4
-unfolding commandOf
-returns-4 c = sym (pick-f _ (c .before .before .before .if1 .left) ∙ pick-f _ (c .before .before .if2 .left) ∙ pick-f _ (ne-eqb _ _ (c .if3 .left)))
+returns-3 c = sym (pick-f _ (c .before .before .if1 .left) ∙ pick-f _ (ne-eqb _ _ (c .if2 .left)))
 
 pub due-spec : {M : Type 1} → statement M
-due-spec = tie.close (tie.spec returns returns-2 returns-3 returns-4)
+due-spec = tie.close (tie.spec returns returns-2 returns-3)

@@ -1,0 +1,22 @@
+-- No data byte of a lent frame is looked at: frames with the same AUX are answered alike. Assumes nothing.
+use mathlib.Core.Path.{_≡_}
+use mathlib.Core.List.{List}
+use Prim.Native.Nat.{ℕ}
+use lib.ListN.{length, drop}
+use Rattle.drive.specs.declared.reply.Reply.{Reply}
+use Rattle.judgement.proofs.Cases.{right-length}
+use Rattle.reading.specs.declared.session.Reading.{Reading}
+use Rattle.reading.specs.Reply.{judgedOf, caseOf, answerOf, replyOf}
+
+module _ (s : Reading) (a b : List ℕ) (long : length a ≡ 33280) (also-long : length b ≡ 33280) (same : drop 32768 a ≡ drop 32768 b) where
+  judged-by-aux : judgedOf s a ≡ judgedOf s b
+  unfolding judgedOf
+  judged-by-aux = rw (right-length (s .last .0) (s .pass) (s .expected .0) a long, right-length (s .last .0) (s .pass) (s .expected .0) b also-long, same)
+
+  answered-by-aux : (n : ℕ) → answerOf s n a ≡ answerOf s n b
+  unfolding answerOf
+  answered-by-aux n = rw judged-by-aux
+
+  pub replied-by-aux : (r : Reply) → replyOf s r a ≡ replyOf s r b
+  unfolding replyOf
+  replied-by-aux r = rw (long, also-long, answered-by-aux (caseOf s r))

@@ -1,0 +1,43 @@
+-- The address is 32 behind the command's, or 3,000. Assumes nothing.
+use mathlib.Core.Path.{_∙_}
+use native.Mathlib.Nat.{mod-mod}
+use borrow.Author.Needs.{needs}
+use Rattle.reading.proofs.session.Reading.jumped.Statement.{statement}
+use Rattle.reading.proofs.session.Reading.jumped.Tie as tie
+
+address-requires : tie.Need-address-requires
+address-requires c κs = search needs
+
+cast-past-reserved : tie.Need-cast-past-reserved
+cast-past-reserved c = search needs
+
+add-past-reserved : tie.Need-add-past-reserved
+add-past-reserved c = search needs
+
+past-reserved-requires : tie.Need-past-reserved-requires
+past-reserved-requires c κs = search needs
+
+wrapped-requires : tie.Need-wrapped-requires
+wrapped-requires c κs = search needs
+
+onward-requires : tie.Need-onward-requires
+onward-requires c κs = search needs
+
+taken-requires : tie.Need-taken-requires
+taken-requires c κs = search needs
+
+returns : tie.Need-returns
+returns c = c .taken .ensures ∙ rw (c .before .onward .ensures, c .before .before .wrapped .ensures, c .before .before .before .past-reserved .ensures, c .before .before .before .before .before .address .ensures, mod-mod)
+
+pub jumped-spec : {M : Type 1} → statement M
+jumped-spec =
+    tie.close
+    (tie.spec
+    address-requires
+    cast-past-reserved
+    add-past-reserved
+    past-reserved-requires
+    wrapped-requires
+    onward-requires
+    taken-requires
+    returns)

@@ -1,0 +1,210 @@
+// Taking in a reply. Of the lent frame only the AUX is looked at.
+ghost use mathlib.Core.Path.{_≡_};
+ghost use Prim.Native.Nat.{_+_, _%_, _^_};
+ghost use Rattle.geometry.specs.Refused.{refusalNumber};
+ghost use Rattle.judgement.specs.Judgement.{foundSaid};
+ghost use Rattle.reading.specs.Reply.{deliverySaid, takenSaid, answering, refusing, ending, onward, addressOf, repeatedOf, locatedOf, skippedOf, deliveredOf, finishedOf, judgedBy, judgedOf, jumpedOf, caseOf, replyOf};
+use crate::session::Delivery;
+use crate::session::Reading;
+use crate::session::Taken;
+use drive::Reply;
+use drive::address;
+use drive::code;
+use drive::meaning;
+use frame::Kind;
+use geometry::Address;
+use geometry::Refusal;
+use geometry::Seq;
+use geometry::past_reserved;
+use judgement::Judgement;
+use judgement::judge_frame;
+
+// The replies that are listed for a reading's commands: the command's code and, as the low byte, the meaning of the sense triple.
+const LOCATE_GOOD: u16 = 0x2B01;
+
+const LOCATE_BUSY: u16 = 0x2B02;
+
+const READ_GOOD: u16 = 0x0801;
+
+const READ_BUSY: u16 = 0x0802;
+
+const READ_RECOVERED: u16 = 0x0805;
+
+const READ_UNREADABLE: u16 = 0x0806;
+
+const READ_END_OF_DATA: u16 = 0x0807;
+
+const READ_END_OF_MEDIUM: u16 = 0x0808;
+
+// A number as an address. It wraps only in a session that no call returned.
+fn wrapped(n: u64) -> Address
+    ensures { λ r. ⌜ r .0 ≡ n % 2 ^ 32 ⌝ }
+{
+    Address((n % 4294967296) as u32)
+}
+
+impl Reading {
+    // The command's code and, as the low byte, the meaning of the reply's sense triple.
+    fn case(self, reply: Reply) -> u16
+        ensures { λ r. ⌜ r ≡ caseOf self reply ⌝ }
+    {
+        let c = self.command;
+        (code(c) as u16) * 256 + (meaning(reply.key, reply.asc, reply.ascq) as u16)
+    }
+
+    fn taken(self, delivery: Delivery) -> Taken
+        ensures { λ r. ⌜ takenSaid r ≡ answering self (deliverySaid delivery) ⌝ }
+    {
+        Taken {
+            session: self,
+            delivery: delivery,
+        }
+    }
+
+    // Refusals 1 to 7 leave the session unchanged.
+    fn refuse(self, refusal: Refusal) -> Taken
+        ensures { λ r. ⌜ takenSaid r ≡ refusing self (refusalNumber refusal) ⌝ }
+    {
+        self.taken(Delivery::Refused(refusal))
+    }
+
+    // Refusals 8 to 12 end the session.
+    fn end(mut self, refusal: Refusal) -> Taken
+        ensures { λ r. ⌜ takenSaid r ≡ ending self (refusalNumber refusal) ⌝ }
+    {
+        self.ended = true;
+        self.taken(Delivery::Refused(refusal))
+    }
+
+    // Busy: the next fetch gives the same command.
+    fn repeated(mut self) -> Reading
+        ensures { λ r. ⌜ r ≡ repeatedOf self ⌝ }
+    {
+        self.awaiting = false;
+        self.again = true;
+        self
+    }
+
+    // The reply is taken in, and reading goes on at the next address.
+    fn onward(self, next: Address, locate: bool, expected: Seq, finished: bool) -> Reading
+        ensures { λ r. ⌜ r ≡ onward self (next .0) locate (expected .0) finished ⌝ }
+    {
+        Reading {
+            next: next,
+            locate: locate,
+            expected: expected,
+            awaiting: false,
+            finished: finished,
+            ..self
+        }
+    }
+
+    // Reading goes on one address behind the command's.
+    fn advanced(self, expected: Seq, finished: bool, delivery: Delivery) -> Taken
+        ensures { λ r. ⌜ takenSaid r ≡ answering (onward self (addressOf self + 1) (self .locate) (expected .0) finished) (deliverySaid delivery) ⌝ }
+    {
+        let c = self.command;
+        let next = wrapped((address(c).0 as u64) + 1);
+        self.onward(next, self.locate, expected, finished)
+            .taken(delivery)
+    }
+
+    // The drive stands at the command's address.
+    fn located(self) -> Taken
+        ensures { λ r. ⌜ takenSaid r ≡ locatedOf self ⌝ }
+    {
+        let c = self.command;
+        let expected = self.expected;
+        self.onward(address(c), false, expected, self.finished)
+            .taken(Delivery::Nothing)
+    }
+
+    // The address is passed over.
+    fn skipped(self) -> Taken
+        ensures { λ r. ⌜ takenSaid r ≡ skippedOf self ⌝ }
+    {
+        let expected = self.expected;
+        self.advanced(expected, self.finished, Delivery::Nothing)
+    }
+
+    // The expected element is delivered, and the next one expected.
+    fn delivered(self, delivery: Delivery) -> Taken
+        ensures { λ r. ⌜ takenSaid r ≡ deliveredOf self (deliverySaid delivery) ⌝ }
+    {
+        let expected = Seq(std::num::wrapping_add_u32(self.expected.0, 1));
+        self.advanced(expected, self.finished, delivery)
+    }
+
+    // EOD ends reading.
+    fn finished(self) -> Taken
+        ensures { λ r. ⌜ takenSaid r ≡ finishedOf self ⌝ }
+    {
+        let expected = self.expected;
+        self.advanced(expected, true, Delivery::End)
+    }
+
+    // Nothing reads for 32 addresses: LOCATE behind them, or behind the second header group and its defect map.
+    fn jumped(self) -> Taken
+        ensures { λ r. ⌜ takenSaid r ≡ jumpedOf self ⌝ }
+    {
+        let c = self.command;
+        let expected = self.expected;
+        let next = wrapped(past_reserved((address(c).0 as u64) + 32));
+        self.onward(next, true, expected, self.finished)
+            .taken(Delivery::Nothing)
+    }
+
+    // The expected element, or EOD.
+    fn found(self, k: Kind) -> Taken
+        ensures { λ r. ⌜ takenSaid r ≡ judgedBy (foundSaid k) self ⌝ }
+    {
+        match k {
+            Kind::Data => self.delivered(Delivery::Block),
+            Kind::Marker => self.delivered(Delivery::Filemark),
+            Kind::Eod => self.finished(),
+        }
+    }
+
+    // A frame was read.
+    fn judged(self, frame: &[u8]) -> Taken
+        ensures { λ r. ⌜ takenSaid r ≡ judgedOf self (now (frame .entry)) ⌝ }
+    {
+        let last = self.last;
+        let expected = self.expected;
+        let judgement = judge_frame(last, self.pass, expected, frame);
+        match judgement {
+            Judgement::Skipped => self.skipped(),
+            Judgement::Refused(r) => self.end(r),
+            Judgement::Found(k) => self.found(k),
+        }
+    }
+
+    // Brings the reply to the last command. A frame is lent with every reply, and looked at only where a READ brought one.
+    pub fn reply(self, reply: Reply, frame: &[u8]) -> Taken
+        ensures { λ r. ⌜ takenSaid r ≡ replyOf self reply (now (frame .entry)) ⌝ }
+    {
+        if self.ended | !self.awaiting {
+            return self.refuse(Refusal::Phase);
+        }
+        if frame.len() != 33280 {
+            return self.refuse(Refusal::Length);
+        }
+        let case = self.case(reply);
+        match case {
+            // LOCATE and READ, 02/04/01 and 02/04/08: the same command again
+            LOCATE_BUSY | READ_BUSY => self.repeated().taken(Delivery::Nothing),
+            // LOCATE, good
+            LOCATE_GOOD => self.located(),
+            // READ, good or 01/17/01: a frame
+            READ_GOOD | READ_RECOVERED => self.judged(frame),
+            // READ, 03/11/00: one unreadable address
+            READ_UNREADABLE => self.skipped(),
+            // READ, 08/00/05: LOCATE 32 addresses further
+            READ_END_OF_DATA => self.jumped(),
+            // READ, 00/00/02: no end found
+            READ_END_OF_MEDIUM => self.end(Refusal::NotFound),
+            // anything else, or a reply unlisted for its command
+            _ => self.end(Refusal::Reply),
+        }
+    }
+}
