@@ -16,7 +16,7 @@ use Rattle.geometry.proofs.TestLaws.{or-false, and-true}
 use Rattle.geometry.proofs.Impossible.{never, clash}
 use Rattle.buffer.specs.Bytes.{agree}
 use Rattle.buffer.proofs.Agreement.{agree-is}
-use Rattle.drive.specs.Conduct.{Listed}
+use Rattle.drive.specs.Listed.{Listed}
 use Rattle.drive.specs.Senses.{meaningOf}
 use Rattle.elements.specs.Elements as elements
 use Rattle.elements.specs.declared.state.Elements.{Elements}

@@ -6,7 +6,7 @@ use mathlib.Core.List.{List}
 use mathlib.Core.Logic.{inl, inr}
 use native.Mathlib.Omega.{arith}
 use lib.ListN.{length, length-set}
-use Rattle.drive.specs.Conduct.{Listed}
+use Rattle.drive.specs.Listed.{Listed}
 use Rattle.drive.specs.Senses.{meaningOf}
 use Rattle.elements.specs.Elements as elements
 use Rattle.recording.specs.Accept.{closedOf, closeOf}

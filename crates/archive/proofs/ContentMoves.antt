@@ -17,9 +17,9 @@ use Rattle.frame.specs.Sent.{ReadsAs}
 use Rattle.frame.specs.declared.header.Header.{Header}
 use Rattle.frame.proofs.Frames.{header-length}
 use Rattle.header.specs.Valid.{updateOf}
-use Rattle.drive.specs.Conduct as conduct
-use Rattle.drive.specs.Conduct.{Drive, Written, Left, as-before, as-new, not-at-all, wrote, failing}
-use Rattle.drive.specs.Tape.{Tape, Cartridge, put}
+use Rattle.archive.specs.Conduct as conduct
+use Rattle.archive.specs.Conduct.{Drive, Written, Left, as-before, as-new, not-at-all, wrote, failing}
+use Rattle.archive.specs.Tape.{Tape, Cartridge, put}
 use Rattle.recording.specs.declared.session.Stage.{Stage}
 use Rattle.recording.specs.declared.session.Stage.the-variants as S
 use Rattle.recording.proofs.Stages.{ElementStage}

@@ -7,7 +7,8 @@ use mathlib.Core.Logic.{_⊎_}
 use lib.ListN.{length, replicate}
 use Rattle.geometry.specs.declared.address.Address.{Address}
 use Rattle.frame.specs.Header.{headerFrame}
-use Rattle.drive.specs.Conduct.{Drive, Means, AtRest}
+use Rattle.drive.specs.Listed.{Means}
+use Rattle.archive.specs.Conduct.{Drive, AtRest}
 use Rattle.drive.specs.Senses.{good, busy, writeError}
 use Rattle.drive.specs.declared.command.Command.{Command}
 use Rattle.drive.specs.declared.command.Command.the-variants.{Read, Write, Locate, ReadPosition}

@@ -14,13 +14,14 @@ use Rattle.geometry.proofs.Impossible.{clash}
 use Rattle.frame.specs.Header.{headerFrame}
 use Rattle.frame.specs.Sent.{ReadsAs}
 use Rattle.frame.specs.declared.header.Header.{Header}
-use Rattle.drive.specs.Conduct as conduct
-use Rattle.drive.specs.Conduct.{Drive, Written, wrote, failing, taking, moved, AtRest, empty, stopped}
+use Rattle.archive.specs.Conduct as conduct
+use Rattle.archive.specs.Conduct.{Drive, Written, wrote, failing, taking, moved, AtRest, empty, stopped}
 use Rattle.drive.specs.Senses.{meaningOf}
-use Rattle.drive.specs.Tape.{Tape, put}
+use Rattle.archive.specs.Tape.{Tape, put}
 use Rattle.drive.specs.declared.command.Command.{Command}
 use Rattle.drive.specs.declared.command.Command.the-variants.{Write, Locate, ReadPosition}
 use Rattle.drive.specs.declared.reply.Reply.{Reply}
+use Rattle.drive.specs.Listed.{Listed}
 use Rattle.copies.specs.Copies.{nextAddress}
 use Rattle.copies.specs.declared.state.Copies.{Copies}
 use Rattle.copies.proofs.Counts.{CountsOf}
@@ -196,7 +197,7 @@ next-header c left = subst (λ (x : ℕ). isHeader x ≡ true) (header-from-firs
 -- an answer that the session goes on with, or ends at
 pub data CopyOutcome (last : ℕ) (c : Copies) (d : Drive) (r : Reply) (k : Command) : Type 0 where
   goes-on : CopyAnswered c d r k → CopyOutcome last c d r k
-  reject : (conduct.Listed k (meaningOf (r .key) (r .asc) (r .ascq)) → ⊥) → Safe last d → CopyOutcome last c d r k
+  reject : (Listed k (meaningOf (r .key) (r .asc) (r .ascq)) → ⊥) → Safe last d → CopyOutcome last c d r k
 
 pub copies-answer : {last : ℕ} {c : Copies} {d e : Drive} {frame : List ℕ} {k : Command} {r : Reply} → CountsOf c → HeaderSent c k frame → CopyAsks c d k → conduct.Answers d frame k r e → CopyOutcome last c e r k
 copies-answer n h (writes a p left l) (conduct.takes _ r m) = goes-on (taken a m (link-takes _ h left l))

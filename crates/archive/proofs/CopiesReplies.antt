@@ -14,8 +14,8 @@ use Rattle.geometry.proofs.PickLaws.{pick-by}
 use Rattle.geometry.proofs.Impossible.{clash}
 use Rattle.frame.specs.Header.{headerFrame}
 use Rattle.frame.specs.declared.header.Header.{Header}
-use Rattle.drive.specs.Conduct.{Drive, AtRest, empty, stopped}
-use Rattle.drive.specs.Tape.{Tape}
+use Rattle.archive.specs.Conduct.{Drive, AtRest, empty, stopped}
+use Rattle.archive.specs.Tape.{Tape}
 use Rattle.copies.specs.Copies as copying
 use Rattle.copies.specs.Copies.{nextAddress, oldestAddress, firstAddress, takenOf, locatedOf, confirmedOf, failedAt, nextGroup, positionedOf, failedOf}
 use Rattle.copies.specs.declared.state.Copies.{Copies}

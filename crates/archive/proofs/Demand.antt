@@ -6,7 +6,7 @@ use mathlib.Core.Bool.{false}
 use Rattle.geometry.specs.Said.{address}
 use Rattle.geometry.specs.Cartridge.{lastOf}
 use Rattle.geometry.specs.declared.cartridge.Geometry.{Geometry}
-use Rattle.drive.specs.Tape.{Tape}
+use Rattle.archive.specs.Tape.{Tape}
 use Rattle.reading.specs.Open as reading
 use Rattle.archive.specs.Recordings as recordings
 use Rattle.archive.specs.Recordings.{Element}

@@ -11,8 +11,8 @@ use Rattle.geometry.specs.Cartridge.{isHeader, isUser}
 use Rattle.geometry.proofs.TestLaws.{either-left, either-right}
 use Rattle.geometry.proofs.Impossible.{clash}
 use Rattle.frame.specs.Header.{headerFrame}
-use Rattle.drive.specs.Conduct as conduct
-use Rattle.drive.specs.Conduct.{Drive, Acts, Answers, Left, Written, as-new, wrote, failing}
+use Rattle.archive.specs.Conduct as conduct
+use Rattle.archive.specs.Conduct.{Drive, Acts, Answers, Left, Written, as-new, wrote, failing}
 use Rattle.drive.specs.declared.command.Command.{Command}
 use Rattle.drive.specs.declared.reply.Reply.{Reply}
 use Rattle.recording.specs.declared.session.Stage.the-variants as S
@@ -25,7 +25,8 @@ use Rattle.archive.specs.Demand.{Within, one-more}
 use Rattle.archive.proofs.Basics.{none-sent, answered-sent}
 use Rattle.archive.proofs.Stands.{itemAt, Stands, Queue}
 use Rattle.drive.specs.Senses.{meaningOf}
-use Rattle.drive.specs.Tape.{Cartridge}
+use Rattle.drive.specs.Listed.{Listed}
+use Rattle.archive.specs.Tape.{Cartridge}
 use Rattle.archive.proofs.Scan.{Seen}
 use Rattle.archive.proofs.HeaderCopies.{Below}
 use Rattle.archive.proofs.CopiesLink as copies
@@ -158,7 +159,7 @@ module _ {last pass : ℕ} {premises : Type 0} {w : World} (set : Setting last p
     within : Within last (d .written)
     within = subst (Within last) (sym (same-tape an .1)) written
 
-    lost : (w .session .stage ≡ S.Done → ⊥) → w .session .awaiting ≡ true → (conduct.Listed (w .session .command) (meaningOf (r .key) (r .asc) (r .ascq)) → ⊥) → OffHeaders (w .session) → Safe last d
+    lost : (w .session .stage ≡ S.Done → ⊥) → w .session .awaiting ≡ true → (Listed (w .session .command) (meaningOf (r .key) (r .asc) (r .ascq)) → ⊥) → OffHeaders (w .session) → Safe last d
         → Inv last pass premises (withDrive w d (recordings.answered r))
     lost n a h off safe = rejecting within (record { reply = r; going = l .going; awaits = a; replied = refl; unlisted = h; off-headers = off; safe = safe; unreported = unreported l n })
 
@@ -186,7 +187,7 @@ module _ {last pass : ℕ} {premises : Type 0} {w : World} (set : Setting last p
               (relive d (recordings.answered r) (l .k) (l .edge)
               (course d (record { counts = agree .counts; placed = agree .placed; copying = copies.replied r a g (subst (λ z. copies.CopyAnswered (w .session .copies) d r z) (sym e) y) }))
               (λ p u. same-content (l .content p u) (λ el _. header-not-element (w .session) st el)))
-          go (copying.reject m safe) = lost (header-not-done (w .session) st) a (λ z. m (subst (λ k. conduct.Listed k (meaningOf (r .key) (r .asc) (r .ascq))) e z)) (λ el. header-not-element (w .session) st el) safe
+          go (copying.reject m safe) = lost (header-not-done (w .session) st) a (λ z. m (subst (λ k. Listed k (meaningOf (r .key) (r .asc) (r .ascq))) e z)) (λ el. header-not-element (w .session) st el) safe
 
     module _ (st : ElementStage (w .session)) (agree : Writing last (w .session) (w .drive) (l .k) (l .edge) (w .flight))
         (course : (e : Drive) → Writing last (w .session) e (l .k) (l .edge) (recordings.answered r) → Course last (withDrive w e (recordings.answered r)) (l .k) (l .edge)) where
@@ -219,7 +220,7 @@ module _ {last pass : ℕ} {premises : Type 0} {w : World} (set : Setting last p
               (relive d (recordings.answered r) (l .k) (l .edge)
               (course d (elements.replied r a g (subst (λ z. Answered last (heldOf (w .session)) (w .session .elements .pending) d (l .k) (l .edge) r z) (sym e) y)))
               (λ p u. same-content (l .content p u) (λ el free. queue-answers q (l .content p u) x an free)))
-          go (writing.reject m safe) = lost (element-not-done (w .session) st) a (λ z. m (subst (λ k. conduct.Listed k (meaningOf (r .key) (r .asc) (r .ascq))) e z)) (λ _ b f. asks-off-header (subst (λ k. Asks last (heldOf (w .session)) (w .session .elements .pending) (w .drive) (l .k) (l .edge) k) (sym e ∙ f) x)) safe
+          go (writing.reject m safe) = lost (element-not-done (w .session) st) a (λ z. m (subst (λ k. Listed k (meaningOf (r .key) (r .asc) (r .ascq))) e z)) (λ _ b f. asks-off-header (subst (λ k. Asks last (heldOf (w .session)) (w .session .elements .pending) (w .drive) (l .k) (l .edge) k) (sym e ∙ f) x)) safe
 
     live-answers : Course last w (l .k) (l .edge) → Inv last pass premises (withDrive w d (recordings.answered r))
     live-answers (inv.opening s t a) = header-answers (inl s) a (λ _ y. inv.opening s t y) (subst (Copying (w .session) (w .drive)) q (a .copying))

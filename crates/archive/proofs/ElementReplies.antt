@@ -13,9 +13,10 @@ use Rattle.geometry.specs.Cartridge.{isUser}
 use Rattle.geometry.proofs.TestLaws.{either-right}
 use Rattle.geometry.proofs.Impossible.{never}
 use Rattle.drive.specs.Command.{commandAddress}
-use Rattle.drive.specs.Conduct.{Means, AtRest}
+use Rattle.drive.specs.Listed.{Means}
+use Rattle.archive.specs.Conduct.{AtRest}
 use Rattle.drive.specs.Senses.{busy}
-use Rattle.drive.specs.Tape.{Tape, Cartridge}
+use Rattle.archive.specs.Tape.{Tape, Cartridge}
 use Rattle.drive.specs.declared.command.Command.{Command}
 use Rattle.drive.specs.declared.reply.Reply.{Reply}
 use Rattle.copies.proofs.Counts.{start-counts}

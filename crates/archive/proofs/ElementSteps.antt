@@ -14,7 +14,7 @@ use Rattle.geometry.specs.Said as said
 use Rattle.geometry.specs.Target.{stepOf}
 use Rattle.geometry.specs.declared.address.Address.{Address}
 use Rattle.geometry.proofs.PickLaws.{pick-by}
-use Rattle.drive.specs.Conduct.{Drive, AtRest, empty, stopped}
+use Rattle.archive.specs.Conduct.{Drive, AtRest, empty, stopped}
 use Rattle.elements.specs.Elements as counting
 use Rattle.elements.specs.Elements.{at, baseOf, numberOf}
 use Rattle.elements.specs.Answer as answer

@@ -6,7 +6,8 @@ use mathlib.Core.List.{List, []}
 use mathlib.Core.Logic.{_⊎_}
 use lib.ListN.{length}
 use Rattle.geometry.specs.declared.address.Address.{Address}
-use Rattle.drive.specs.Conduct.{Drive, Means, AtRest}
+use Rattle.drive.specs.Listed.{Means}
+use Rattle.archive.specs.Conduct.{Drive, AtRest}
 use Rattle.drive.specs.Senses.{good, busy, writeError, volumeOverflow}
 use Rattle.drive.specs.declared.command.Command.{Command}
 use Rattle.drive.specs.declared.command.Command.the-variants.{Write, Locate, ReadPosition}

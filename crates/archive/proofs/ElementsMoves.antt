@@ -11,12 +11,13 @@ use Rattle.geometry.specs.Cartridge.{isHeader, isUser}
 use Rattle.geometry.specs.declared.address.Address.{Address}
 use Rattle.geometry.proofs.TestLaws.{either-right}
 use Rattle.geometry.proofs.Impossible.{clash}
-use Rattle.drive.specs.Conduct as conduct
-use Rattle.drive.specs.Conduct.{Drive, wrote, failing, taking, moved, empty}
+use Rattle.archive.specs.Conduct as conduct
+use Rattle.archive.specs.Conduct.{Drive, wrote, failing, taking, moved, empty}
 use Rattle.drive.specs.Senses.{meaningOf}
 use Rattle.drive.specs.declared.command.Command.{Command}
 use Rattle.drive.specs.declared.command.Command.the-variants.{Write, Locate, ReadPosition}
 use Rattle.drive.specs.declared.reply.Reply.{Reply}
+use Rattle.drive.specs.Listed.{Listed}
 use Rattle.recording.specs.declared.session.Recording.{Recording}
 use Rattle.recording.proofs.Kept.{Held, heldOf}
 use Rattle.archive.specs.Recordings.{Flight}
@@ -159,7 +160,7 @@ asks-off-header {last} {h} {d = d} {k} (writes a p due off low l) =
 
 pub data Outcome (last : ℕ) (h : Held) (pending : ℕ) (d : Drive) (k edge : ℕ) (r : Reply) (c : Command) : Type 0 where
   goes-on : Answered last h pending d k edge r c → Outcome last h pending d k edge r c
-  reject : (conduct.Listed c (meaningOf (r .key) (r .asc) (r .ascq)) → ⊥) → Safe last d → Outcome last h pending d k edge r c
+  reject : (Listed c (meaningOf (r .key) (r .asc) (r .ascq)) → ⊥) → Safe last d → Outcome last h pending d k edge r c
 
 pub elements-answer : {last : ℕ} {h : Held} {pending : ℕ} {d e : Drive} {k edge : ℕ} {frame : List ℕ} {c : Command} {r : Reply} → Asks last h pending d k edge c → conduct.Answers d frame c r e → Outcome last h pending e k edge r c
 elements-answer {frame = frame} (writes a p due off low l) (conduct.takes _ r m) = goes-on (taken a m due (link-takes frame off low l))

@@ -7,7 +7,7 @@ use mathlib.Core.Logic.{inl}
 use lib.ListN.{length}
 use Rattle.buffer.proofs.Agreement.{agree-same}
 use Rattle.buffer.specs.Bytes.{agree}
-use Rattle.drive.specs.Conduct.{Drive, Acts, Answers}
+use Rattle.archive.specs.Conduct.{Drive, Acts, Answers}
 use Rattle.drive.specs.declared.command.Command.{Command}
 use Rattle.drive.specs.declared.reply.Reply.{Reply}
 use Rattle.recording.specs.Session.{Result, windowLength, accepting}

@@ -14,7 +14,7 @@ use Rattle.geometry.proofs.Impossible.{never, clash}
 use Rattle.buffer.specs.Bytes.{agree}
 use Rattle.buffer.proofs.Agreement.{agree-is}
 use Rattle.frame.specs.Header.{headerFrame}
-use Rattle.drive.specs.Conduct.{Drive, empty}
+use Rattle.archive.specs.Conduct.{Drive, empty}
 use Rattle.drive.specs.declared.command.Command.{Command}
 use Rattle.drive.specs.declared.command.Command.the-variants.{Read, Write, Locate, ReadPosition}
 use Rattle.copies.specs.Copies as copying

@@ -6,8 +6,8 @@ use mathlib.Core.List.{List, [], _∷_}
 use mathlib.Core.Option.{some}
 use lib.ListN.{length}
 use Rattle.frame.specs.Sent.{ReadsAs}
-use Rattle.drive.specs.Conduct.{Drive, reads, writes}
-use Rattle.drive.specs.Tape.{Tape, put}
+use Rattle.archive.specs.Conduct.{Drive, reads, writes}
+use Rattle.archive.specs.Tape.{Tape, put}
 use Rattle.recording.specs.declared.session.Recording.{Recording}
 use Rattle.archive.specs.Recordings.{Element, none, World, Call, Runs}
 use Rattle.archive.proofs.Exchange.{world, acting}

@@ -10,7 +10,8 @@ use Rattle.geometry.proofs.TestLaws.{neither}
 use Rattle.geometry.proofs.Impossible.{never, clash}
 use Rattle.frame.specs.declared.header.Header.{Header}
 use Rattle.drive.specs.Command.{commandCode}
-use Rattle.drive.specs.Conduct.{Means, AtRest, empty, stopped}
+use Rattle.drive.specs.Listed.{Means}
+use Rattle.archive.specs.Conduct.{AtRest, empty, stopped}
 use Rattle.drive.specs.Senses.{meaningOf, busy}
 use Rattle.drive.specs.declared.command.Command.{Command}
 use Rattle.drive.specs.declared.reply.Reply.{Reply}

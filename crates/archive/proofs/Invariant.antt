@@ -7,9 +7,10 @@ use mathlib.Core.Logic.{_⊎_}
 use lib.ListN.{length}
 use Rattle.geometry.specs.Cartridge.{isUser, isHeader}
 use Rattle.geometry.specs.declared.address.Address.{Address}
-use Rattle.drive.specs.Conduct.{Drive, Listed, AtRest}
+use Rattle.drive.specs.Listed.{Listed}
+use Rattle.archive.specs.Conduct.{Drive, AtRest}
 use Rattle.drive.specs.Senses.{meaningOf}
-use Rattle.drive.specs.Tape.{Cartridge}
+use Rattle.archive.specs.Tape.{Cartridge}
 use Rattle.drive.specs.declared.command.Command.the-variants.{Write}
 use Rattle.drive.specs.declared.reply.Reply.{Reply}
 use Rattle.elements.specs.declared.state.Elements.{Elements}

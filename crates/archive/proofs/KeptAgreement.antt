@@ -7,7 +7,7 @@ use native.Mathlib.Omega.{arith}
 use lib.ListN.{length}
 use Rattle.geometry.specs.declared.address.Address.{Address}
 use Rattle.geometry.proofs.Impossible.{clash}
-use Rattle.drive.specs.Conduct.{Drive, AtRest, empty, stopped}
+use Rattle.archive.specs.Conduct.{Drive, AtRest, empty, stopped}
 use Rattle.drive.specs.declared.command.Command.{Command}
 use Rattle.drive.specs.declared.command.Command.the-variants.{Write}
 use Rattle.drive.specs.declared.reply.Reply.{Reply}

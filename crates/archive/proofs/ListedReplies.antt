@@ -8,7 +8,8 @@ use mathlib.Core.Logic.{_⊎_, inl, inr}
 use Rattle.geometry.specs.Cartridge.{isHeader}
 use Rattle.geometry.specs.declared.address.Address.{Address}
 use Rattle.geometry.proofs.Impossible.{never}
-use Rattle.drive.specs.Conduct.{Drive, Listed}
+use Rattle.drive.specs.Listed.{Listed}
+use Rattle.archive.specs.Conduct.{Drive}
 use Rattle.drive.specs.Senses.{meaningOf}
 use Rattle.drive.specs.declared.command.Command.{Command}
 use Rattle.drive.specs.declared.command.Command.the-variants.{Read, Write, Locate, ReadPosition}

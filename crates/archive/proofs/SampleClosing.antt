@@ -8,7 +8,7 @@ use lib.ListN.{length}
 use Rattle.buffer.specs.Bytes.{agree}
 use Rattle.buffer.proofs.Agreement.{agree-same}
 use Rattle.frame.specs.declared.header.Header.{Header}
-use Rattle.drive.specs.Conduct.{Drive}
+use Rattle.archive.specs.Conduct.{Drive}
 use Rattle.drive.specs.Senses.{meaningIn}
 use Rattle.drive.specs.declared.command.Command.the-variants.{Write, ReadPosition}
 use Rattle.copies.specs.Copies as copies

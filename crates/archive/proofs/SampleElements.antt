@@ -11,9 +11,9 @@ use lib.ListN.{length}
 use Rattle.geometry.proofs.PickLaws.{pick-t, pick-f}
 use Rattle.buffer.specs.Bytes.{agree}
 use Rattle.buffer.proofs.Agreement.{agree-same}
-use Rattle.drive.specs.Conduct.{Drive, Acts, fails, writes, as-before, reads, Answers, takes, counts, position-fails, locates, waits}
+use Rattle.archive.specs.Conduct.{Drive, Acts, fails, writes, as-before, reads, Answers, takes, counts, position-fails, locates, waits}
 use Rattle.drive.specs.Senses.{meaningIn}
-use Rattle.drive.specs.Tape.{Tape, put}
+use Rattle.archive.specs.Tape.{Tape, put}
 use Rattle.drive.specs.declared.command.Command.{Command}
 use Rattle.drive.specs.declared.command.Command.the-variants.{Write, Locate, ReadPosition}
 use Rattle.drive.specs.declared.reply.Reply.{Reply}

@@ -13,9 +13,9 @@ use Rattle.geometry.specs.Cartridge.{headerAddress}
 use Rattle.geometry.specs.declared.address.Address.{Address}
 use Rattle.frame.specs.Header.{headerFrame}
 use Rattle.frame.specs.declared.header.Header.{Header}
-use Rattle.drive.specs.Conduct.{Drive, Answers, takes, counts, locates}
+use Rattle.archive.specs.Conduct.{Drive, Answers, takes, counts, locates}
 use Rattle.drive.specs.Senses.{meaningIn}
-use Rattle.drive.specs.Tape.{Tape}
+use Rattle.archive.specs.Tape.{Tape}
 use Rattle.drive.specs.declared.command.Command.{Command}
 use Rattle.drive.specs.declared.command.Command.the-variants.{Write, Locate, ReadPosition}
 use Rattle.drive.specs.declared.reply.Reply.{Reply}

@@ -21,9 +21,9 @@ use Rattle.frame.specs.declared.element.Element.{Element}
 use Rattle.frame.specs.declared.element.Kind.the-variants.{Data, Eod}
 use Rattle.frame.proofs.AuxFields.{aux-pass}
 use Rattle.frame.proofs.Frames.{element-length, element-aux}
-use Rattle.drive.specs.Conduct as conduct
-use Rattle.drive.specs.Conduct.{Drive}
-use Rattle.drive.specs.Tape.{Tape, put, Cartridge, Bears}
+use Rattle.archive.specs.Conduct as conduct
+use Rattle.archive.specs.Conduct.{Drive}
+use Rattle.archive.specs.Tape.{Tape, put, Cartridge, Bears}
 use Rattle.drive.specs.declared.command.Command.the-variants.{ReadPosition}
 use Rattle.copies.specs.Copies as copies
 use Rattle.elements.specs.Answer as answer

@@ -3,7 +3,7 @@ use Prim.Native.Nat.{ℕ, _+_, _^_, _≤_, _<_}
 use mathlib.Core.Path.{_≡_}
 use mathlib.Core.List.{List}
 use Rattle.header.specs.Valid.{headerOf}
-use Rattle.drive.specs.Tape.{Tape}
+use Rattle.archive.specs.Tape.{Tape}
 use Rattle.archive.specs.Headers.{Newest}
 use Rattle.archive.specs.Recordings.{Element}
 use Rattle.archive.specs.Demand.{Opening, OnNewest, NoneBears}

@@ -20,8 +20,8 @@ use Rattle.geometry.proofs.Impossible.{never}
 use Rattle.frame.specs.declared.header.Header.{Header}
 use Rattle.header.specs.Valid.{validHeader, headerOf}
 use Rattle.header.proofs.Facts.{valid-last}
-use Rattle.drive.specs.Conduct.{Drive, AtRest}
-use Rattle.drive.specs.Tape.{Tape, Cartridge}
+use Rattle.archive.specs.Conduct.{Drive, AtRest}
+use Rattle.archive.specs.Tape.{Tape, Cartridge}
 use Rattle.copies.proofs.Counts.{start-counts}
 use Rattle.copies.proofs.DueAddress.{start-placed}
 use Rattle.recording.specs.Session.{Result, accepting}

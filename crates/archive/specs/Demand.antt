@@ -8,8 +8,8 @@ use lib.ListN.{length, take}
 use Rattle.geometry.specs.Said.{address}
 use Rattle.geometry.specs.Cartridge.{lastOf, isUser, isHeader}
 use Rattle.geometry.specs.declared.cartridge.Geometry.{Geometry}
-use Rattle.drive.specs.Conduct.{Drive, AtRest}
-use Rattle.drive.specs.Tape.{Tape, Cartridge, Bears}
+use Rattle.archive.specs.Conduct.{Drive, AtRest}
+use Rattle.archive.specs.Tape.{Tape, Cartridge, Bears}
 use Rattle.drive.specs.declared.reply.Reply.{Reply}
 use Rattle.recording.specs.Session.{Result, accepting}
 use Rattle.recording.specs.Open.{openOf, openBlankOf}

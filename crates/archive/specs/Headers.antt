@@ -6,7 +6,7 @@ use mathlib.Core.List.{List}
 use mathlib.Core.Option.{some}
 use Rattle.geometry.specs.Cartridge.{isHeader}
 use Rattle.header.specs.Valid.{validHeader, updateOf}
-use Rattle.drive.specs.Tape.{Tape}
+use Rattle.archive.specs.Tape.{Tape}
 
 -- a valid header that reads at an address of the header groups
 pub record HeaderAt (last : ℕ) (t : Tape) (a : ℕ) (h : List ℕ) : Type 0 where

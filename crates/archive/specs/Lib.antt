@@ -1,3 +1,5 @@
+pub mod Tape
+pub mod Conduct
 pub mod Headers
 pub mod Recordings
 pub mod Readings

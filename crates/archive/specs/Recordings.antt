@@ -5,7 +5,7 @@ use mathlib.Core.Bool.{Bool, true, false, _&&_}
 use mathlib.Core.List.{List, [], _∷_, _++_}
 use mathlib.Core.Logic.{_⊎_}
 use Rattle.buffer.specs.Bytes.{agree}
-use Rattle.drive.specs.Conduct.{Drive, Acts, Answers}
+use Rattle.archive.specs.Conduct.{Drive, Acts, Answers}
 use Rattle.drive.specs.declared.command.Command.{Command}
 use Rattle.drive.specs.declared.reply.Reply.{Reply}
 use Rattle.recording.specs.Accept.{filemarkOf, blockOf, closeOf}

@@ -1,4 +1,3 @@
 pub mod Command
 pub mod Senses
-pub mod Tape
-pub mod Conduct
+pub mod Listed

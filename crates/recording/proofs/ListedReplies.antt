@@ -9,8 +9,8 @@ use Rattle.geometry.specs.Cartridge.{isHeader}
 use Rattle.geometry.specs.declared.address.Address.{Address}
 use Rattle.geometry.proofs.Impossible.{never, clash}
 use Rattle.drive.specs.Command.{commandCode, commandAddress}
-use Rattle.drive.specs.Conduct as conduct
-use Rattle.drive.specs.Conduct.{Listed}
+use Rattle.drive.specs.Listed as on
+use Rattle.drive.specs.Listed.{Listed}
 use Rattle.drive.specs.Senses.{meaningOf}
 use Rattle.drive.specs.declared.command.Command.{Command}
 use Rattle.drive.specs.declared.command.Command.the-variants.{Read, Write, Locate, ReadPosition}
@@ -59,28 +59,28 @@ module _ (s : Recording) (r : Reply) where
       subst (Listed (s .command)) (sym (p .1)) (by-write (λ (c : Command). ((a : Address) → c ≡ Write a → Listed (Write a) m) → Listed c m) (s .command) (p .0) (λ a x. x a refl) h)
 
   busy-listed : Busy (caseOf s r) → Here
-  busy-listed (inl e) = written-at 2 (omega arith) (λ _ _. conduct.write-busy) e
-  busy-listed (inr (inl e)) = located-at 2 (omega arith) (λ _. conduct.locate-busy) e
-  busy-listed (inr (inr e)) = position-at 2 (omega arith) conduct.position-busy e
+  busy-listed (inl e) = written-at 2 (omega arith) (λ _ _. on.write-busy) e
+  busy-listed (inr (inl e)) = located-at 2 (omega arith) (λ _. on.locate-busy) e
+  busy-listed (inr (inr e)) = position-at 2 (omega arith) on.position-busy e
 
   error-listed : (caseOf s r ≡ 0x0A03) ⊎ (caseOf s r ≡ 0x3403) → Here
-  error-listed (inl e) = written-at 3 (omega arith) (λ _ _. conduct.write-error) e
-  error-listed (inr e) = position-at 3 (omega arith) conduct.position-error e
+  error-listed (inl e) = written-at 3 (omega arith) (λ _ _. on.write-error) e
+  error-listed (inr e) = position-at 3 (omega arith) on.position-error e
 
   copies-listed : {x : copies.Said} → copying.AnswerView (s .copies) (caseOf s r) r x → (x ≡ copies.refused 8 → ⊥) → Here
-  copies-listed (copying.located e) h = located-at 1 (omega arith) (λ _. conduct.locate-good) e
-  copies-listed (copying.taken e) h = written-at 1 (omega arith) (λ _ _. conduct.write-good) e
-  copies-listed (copying.positioned e _) h = position-at 1 (omega arith) conduct.position-good e
+  copies-listed (copying.located e) h = located-at 1 (omega arith) (λ _. on.locate-good) e
+  copies-listed (copying.taken e) h = written-at 1 (omega arith) (λ _ _. on.write-good) e
+  copies-listed (copying.positioned e _) h = position-at 1 (omega arith) on.position-good e
   copies-listed (copying.failed e _ _) h = error-listed e
   copies-listed (copying.unlawful _) h = absurd (h refl)
 
   elements-listed : {x : answer.Step} → ElementStage s → OffHeaders s → answers.AnswerView (s .elements) (caseOf s r) (at (commandAddress (s .command))) r x → (x .number ≡ 8 → ⊥) → Here
-  elements-listed st off (answers.located e) h = located-at 1 (omega arith) (λ _. conduct.locate-good) e
-  elements-listed st off (answers.taken e) h = written-at 1 (omega arith) (λ _ _. conduct.write-good) e
-  elements-listed st off (answers.positioned e _) h = position-at 1 (omega arith) conduct.position-good e
+  elements-listed st off (answers.located e) h = located-at 1 (omega arith) (λ _. on.locate-good) e
+  elements-listed st off (answers.taken e) h = written-at 1 (omega arith) (λ _ _. on.write-good) e
+  elements-listed st off (answers.positioned e _) h = position-at 1 (omega arith) on.position-good e
   elements-listed st off (answers.failed e _ _ _) h = error-listed e
   elements-listed st off (answers.full e _ _ _) h = error-listed e
-  elements-listed st off (answers.shortened e) h = written-at 4 (omega arith) (λ a q. conduct.write-overflow (off st a q)) e
+  elements-listed st off (answers.shortened e) h = written-at 4 (omega arith) (λ a q. on.write-overflow (off st a q)) e
   elements-listed st off (answers.unlawful _) h = absurd (h refl)
 
   pub taken-listed : s .ended ≡ false → s .awaiting ≡ true → OffHeaders s → (replyOf s r .number ≡ 8 → ⊥) → Here
@@ -130,21 +130,21 @@ module _ (s : Recording) (r : Reply) where
     busy : Busy n → Case n
 
   listed-case : (c : Command) (m : ℕ) → s .command ≡ c → Listed c m → ((a : Address) → c ≡ Read a → ⊥) → Case (commandCode c * 256 + m)
-  listed-case c m e conduct.locate-good h = located refl
-  listed-case c m e conduct.locate-busy h = busy (inr (inl refl))
-  listed-case c m e conduct.write-good h = taken refl
-  listed-case c m e conduct.write-busy h = busy (inl refl)
-  listed-case c m e conduct.write-error h = failed (inl refl)
-  listed-case c m e (conduct.write-overflow off) h = overflowed _ e off refl
-  listed-case c m e conduct.position-good h = counted refl
-  listed-case c m e conduct.position-busy h = busy (inr (inr refl))
-  listed-case c m e conduct.position-error h = failed (inr refl)
-  listed-case c m e conduct.read-good h = absurd (h _ refl)
-  listed-case c m e conduct.read-busy h = absurd (h _ refl)
-  listed-case c m e conduct.read-recovered h = absurd (h _ refl)
-  listed-case c m e conduct.read-unreadable h = absurd (h _ refl)
-  listed-case c m e conduct.read-end-of-data h = absurd (h _ refl)
-  listed-case c m e conduct.read-end-of-medium h = absurd (h _ refl)
+  listed-case c m e on.locate-good h = located refl
+  listed-case c m e on.locate-busy h = busy (inr (inl refl))
+  listed-case c m e on.write-good h = taken refl
+  listed-case c m e on.write-busy h = busy (inl refl)
+  listed-case c m e on.write-error h = failed (inl refl)
+  listed-case c m e (on.write-overflow off) h = overflowed _ e off refl
+  listed-case c m e on.position-good h = counted refl
+  listed-case c m e on.position-busy h = busy (inr (inr refl))
+  listed-case c m e on.position-error h = failed (inr refl)
+  listed-case c m e on.read-good h = absurd (h _ refl)
+  listed-case c m e on.read-busy h = absurd (h _ refl)
+  listed-case c m e on.read-recovered h = absurd (h _ refl)
+  listed-case c m e on.read-unreadable h = absurd (h _ refl)
+  listed-case c m e on.read-end-of-data h = absurd (h _ refl)
+  listed-case c m e on.read-end-of-medium h = absurd (h _ refl)
 
   copies-refuse : {n : ℕ} {x : copies.Said} → HeaderStage s → OnHeaders s → Awaited s r → Possible (s .copies .outstanding) (oldestAddress (s .copies)) (nextAddress (s .copies)) → Case (caseOf s r)
       → copying.AnswerView (s .copies) (caseOf s r) r x → x ≡ copies.refused n → n ≡ 8 → ⊥

@@ -9,11 +9,12 @@ use lib.ListN.{length}
 use Rattle.geometry.specs.Cartridge.{isHeader}
 use Rattle.geometry.specs.declared.address.Address.{Address}
 use Rattle.frame.specs.Sent.{ReadsAs}
 use Rattle.drive.specs.declared.command.Command.{Command}
 use Rattle.drive.specs.declared.command.Command.the-variants.{Read, Write, Locate, ReadPosition}
 use Rattle.drive.specs.declared.reply.Reply.{Reply}
+use Rattle.drive.specs.Listed.{Means, Listed}
 use Rattle.drive.specs.Senses.{meaningOf, good, busy, writeError, volumeOverflow, recovered, unreadable, endOfData, endOfMedium}
-use Rattle.drive.specs.Tape.{Tape, put}
+use Rattle.archive.specs.Tape.{Tape, put}
 
 -- ---- a drive that records
 
@@ -59,28 +60,6 @@ taking d f = record { tape = d .tape; at = d .at; buffer = d .buffer ++ f ∷ []
 -- LOCATE empties the buffer
 abbrev pub moved : Drive → ℕ → Drive
 moved d a = record { tape = d .tape; at = a; buffer = []; failed = false; written = d .written }
-
-abbrev pub Means : Reply → ℕ → Type 0
-Means r m = meaningOf (r .key) (r .asc) (r .ascq) ≡ m
-
--- 01, "Replies": the meanings listed for a command
-pub data Listed : Command → ℕ → Type 0 where
-  locate-good : {a : Address} → Listed (Locate a) good
-  locate-busy : {a : Address} → Listed (Locate a) busy
-  write-good : {a : Address} → Listed (Write a) good
-  write-busy : {a : Address} → Listed (Write a) busy
-  write-error : {a : Address} → Listed (Write a) writeError
-  -- on WRITE of an element or EOD, and so not in a header group
-  write-overflow : {a : Address} → isHeader (a .0) ≡ false → Listed (Write a) volumeOverflow
-  position-good : Listed ReadPosition good
-  position-busy : Listed ReadPosition busy
-  position-error : Listed ReadPosition writeError
-  read-good : {a : Address} → Listed (Read a) good
-  read-busy : {a : Address} → Listed (Read a) busy
-  read-recovered : {a : Address} → Listed (Read a) recovered
-  read-unreadable : {a : Address} → Listed (Read a) unreadable
-  read-end-of-data : {a : Address} → Listed (Read a) endOfData
-  read-end-of-medium : {a : Address} → Listed (Read a) endOfMedium
 
 -- what the drive answers to a recording's command, a WRITE with its frame, and does with it
 pub data Answers (d : Drive) (frame : List ℕ) : Command → Reply → Drive → Type 0 where
