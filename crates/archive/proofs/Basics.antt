@@ -7,6 +7,7 @@ use mathlib.Core.Option.{Option, none, some}
 use native.Mathlib.Omega.{arith}
 use lib.ListN.{length}
 use Rattle.geometry.proofs.Impossible.{never}
+use Rattle.frame.specs.Sent.{ReadsAs}
 use Rattle.drive.specs.declared.command.Command.{Command}
 use Rattle.drive.specs.declared.reply.Reply.{Reply}
 use Rattle.archive.specs.Recordings as recordings
@@ -26,6 +27,10 @@ some-same e = cc
 pub no-frames : (fs : List (List ℕ)) → length fs ≤ 0 → fs ≡ []
 no-frames [] h = refl
 no-frames (f ∷ fs) h = absurd (omega arith)
+
+-- a frame reads as itself
+pub reads-itself : (f : List ℕ) → ReadsAs f f
+reads-itself f = record { long = refl; before = λ k h. refl; behind = λ k h. refl }
 
 -- ---- the command of a recording, sent or answered
 

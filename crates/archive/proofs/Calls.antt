@@ -1,5 +1,6 @@
 -- Every call keeps the invariant. Assumes nothing.
 use Prim.Native.Nat.{ℕ, _≤_}
+use mathlib.Core.List.{List}
 use mathlib.Core.Path.{_≡_, refl, sym, subst, _∙_}
 use mathlib.Core.Bool.{true}
 use mathlib.Core.Logic.{inl, inr}
@@ -9,8 +10,11 @@ use Rattle.recording.specs.Fetch as fetch
 use Rattle.recording.specs.Fetch.{Said, fetchOf}
 use Rattle.recording.specs.Reply.{replyOf}
 use Rattle.recording.specs.declared.session.Recording.{Recording}
+use Rattle.geometry.proofs.PickLaws.{pick-by}
+use Rattle.buffer.specs.Bytes.{agree}
+use Rattle.buffer.proofs.Agreement.{agree-is}
 use Rattle.recording.proofs.ListedReplies.{unlisted-refused}
-use Rattle.recording.proofs.Refusals.{refused-block, refused-filemark, refused-close, refused-fetch, refused-reply}
+use Rattle.recording.proofs.Refusals.{refused-window, refused-block, refused-filemark, refused-close, refused-fetch, refused-reply}
 use Rattle.archive.specs.Recordings as recordings
 use Rattle.archive.specs.Recordings.{World, TakesEffect, afterReply}
 use Rattle.archive.specs.Demand.{Within, Demand3}
@@ -69,9 +73,22 @@ same-session s (recordings.fetch window frame) l h = go (fetchOf s window frame 
     go (fetch.refused n) e l h = refused-fetch s n window frame e .unchanged l h
 same-session s (recordings.reply r) l h = refused-reply s r .unchanged l h
 
+-- and so is the window
+same-window : (w : World) (c : recordings.Call) → 1 ≤ recordings.refusal (w .session) c → recordings.windowAfter w c ≡ w .window
+same-window w (recordings.accept-block b lent) l =
+    pick-by (λ (x : List ℕ). x ≡ w .window) (agree lent (w .window)) (λ e. refused-window (w .session) b lent l ∙ agree-is lent (w .window) e) (λ _. refl)
+same-window w recordings.accept-filemark l = refl
+same-window w recordings.close l = refl
+same-window w (recordings.fetch lent frame) l = refl
+same-window w (recordings.reply r) l = refl
+
+abbrev withWindow : World → Recording → List ℕ → World
+withWindow w s window = record { session = s; window = window; unaltered = w .unaltered; drive = w .drive; flight = w .flight; accepted = w .accepted; reported = w .reported }
+
 pub keeps-call : {last pass : ℕ} {premises : Type 0} (w v : World) (c : recordings.Call) → Setting last pass → Inv last pass premises w → recordings.Calls w c v → Inv last pass premises v
 keeps-call {last} {pass} {premises} w v c set i (recordings.refuses _ l h) =
-    subst (λ (s : Recording). Inv last pass premises (recordings.withSession w s)) (sym (same-session (w .session) c l h)) i
+    subst (λ (s : Recording). Inv last pass premises (withWindow w s (recordings.windowAfter w c))) (sym (same-session (w .session) c l h))
+    (subst (λ (x : List ℕ). Inv last pass premises (withWindow w (w .session) x)) (sym (same-window w c l)) i)
 keeps-call w v c set i (recordings.accepts-block b lent te) = keeps-block w b lent set i te
 keeps-call w v c set i (recordings.accepts-filemark te) = keeps-filemark w set i te
 keeps-call w v c set i (recordings.closes te) = keeps-close w i te

@@ -1,6 +1,6 @@
 -- Demand 3 holds. Assumes nothing.
 use Prim.Native.Nat.{ℕ}
-use mathlib.Core.Path.{_≡_, ap, subst, _∙_}
+use mathlib.Core.Path.{_≡_, sym, ap, subst, _∙_}
 use mathlib.Core.List.{List}
 use mathlib.Core.Bool.{false}
 use Rattle.geometry.specs.Said.{address}
@@ -11,11 +11,11 @@ use Rattle.reading.specs.Open as reading
 use Rattle.archive.specs.Recordings as recordings
 use Rattle.archive.specs.Recordings.{Element}
 use Rattle.archive.specs.Readings as readings
-use Rattle.archive.specs.Demand.{Readable, Within, Demand3}
+use Rattle.archive.specs.Demand.{NoneBears, Readable, Within, Demand3}
 use Rattle.archive.proofs.Setting.{Setting, Leaves}
 use Rattle.archive.proofs.Invariant.{Inv, live, rejecting, over}
 use Rattle.archive.proofs.ReadingInvariant.{RecordedTape, ReadInv}
-use Rattle.archive.proofs.Start.{sets, begins}
+use Rattle.archive.proofs.Start.{sets, pass-is, begins}
 use Rattle.archive.proofs.DriveMoves.{keeps-move}
 use Rattle.archive.proofs.Calls.{keeps-call}
 use Rattle.archive.proofs.Completion.{completes, opens}
@@ -56,5 +56,7 @@ demand-3 g last depth blocks d o s window calls w seg trk e cart unwritten rest 
     let i = runs-keep set (begins g last depth blocks d o s window e set cart unwritten rest op) r in
     record {
       written = within i;
-      readable = λ newest none unaltered reported. readable g last pass (w .drive .tape) (w .accepted) e (completes w set i (newest, none) unaltered reported);
+      readable = λ newest none unaltered reported.
+          readable g last pass (w .drive .tape) (w .accepted) e
+          (completes w set i (newest, subst (NoneBears last (d .tape)) (sym (pass-is g last depth blocks s e o op)) none) unaltered reported);
     }

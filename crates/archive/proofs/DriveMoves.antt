@@ -150,6 +150,7 @@ module _ {last pass : ℕ} {premises : Type 0} {w : World} (set : Setting last p
   same-tape (conduct.write-fails a r m x q) = (refl, refl)
   same-tape (conduct.position-fails r m x q) = (refl, refl)
   same-tape (conduct.locates a r m) = (refl, refl)
+  same-tape (conduct.reads a r m) = (refl, refl)
   same-tape (conduct.waits c r m) = (refl, refl)
   same-tape (conduct.waits-located a r m) = (refl, refl)
   same-tape (conduct.rejects c r m) = (refl, refl)

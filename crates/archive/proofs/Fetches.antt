@@ -17,6 +17,7 @@ use Rattle.frame.specs.Header.{headerFrame}
 use Rattle.archive.specs.Conduct.{Drive, empty}
 use Rattle.drive.specs.declared.command.Command.{Command}
 use Rattle.drive.specs.declared.command.Command.the-variants.{Read, Write, Locate, ReadPosition}
+use Rattle.drive.proofs.Cases.{command-by}
 use Rattle.copies.specs.Copies as copying
 use Rattle.copies.proofs.CommandView as command
 use Rattle.copies.proofs.DueAddress.{PlacedOf}
@@ -94,7 +95,7 @@ fetchedWorld w lent x = record {
   window = lent;
   unaltered = w .unaltered && agree lent (w .window);
   drive = w .drive;
-  flight = flightAfter (x .said) (w .flight) (x .session .command) (x .frame);
+  flight = flightAfter (x .said) (w .flight) (x .frame);
   accepted = w .accepted;
   reported = reportedAfter (x .said) (w .reported);
 }
@@ -312,17 +313,22 @@ module _ {last pass : ℕ} {premises : Type 0} (w : World) (lent frame : List �
   abbrev After : Fetching → Type 0
   After x = Inv last pass premises (fetchedWorld w lent x)
 
+  -- the command goes to the drive as the fetch names it
+  as-named : (c : Command) → Inv last pass premises (sentWorld w lent frame set wr l c) → After (sending (w .session) c lent frame)
+  unfolding sending
+  as-named c i =
+      subst (λ (x : Command). Inv last pass premises (lentWorld w lent (awaits (w .session) c) (recordings.sent x (frameFor c (w .session) lent frame)) (w .reported))) (sym (command-by c)) i
+
   -- in a header stage
   module _ (st : HeaderStage (w .session)) (agree : CopiesAgree (w .session) (w .drive) (w .flight))
       (course : (c : Command) → CopiesAgree (awaits (w .session) c) (w .drive) (recordings.sent c (frameFor c (w .session) lent frame)) → Course last (sentWorld w lent frame set wr l c) (l .k) (l .edge)) where
     fetch-header : {x : Fetching} → FetchView (w .session) lent frame x → TakesEffect (fetchNumber (x .said)) → After x
-    unfolding sending
     fetch-header (view.wrongPhase _) te = no-effect (omega arith) (omega arith) te
     fetch-header (view.wrongLength _ _ _) te = no-effect (omega arith) (omega arith) te
-    fetch-header (view.repeating r ag) te = header-out w lent frame set wr l st (w .session .command) agree (again-header w lent frame set wr l st ag (copying-idle (r .free) (agree .copying))) (course (w .session .command))
+    fetch-header (view.repeating r ag) te = as-named (w .session .command) (header-out w lent frame set wr l st (w .session .command) agree (again-header w lent frame set wr l st ag (copying-idle (r .free) (agree .copying))) (course (w .session .command)))
     fetch-header (view.copying r ag _) te =
         let c = copying.commandOf (w .session .depth) (w .session .copies) in
-        header-out w lent frame set wr l st c agree (asks-header w lent frame set wr l st (agree .placed) (command.command-view (w .session .depth) (w .session .copies)) ag (copying-idle (r .free) (agree .copying))) (course c)
+        as-named c (header-out w lent frame set wr l st c agree (asks-header w lent frame set wr l st (agree .placed) (command.command-view (w .session .depth) (w .session .copies)) ag (copying-idle (r .free) (agree .copying))) (course c))
     fetch-header (view.stepping r ag el c d) te = header-not-element (w .session) st el
     fetch-header (view.resting r ag el d) te = header-not-element (w .session) st el
     fetch-header (view.stopping r ag el n d) te = header-not-element (w .session) st el
@@ -335,14 +341,13 @@ module _ {last pass : ℕ} {premises : Type 0} (w : World) (lent frame : List �
     numbers = writing-numbers (l .counted .held) agree
 
     fetch-elements : {x : Fetching} → FetchView (w .session) lent frame x → TakesEffect (fetchNumber (x .said)) → After x
-    unfolding sending
     fetch-elements (view.wrongPhase _) te = no-effect (omega arith) (omega arith) te
     fetch-elements (view.wrongLength _ _ _) te = no-effect (omega arith) (omega arith) te
     fetch-elements (view.repeating r ag) te =
-        element-out w lent frame set wr l (r .windowRight) numbers alone (w .session .command) (again-element w lent frame set wr l ag (writing-idle (r .free) agree .0)) st (course (w .session .command))
+        as-named (w .session .command) (element-out w lent frame set wr l (r .windowRight) numbers alone (w .session .command) (again-element w lent frame set wr l ag (writing-idle (r .free) agree .0)) st (course (w .session .command)))
     fetch-elements (view.copying r ag h) te = header-not-element (w .session) h st
     fetch-elements (view.stepping r ag el c d) te =
-        element-out w lent frame set wr l (r .windowRight) numbers alone c (out-element w lent frame set wr l (subst (rule.DueView (w .session .depth) (w .session .elements)) d (rule.due-view (w .session .depth) (w .session .elements))) ag (writing-idle (r .free) agree .0)) st (course c)
+        as-named c (element-out w lent frame set wr l (r .windowRight) numbers alone c (out-element w lent frame set wr l (subst (rule.DueView (w .session .depth) (w .session .elements)) d (rule.due-view (w .session .depth) (w .session .elements))) ag (writing-idle (r .free) agree .0)) st (course c))
     fetch-elements (view.resting r ag el d) te = live wr (quiet w lent frame set wr l (w .reported) (l .reported))
     fetch-elements (view.stopping r ag el n d) te =
         let i = writing-idle (r .free) agree in

@@ -1,10 +1,11 @@
 -- The command that a recording's fetch answers, by number and address, is the one that its session holds and that goes to the drive. Assumes nothing.
 use Prim.Native.Nat.{ℕ}
-use mathlib.Core.Path.{_≡_, refl, ap}
+use mathlib.Core.Path.{_≡_, ap, _∙_}
 use mathlib.Core.List.{List}
 use Rattle.geometry.proofs.Impossible.{never}
-use Rattle.drive.specs.Command.{commandCode, commandAddress}
+use Rattle.drive.specs.Command.{commandCode, commandAddress, commandBy}
 use Rattle.drive.specs.declared.command.Command.{Command}
+use Rattle.drive.proofs.Cases.{command-by}
 use Rattle.recording.specs.Fetch as fetch
 use Rattle.recording.specs.Fetch.{Said, Fetching, sending, fetchOf}
 use Rattle.recording.specs.declared.session.Recording.{Recording}
@@ -39,4 +40,9 @@ module _ (s : Recording) (lent frame : List ℕ) (n a : ℕ) where
 pub sent-command : (w : World) (lent frame : List ℕ) (n a : ℕ) → fetchOf (w .session) lent frame .said ≡ fetch.command n a
     → afterFetch w lent frame .flight ≡ sent (afterFetch w lent frame .session .command) (fetchOf (w .session) lent frame .frame)
 sent-command w lent frame n a e =
-    ap (λ (x : Said). flightAfter x (w .flight) (fetchOf (w .session) lent frame .session .command) (fetchOf (w .session) lent frame .frame)) e
+    let names = answered-command (w .session) lent frame n a e in
+    let held = fetchOf (w .session) lent frame .session .command in
+    ap (λ (x : Said). flightAfter x (w .flight) (fetchOf (w .session) lent frame .frame)) e
+    ∙ ap (λ (x : ℕ). sent (commandBy x a) (fetchOf (w .session) lent frame .frame)) (names .number-is)
+    ∙ ap (λ (x : ℕ). sent (commandBy (commandCode held) x) (fetchOf (w .session) lent frame .frame)) (names .address-is)
+    ∙ ap (λ (c : Command). sent c (fetchOf (w .session) lent frame .frame)) (command-by held)

@@ -30,7 +30,7 @@ use Rattle.recording.specs.declared.session.Recording.{Recording}
 use Rattle.recording.specs.declared.session.Stage.the-variants as S
 use Rattle.archive.specs.Recordings as recordings
 use Rattle.archive.specs.Demand as demand
-use Rattle.archive.specs.Demand.{Opening, on-header, on-none, opened, OnNewest, NoneBears}
+use Rattle.archive.specs.Demand.{newPass, Opening, on-header, on-none, opened, OnNewest, NoneBears}
 use Rattle.archive.proofs.Scan.{going, scan, Seen}
 use Rattle.archive.proofs.ScanLaws.{seen-part, scan-over}
 use Rattle.archive.proofs.UserPlaces.{User, user-ranges}
@@ -127,10 +127,13 @@ module _ (g : Geometry) (last depth blocks : ℕ) (s : Recording) (e : lastOf g 
         count-fits = let y = x .1 in omega (arith, few);
       }
 
-  started-none : openBlankOf g depth blocks ≡ accepting s → Started last s
+  blank-with : openBlankOf g depth blocks ≡ accepting s → (fresh depth (blocks - 1) (openingHeader last 1 0) ≡ s) × (blocks ≤ 64) × (false ≡ false)
   unfolding openBlankOf
+  blank-with q = opened-with depth blocks false (openingHeader last 1 0) s (sym (ap (λ (y : Said). openBlankFor y depth blocks) e) ∙ q)
+
+  started-none : openBlankOf g depth blocks ≡ accepting s → Started last s
   started-none q =
-      let o = opened-with depth blocks false (openingHeader last 1 0) s (sym (ap (λ (y : Said). openBlankFor y depth blocks) e) ∙ q) in
+      let o = blank-with q in
       record {
         depth = depth;
         highest = blocks - 1;
@@ -146,6 +149,13 @@ module _ (g : Geometry) (last depth blocks : ℕ) (s : Recording) (e : lastOf g 
   pub started-as : (o : Opening) → opened g depth blocks o ≡ accepting s → Started last s
   started-as (on-header h) q = started-header h (on-header-view h q)
   started-as on-none q = started-none q
+
+  pub pass-is : (o : Opening) → opened g depth blocks o ≡ accepting s → s .copies .header .pass ≡ newPass o
+  pass-is (on-header h) q =
+      let o = on-header-view h q in
+      let small : (headerOf h .pass + 1) % 2 ^ 16 ≡ headerOf h .pass + 1 = mod-eq-of-lt (let y = fresh-counts h o .0 in omega arith) in
+      sym (ap (λ (r : Recording). r .copies .header .pass) (o .with .0)) ∙ small
+  pass-is on-none q = sym (ap (λ (r : Recording). r .copies .header .pass) (blank-with q .0))
 
   -- every valid header that the cartridge holds counts less
   pub starts-below : (t : Tape) (o : Opening) → opened g depth blocks o ≡ accepting s → OnNewest last t o → Below last (s .copies .header) t

@@ -73,6 +73,8 @@ pub data Answers (d : Drive) (frame : List ℕ) : Command → Reply → Drive �
   write-fails : (a : Address) (r : Reply) → Means r writeError → d .failed ≡ true → r .position .0 ≡ d .at → Answers d frame (Write a) r d
   position-fails : (r : Reply) → Means r writeError → d .failed ≡ true → r .position .0 ≡ d .at → Answers d frame ReadPosition r d
   locates : (a : Address) (r : Reply) → Means r good → Answers d frame (Locate a) r (moved d (a .0))
+  -- a READ alters nothing
+  reads : (a : Address) (r : Reply) → Listed (Read a) (meaningOf (r .key) (r .asc) (r .ascq)) → Answers d frame (Read a) r d
   -- busy, or a reply that is not listed for the command: nothing is done, but that a LOCATE may have been
   waits : (c : Command) (r : Reply) → Means r busy → Answers d frame c r d
   waits-located : (a : Address) (r : Reply) → Means r busy → Answers d frame (Locate a) r (moved d (a .0))
@@ -81,7 +83,7 @@ pub data Answers (d : Drive) (frame : List ℕ) : Command → Reply → Drive �
 
 -- ---- a drive that reads: its tape doesn't change, and at is where it stands
 
--- what it answers to a reading's command, the frame that it brings with it or none, and where it stands then. Only listed replies come.
+-- what it answers to LOCATE and READ, a reading's commands, the frame that it brings with it or none, and where it stands then. Only listed replies come.
 pub data Serves (t : Tape) (at : ℕ) : Command → Reply → Option (List ℕ) → ℕ → Type 0 where
   locates : (a : Address) (r : Reply) → Means r good → Serves t at (Locate a) r none (a .0)
   -- it brings what that address reads as

@@ -1,21 +1,23 @@
 -- 00, demand 3, as 01, "The lists of demand 3", makes it exact: one claim over whole lists of calls.
-use Prim.Native.Nat.{ℕ, _-_, _^_, _≤_, _<_}
+use Prim.Native.Nat.{ℕ, _+_, _-_, _^_, _≤_, _<_}
 use mathlib.Core.Path.{_≡_}
 use mathlib.Core.Bool.{true, false, _||_}
 use mathlib.Core.List.{List, [], _∷_}
+use mathlib.Core.Logic.{_⊎_}
 use mathlib.Core.Option.{Option, some}
 use lib.ListN.{length, take}
 use Rattle.geometry.specs.Said.{address}
 use Rattle.geometry.specs.Cartridge.{lastOf, isUser, isHeader}
 use Rattle.geometry.specs.declared.cartridge.Geometry.{Geometry}
-use Rattle.archive.specs.Conduct.{Drive, AtRest}
-use Rattle.archive.specs.Tape.{Tape, Cartridge, Bears}
+use Rattle.header.specs.Valid.{headerOf}
 use Rattle.drive.specs.declared.reply.Reply.{Reply}
 use Rattle.recording.specs.Session.{Result, accepting}
 use Rattle.recording.specs.Open.{openOf, openBlankOf}
 use Rattle.recording.specs.declared.session.Recording.{Recording}
 use Rattle.reading.specs.Open as reading
 use Rattle.reading.specs.Fetch as fetch
+use Rattle.archive.specs.Tape.{Tape, Cartridge, Bears}
+use Rattle.archive.specs.Conduct.{Drive, AtRest}
 use Rattle.archive.specs.Headers.{Newest, NoHeader}
 use Rattle.archive.specs.Recordings as recordings
 use Rattle.archive.specs.Recordings.{Element}
@@ -35,6 +37,11 @@ abbrev pub OnNewest : ℕ → Tape → Opening → Type 0
 OnNewest last t (on-header h) = Newest last t h
 OnNewest last t on-none = NoHeader last t
 
+-- the new write pass: old + 1; with no header, 1
+abbrev pub newPass : Opening → ℕ
+newPass (on-header h) = headerOf h .pass + 1
+newPass on-none = 1
+
 -- over user frames of which none bears the new write pass
 abbrev pub NoneBears : ℕ → Tape → ℕ → Type 0
 NoneBears last t pass = (a : ℕ) (f : List ℕ) → isUser last a ≡ true → t a ≡ some f → Bears pass f → ⊥
@@ -44,8 +51,9 @@ NoneBears last t pass = (a : ℕ) (f : List ℕ) → isUser last a ≡ true → 
 abbrev pub replyBound : ℕ → ℕ
 replyBound last = last - 17
 
+-- a command of a reading's: READ or LOCATE
 abbrev pub GivesCommand : fetch.Said → Type 0
-GivesCommand (fetch.command n a) = Unit {0}
+GivesCommand (fetch.command n a) = (n ≡ 0x08) ⊎ (n ≡ 0x2B)
 GivesCommand fetch.end = ⊥
 GivesCommand (fetch.refused n) = ⊥
 
@@ -57,7 +65,7 @@ pub record Faithful (last : ℕ) (accepted : List Element) (w : readings.World) 
   -- nothing is refused with 8 or more
   pub never-refused : w .refused ≡ false
   -- until the end each fetch with no reply awaited gives a command
-  pub goes-on : w .session .finished ≡ false → w .flight ≡ readings.none → GivesCommand (fetch.fetchOf (w .session) .said)
+  pub goes-on : w .end ≡ false → w .flight ≡ readings.none → GivesCommand (fetch.fetchOf (w .session) .said)
   -- and the drive's answer, once given, is taken in with a lent frame of 33,280 bytes
   pub taken : (r : Reply) (given : Option (List ℕ)) (lent : List ℕ) → w .flight ≡ readings.answered r given → readings.LentWith given lent
       → length lent ≡ 33280 → readings.refusal (w .session) (readings.replying r lent) ≡ 0
@@ -65,8 +73,9 @@ pub record Faithful (last : ℕ) (accepted : List Element) (w : readings.World) 
   pub full : (r : Reply) (frame : List ℕ) → w .flight ≡ readings.answered r (some frame) → length frame ≡ 33280
   -- the replies taken in are bounded, busy ones aside
   pub bounded : w .replies ≤ replyBound last
-  -- at the end all of them are delivered
-  pub complete : w .session .finished ≡ true → w .deliveries ≡ accepted
+  -- at the end all of them are delivered, and a fetch says so again
+  pub complete : w .end ≡ true → w .deliveries ≡ accepted
+  pub says-again : w .end ≡ true → fetch.fetchOf (w .session) .said ≡ fetch.end
 
 -- what holds of a cartridge: it holds a newest header, a reading opens on it, and every reading on a newest header is faithful
 pub record Readable (g : Geometry) (last : ℕ) (t : Tape) (accepted : List Element) : Type 0 where
@@ -82,11 +91,11 @@ pub data Within (last : ℕ) : List ℕ → Type 0 where
   one-more : (a : ℕ) (rest : List ℕ) → (isHeader a || isUser last a) ≡ true → Within last rest → Within last (a ∷ rest)
 
 -- what holds after every list of a recording's calls
-pub record Promised (g : Geometry) (last : ℕ) (t : Tape) (o : Opening) (s : Recording) (w : recordings.World) : Type 0 where
+pub record Promised (g : Geometry) (last : ℕ) (t : Tape) (o : Opening) (w : recordings.World) : Type 0 where
   -- under the conduct alone, closed or not
   pub written : Within last (w .drive .written)
   -- where the session was opened as it should be, the window was lent back unaltered, and the close reported done
-  pub readable : OnNewest last t o → NoneBears last t (s .copies .header .pass) → w .unaltered ≡ true → w .reported ≡ true
+  pub readable : OnNewest last t o → NoneBears last t (newPass o) → w .unaltered ≡ true → w .reported ≡ true
       → Readable g last (w .drive .tape) (w .accepted)
 
 -- SEGTRK and TRKS are 16-bit
@@ -98,4 +107,4 @@ Demand3 =
     → Cartridge last (d .tape) → d .written ≡ [] → AtRest d
     → opened g depth blocks o ≡ accepting s
     → recordings.Runs (recordings.started s window d) calls w
-    → Promised g last (d .tape) o s w
+    → Promised g last (d .tape) o w

@@ -4,8 +4,10 @@ use mathlib.Core.Path.{_≡_}
 use mathlib.Core.Bool.{Bool, true, false, _&&_}
 use mathlib.Core.List.{List, [], _∷_, _++_}
 use mathlib.Core.Logic.{_⊎_}
+use Rattle.geometry.specs.Pick.{pick}
 use Rattle.buffer.specs.Bytes.{agree}
 use Rattle.archive.specs.Conduct.{Drive, Acts, Answers}
+use Rattle.drive.specs.Command.{commandBy}
 use Rattle.drive.specs.declared.command.Command.{Command}
 use Rattle.drive.specs.declared.reply.Reply.{Reply}
 use Rattle.recording.specs.Accept.{filemarkOf, blockOf, closeOf}
@@ -69,6 +71,26 @@ returned s close = closeOf s .session
 returned s (fetch window frame) = fetchOf s window frame .session
 returned s (reply r) = replyOf s r .session
 
+-- the window as a refused call leaves it, where it was lent as last left; no call but an accept of a block may write to it
+abbrev pub windowAfter : World → Call → List ℕ
+windowAfter w (accept-block b lent) = pick (agree lent (w .window)) (blockOf (w .session) b lent .window) (w .window)
+windowAfter w accept-filemark = w .window
+windowAfter w close = w .window
+windowAfter w (fetch lent frame) = w .window
+windowAfter w (reply r) = w .window
+
+-- the world after a refused call: what it returned, and nothing else
+abbrev pub afterRefusal : World → Call → World
+afterRefusal w c = record {
+  session = returned (w .session) c;
+  window = windowAfter w c;
+  unaltered = w .unaltered;
+  drive = w .drive;
+  flight = w .flight;
+  accepted = w .accepted;
+  reported = w .reported;
+}
+
 abbrev pub withSession : World → Recording → World
 withSession w s = record { session = s; window = w .window; unaltered = w .unaltered; drive = w .drive; flight = w .flight; accepted = w .accepted; reported = w .reported }
 
@@ -95,13 +117,14 @@ afterFilemark w = record {
   reported = w .reported;
 }
 
--- a fetched command goes to the drive, with the frame as the fetch left it; the close reports done when a fetch answers done
-abbrev pub flightAfter : Said → Flight → Command → List ℕ → Flight
-flightAfter (command n a) f c frame = sent c frame
-flightAfter idle f c frame = f
-flightAfter done f c frame = f
-flightAfter (refused n) f c frame = f
+-- the command that a fetch answers goes to the drive, with the frame as the fetch left it
+abbrev pub flightAfter : Said → Flight → List ℕ → Flight
+flightAfter (command n a) f frame = sent (commandBy n a) frame
+flightAfter idle f frame = f
+flightAfter done f frame = f
+flightAfter (refused n) f frame = f
 
+-- the close reports done when a fetch answers done
 abbrev pub reportedAfter : Said → Bool → Bool
 reportedAfter (command n a) b = b
 reportedAfter idle b = b
@@ -114,7 +137,7 @@ afterFetch w lent frame = record {
   window = lent;
   unaltered = w .unaltered && agree lent (w .window);
   drive = w .drive;
-  flight = flightAfter (fetchOf (w .session) lent frame .said) (w .flight) (fetchOf (w .session) lent frame .session .command) (fetchOf (w .session) lent frame .frame);
+  flight = flightAfter (fetchOf (w .session) lent frame .said) (w .flight) (fetchOf (w .session) lent frame .frame);
   accepted = w .accepted;
   reported = reportedAfter (fetchOf (w .session) lent frame .said) (w .reported);
 }
@@ -133,7 +156,7 @@ afterReply w r = record {
 -- one call: each gets the session that the last one returned, and a reply is brought as the drive gave it
 pub data Calls (w : World) : Call → World → Type 0 where
   -- a call refused with 1 to 7 counts for nothing, whatever it brings
-  refuses : (c : Call) → 1 ≤ refusal (w .session) c → refusal (w .session) c ≤ 7 → Calls w c (withSession w (returned (w .session) c))
+  refuses : (c : Call) → 1 ≤ refusal (w .session) c → refusal (w .session) c ≤ 7 → Calls w c (afterRefusal w c)
   accepts-block : (b lent : List ℕ) → TakesEffect (refusal (w .session) (accept-block b lent)) → Calls w (accept-block b lent) (afterBlock w b lent)
   accepts-filemark : TakesEffect (refusal (w .session) accept-filemark) → Calls w accept-filemark (afterFilemark w)
   closes : TakesEffect (refusal (w .session) close) → Calls w close (withSession w (closeOf (w .session) .session))

@@ -8,7 +8,7 @@ use lib.Dec.{eqb, leb, leb→le}
 use lib.ListN.{length}
 use Rattle.geometry.specs.declared.address.Address.{Address}
 use Rattle.geometry.proofs.Table.{at-index}
-use Rattle.drive.specs.Command.{commandCode}
+use Rattle.drive.specs.Command.{commandCode, commandAddress, commandBy}
 use Rattle.drive.specs.Senses.{other, endOfMedium, senses, meaningOf}
 use Rattle.drive.specs.declared.command.Command.{Command}
 use Rattle.drive.specs.declared.command.Command.the-variants.{Read, Write, Locate, ReadPosition}
@@ -38,6 +38,12 @@ case-parts c r code meaning h e =
     (omega arith, omega arith)
 
 -- ---- a code names its command
+
+pub command-by : (c : Command) → commandBy (commandCode c) (commandAddress c) ≡ c
+command-by (Read a) = refl
+command-by (Write a) = refl
+command-by (Locate a) = refl
+command-by ReadPosition = refl
 
 module _ (P : Command → Type 0) where
   pub by-read : (c : Command) → commandCode c ≡ 0x08 → ((a : Address) → P (Read a)) → P c

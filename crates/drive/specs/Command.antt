@@ -1,5 +1,7 @@
 -- The commands by their operation codes (table 4-1 of the standard) and addresses.
 use Prim.Native.Nat.{ℕ}
+use lib.Dec.{eqb}
+use Rattle.geometry.specs.Pick.{pick}
 use Rattle.drive.specs.declared.command.Command.{Command}
 use Rattle.drive.specs.declared.command.Command.the-variants.{Read, Write, Locate, ReadPosition}
 
@@ -15,3 +17,10 @@ commandAddress (Read a) = a .0
 commandAddress (Write a) = a .0
 commandAddress (Locate a) = a .0
 commandAddress ReadPosition = 0
+
+-- the command of a code and an address, which the host sends; no other code is answered
+abbrev pub commandBy : ℕ → ℕ → Command
+commandBy code a =
+    pick (eqb code 0x08) (Read (record { 0 = a }))
+    (pick (eqb code 0x0A) (Write (record { 0 = a }))
+    (pick (eqb code 0x2B) (Locate (record { 0 = a })) ReadPosition))

@@ -104,6 +104,18 @@ module _ (s : Recording) where
       (λ _. pick-by LeftStored (isFull s) (λ _. unchanged-by 6 (omega arith)) (λ _. accepted-by))
       (λ _. unchanged-by 1 (omega arith)))
 
+  -- and it leaves the window as it was lent
+  abbrev Untouched : List ℕ → Stored → Type 0
+  Untouched window r = 1 ≤ r .result .number → r .window ≡ window
+
+  pub refused-window : (block window : List ℕ) → Untouched window (blockOf s block window)
+  unfolding blockOf
+  refused-window block window =
+      pick-by (Untouched window) (acceptsNone s) (λ _ _. refl)
+      (λ _. pick-by (Untouched window) (eqb (length block) 32768 && eqb (length window) (windowLength s))
+      (λ _. pick-by (Untouched window) (isFull s) (λ _ _. refl) (λ _ h. absurd (omega arith)))
+      (λ _ _. refl))
+
   pub refused-close : Left (closeOf s)
   unfolding closeOf
   refused-close = pick-by Left (acceptsNone s) (λ _. unchanged-by 7 (omega arith)) (λ _. accepted-by)
