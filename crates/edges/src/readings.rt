@@ -77,7 +77,7 @@ fn play_unreadable(session: Reading) -> Reading {
     play_sense(session, sense(3, 0x11, 0))
 }
 
-// An element of a pass, on a cartridge with this LAST.
+// An element of a pass, on a cartridge with this LAST. Its filemarks and marker are not looked at by a reading.
 fn element(last: Address, pass: u16, kind: Kind, number: u32) -> Element {
     Element {
         kind: kind,
