@@ -18,36 +18,31 @@ pub record Ready (s : Reading) : Type 0 where
   pub running : s .ended ≡ false
   pub answered : s .awaiting ≡ false
 
--- none is to be given again
-pub record Fresh (s : Reading) : Type 0 where
-  pub ready : Ready s
-  pub once : s .again ≡ false
-
--- and the next one is due
+-- and gives the next one
 pub record Due (s : Reading) : Type 0 where
-  pub fresh : Fresh s
+  pub ready : Ready s
   pub unfinished : s .finished ≡ false
   pub within : s .next .0 ≤ s .last .0
 
 pub data FetchView (s : Reading) : Fetching → Type 0 where
   wrong-phase : (s .ended ≡ true) ⊎ (s .awaiting ≡ true) → FetchView s (record { session = s; said = refused 7 })
   repeats : Ready s → s .again ≡ true → FetchView s (record { session = awaits s (s .command); said = command (commandCode (s .command)) (commandAddress (s .command)) })
-  ends : Fresh s → s .finished ≡ true → FetchView s (record { session = s; said = end })
-  past-last : Fresh s → s .finished ≡ false → s .last .0 < s .next .0 → FetchView s (record { session = endedOf s; said = refused 12 })
-  locates : Due s → s .locate ≡ true → FetchView s (record { session = awaits s (Locate (s .next)); said = command 0x2B (s .next .0) })
-  crosses : Due s → s .locate ≡ false → s .next .0 ≡ 2990 → FetchView s (record { session = awaits s (Locate (record { 0 = 3000 })); said = command 0x2B 3000 })
-  reads : Due s → s .locate ≡ false → (s .next .0 ≡ 2990 → ⊥) → FetchView s (record { session = awaits s (Read (s .next)); said = command 0x08 (s .next .0) })
+  ends : Ready s → s .again ≡ false → s .finished ≡ true → FetchView s (record { session = s; said = end })
+  past-last : Ready s → s .again ≡ false → s .finished ≡ false → s .last .0 < s .next .0 → FetchView s (record { session = endedOf s; said = refused 12 })
+  locates : Due s → s .again ≡ false → s .locate ≡ true → FetchView s (record { session = awaits s (Locate (s .next)); said = command 0x2B (s .next .0) })
+  crosses : Due s → s .again ≡ false → s .locate ≡ false → s .next .0 ≡ 2990 → FetchView s (record { session = awaits s (Locate (record { 0 = 3000 })); said = command 0x2B 3000 })
+  reads : Due s → s .again ≡ false → s .locate ≡ false → (s .next .0 ≡ 2990 → ⊥) → FetchView s (record { session = awaits s (Read (s .next)); said = command 0x08 (s .next .0) })
 
 module _ (s : Reading) where
   abbrev Sent : Command → Type 0
   Sent c = FetchView s (sending s c)
 
-  due-view : Due s → Sent (commandOf s)
+  due-view : Due s → s .again ≡ false → Sent (commandOf s)
   unfolding commandOf
-  due-view due =
-      pick-by Sent (s .locate) (locates due)
-      (λ there. pick-by Sent (eqb (s .next .0) 2990) (λ e. crosses due there (eqb-true _ _ e))
-      (λ e. reads due there (eqb-false _ _ e)))
+  due-view due once =
+      pick-by Sent (s .locate) (locates due once)
+      (λ there. pick-by Sent (eqb (s .next .0) 2990) (λ e. crosses due once there (eqb-true _ _ e))
+      (λ e. reads due once there (eqb-false _ _ e)))
 
   pub fetch-view : FetchView s (fetchOf s)
   unfolding fetchOf
@@ -57,8 +52,6 @@ module _ (s : Reading) where
       let phase = or-false (s .ended) (s .awaiting) e in
       let ready : Ready s = record { running = phase .0; answered = phase .1 } in
       pick-by (FetchView s) (s .again) (repeats ready)
-      (λ once.
-      let fresh : Fresh s = record { ready = ready; once = once } in
-      pick-by (FetchView s) (s .finished) (ends fresh)
-      (λ unfinished. pick-by (FetchView s) (ltb (s .last .0) (s .next .0)) (λ above. past-last fresh unfinished (ltb-true _ _ above))
-      (λ above. due-view (record { fresh = fresh; unfinished = unfinished; within = ltb-false (s .last .0) (s .next .0) above })))))
+      (λ once. pick-by (FetchView s) (s .finished) (ends ready once)
+      (λ unfinished. pick-by (FetchView s) (ltb (s .last .0) (s .next .0)) (λ above. past-last ready once unfinished (ltb-true _ _ above))
+      (λ above. due-view (record { ready = ready; unfinished = unfinished; within = ltb-false (s .last .0) (s .next .0) above }) once))))

@@ -29,12 +29,12 @@ module _ (s : Reading) where
     where
       go : {f : Fetching} → fetching.FetchView s f → f .session .next ≡ s .next
       go (fetching.wrong-phase _) = refl
-      go (fetching.ends _ _) = refl
-      go (fetching.past-last _ _ _) = refl
+      go (fetching.ends _ _ _) = refl
+      go (fetching.past-last _ _ _ _) = refl
       go (fetching.repeats _ _) = refl
-      go (fetching.locates _ _) = refl
-      go (fetching.crosses _ _ _) = refl
-      go (fetching.reads _ _ _) = refl
+      go (fetching.locates _ _ _) = refl
+      go (fetching.crosses _ _ _ _) = refl
+      go (fetching.reads _ _ _ _) = refl
 
   -- what the laws below ask of a command holds of every one that is fetched, but that one given again must have had it
   pub fetch-ahead : (s .again ≡ true → s .next .0 ≤ addressOf s) → (code address : ℕ) → fetchOf s .said ≡ command code address → fetchOf s .session .next .0 ≤ addressOf (fetchOf s .session)
@@ -42,12 +42,12 @@ module _ (s : Reading) where
     where
       go : {f : Fetching} → fetching.FetchView s f → f .said ≡ command code address → f .session .next .0 ≤ addressOf (f .session)
       go (fetching.wrong-phase _) e = never (cc)
-      go (fetching.ends _ _) e = never (cc)
-      go (fetching.past-last _ _ _) e = never (cc)
+      go (fetching.ends _ _ _) e = never (cc)
+      go (fetching.past-last _ _ _ _) e = never (cc)
       go (fetching.repeats _ h) e = again h
-      go (fetching.locates _ _) e = omega arith
-      go (fetching.crosses _ _ h) e = omega arith
-      go (fetching.reads _ _ _) e = omega arith
+      go (fetching.locates _ _ _) e = omega arith
+      go (fetching.crosses _ _ _ h) e = omega arith
+      go (fetching.reads _ _ _ _) e = omega arith
 
 -- a command at the next address or behind it, a jump's length below the end of the addresses
 module _ (s : Reading) (ahead : s .next .0 ≤ addressOf s) (below : addressOf s + 32 < 2 ^ 32) where

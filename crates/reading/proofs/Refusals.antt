@@ -33,12 +33,12 @@ module _ (s : Reading) (n : ℕ) where
     where
       go : {f : fetch.Fetching} → fetching.FetchView s f → f .said ≡ fetch.refused n → Leaves n s (f .session)
       go (fetching.wrong-phase _) e = let number : 7 ≡ n = cc in unchanged-by n (omega arith)
-      go (fetching.ends _ _) e = never (cc)
-      go (fetching.past-last _ _ _) e = let number : 12 ≡ n = cc in ended-by n (omega arith)
+      go (fetching.ends _ _ _) e = never (cc)
+      go (fetching.past-last _ _ _ _) e = let number : 12 ≡ n = cc in ended-by n (omega arith)
       go (fetching.repeats _ _) e = never (cc)
-      go (fetching.locates _ _) e = never (cc)
-      go (fetching.crosses _ _ _) e = never (cc)
-      go (fetching.reads _ _ _) e = never (cc)
+      go (fetching.locates _ _ _) e = never (cc)
+      go (fetching.crosses _ _ _ _) e = never (cc)
+      go (fetching.reads _ _ _ _) e = never (cc)
 
   module _ (frame : List ℕ) where
     abbrev JudgedAs : judgement.Judged → Type 0

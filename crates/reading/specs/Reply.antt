@@ -39,6 +39,7 @@ pub record Taking : Type 0 where
 abbrev pub takenSaid : Taken → Taking
 takenSaid t = record { session = t .session; said = deliverySaid (t .delivery) }
 
+-- a session beside what it answers
 abbrev pub answering : Reading → Said → Taking
 answering s said = record { session = s; said = said }
 

@@ -1,23 +1,29 @@
--- The count stays within its bound, and a lent slice keeps its length. Assumes nothing.
+-- The count stays within its bound. Assumes nothing.
 use borrow.Author.Needs.{needs}
 use Prim.Native.Nat.{_≤_, _-_}
-use Rattle.edges.proofs.play_good.Statement.{statement}
-use Rattle.edges.proofs.play_good.Tie as tie
+use Rattle.edges.proofs.readings.jump.Statement.{statement}
+use Rattle.edges.proofs.readings.jump.Tie as tie
 
 abbrev Inv-loop : tie.InvT-loop
-Inv-loop window n s₀ counter₀ s counter = counter ≤ n
+Inv-loop n s₀ counter₀ s counter = counter ≤ n
 
 abbrev μ-loop : tie.MeasureT-loop
-μ-loop window n s₀ counter₀ s counter = n - counter
+μ-loop n s₀ counter₀ s counter = n - counter
 
 loop-holds : tie.Need-loop-holds Inv-loop μ-loop
 loop-holds c = search needs
 
+sense-requires : tie.Need-sense-requires Inv-loop μ-loop
+sense-requires c κs = search needs
+
+answer-requires : tie.Need-answer-requires Inv-loop μ-loop
+answer-requires c κs = search needs
+
 good-requires : tie.Need-good-requires Inv-loop μ-loop
 good-requires c κs = search needs
 
-play-requires : tie.Need-play-requires Inv-loop μ-loop
-play-requires c κs = search needs
+answer-requires-2 : tie.Need-answer-requires-2 Inv-loop μ-loop
+answer-requires-2 c κs = search needs
 
 add-counter : tie.Need-add-counter Inv-loop μ-loop
 add-counter c = search needs
@@ -31,15 +37,17 @@ loop-again c = search needs
 returns : tie.Need-returns Inv-loop μ-loop
 returns c = search needs
 
-pub play-good-spec : {M : Type 1} → statement M
-play-good-spec =
+pub jump-spec : {M : Type 1} → statement M
+jump-spec =
     tie.close
     (tie.spec
     Inv-loop
     μ-loop
     loop-holds
+    sense-requires
+    answer-requires
     good-requires
-    play-requires
+    answer-requires-2
     add-counter
     loop-less
     loop-again

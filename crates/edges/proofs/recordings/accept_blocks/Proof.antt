@@ -3,8 +3,8 @@ use borrow.Author.Needs.{needs}
 use mathlib.Core.Path.{_≡_}
 use Prim.Native.Nat.{_≤_, _-_}
 use lib.ListN.{length}
-use Rattle.edges.proofs.accept_blocks.Statement.{statement}
-use Rattle.edges.proofs.accept_blocks.Tie as tie
+use Rattle.edges.proofs.recordings.accept_blocks.Statement.{statement}
+use Rattle.edges.proofs.recordings.accept_blocks.Tie as tie
 
 abbrev Inv-loop : tie.InvT-loop
 Inv-loop block window₀ n s₀ counter₀ window s counter = (counter ≤ n) × (length window ≡ length window₀)

@@ -1,0 +1,40 @@
+// What the programs' parts print with.
+use drive::Command;
+use drive::Reply;
+use geometry::Refusal;
+use geometry::number;
+use libc::STDOUT_FILENO;
+
+pub(crate) fn print(text: &[u8]) {
+    io::write_all(STDOUT_FILENO, text);
+}
+
+pub(crate) fn print_number(text: &[u8], n: u32) {
+    io::write_all(STDOUT_FILENO, text);
+    io::print_decimal(STDOUT_FILENO, n as u64);
+}
+
+pub(crate) fn print_refusal(r: Refusal) {
+    print_number(b"refused ", number(r) as u32);
+}
+
+// A command's name and address.
+pub(crate) fn print_command(c: Command) {
+    match c {
+        Command::Read(a) => print_number(b"READ ", a.0),
+        Command::Write(a) => print_number(b"WRITE ", a.0),
+        Command::Locate(a) => print_number(b"LOCATE ", a.0),
+        Command::ReadPosition => print(b"READ POSITION"),
+    }
+}
+
+// The sense triple of a reply.
+pub(crate) fn print_sense(reply: Reply) {
+    print(b", ");
+    io::print_hex(STDOUT_FILENO, reply.key as u64, 2);
+    print(b"/");
+    io::print_hex(STDOUT_FILENO, reply.asc as u64, 2);
+    print(b"/");
+    io::print_hex(STDOUT_FILENO, reply.ascq as u64, 2);
+    print(b": ");
+}
