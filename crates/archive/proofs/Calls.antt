@@ -17,7 +17,7 @@ use Rattle.recording.proofs.ListedReplies.{unlisted-refused}
 use Rattle.recording.proofs.Refusals.{refused-window, refused-block, refused-filemark, refused-close, refused-fetch, refused-reply}
 use Rattle.archive.specs.Recordings as recordings
 use Rattle.archive.specs.Recordings.{World, TakesEffect, afterReply}
-use Rattle.archive.specs.Demand.{Within, Demand3}
+use Rattle.archive.specs.Demand.{Within}
 use Rattle.archive.proofs.Basics.{none-answered, answered-same}
 use Rattle.archive.proofs.CopiesLink.{Copying}
 use Rattle.archive.proofs.ElementsLink.{Writing}
@@ -26,10 +26,6 @@ use Rattle.archive.proofs.Closes.{keeps-close}
 use Rattle.archive.proofs.Fetches.{keeps-fetch}
 use Rattle.archive.proofs.HeaderReplies.{opening-replies, closing-replies}
 use Rattle.archive.proofs.ElementReplies.{writing, ending-one, elements-reply}
-use Rattle.archive.proofs.ReadingSteps.{read-begins, read-keeps-move, read-keeps-call, read-faithful}
-use Rattle.archive.proofs.Completion.{completes, opens}
-use Rattle.archive.proofs.Start.{sets, begins}
-use Rattle.archive.proofs.DriveMoves.{keeps-move}
 use Rattle.archive.proofs.Invariant as inv
 use Rattle.archive.proofs.Invariant.{Course, Live, Rejecting, Inv, live, rejecting, over}
 use Rattle.archive.proofs.Setting.{Setting}

@@ -1,7 +1,7 @@
 -- At every point of a recording's list where a command is with the drive, a reply to it is refused with 8 if and only if it is not listed,
 -- or brings a number that can't be. Assumes nothing.
-use Prim.Native.Nat.{ℕ, _<_, _≤_}
-use mathlib.Core.Path.{_≡_, refl, sym, subst, _∙_}
+use Prim.Native.Nat.{ℕ}
+use mathlib.Core.Path.{_≡_, sym, subst, _∙_}
 use mathlib.Core.Bool.{true, false}
 use mathlib.Core.List.{List}
 use mathlib.Core.Logic.{_⊎_, inl, inr}
@@ -12,11 +12,9 @@ use Rattle.drive.specs.Listed.{Listed}
 use Rattle.archive.specs.Conduct.{Drive}
 use Rattle.drive.specs.Senses.{meaningOf}
 use Rattle.drive.specs.declared.command.Command.{Command}
-use Rattle.drive.specs.declared.command.Command.the-variants.{Read, Write, Locate, ReadPosition}
+use Rattle.drive.specs.declared.command.Command.the-variants.{Read, Write}
 use Rattle.drive.specs.declared.reply.Reply.{Reply}
-use Rattle.copies.specs.Copies.{oldestAddress, nextAddress}
 use Rattle.copies.specs.declared.state.Copies.{Copies}
-use Rattle.elements.specs.Elements.{baseOf}
 use Rattle.recording.specs.declared.session.Recording.{Recording}
 use Rattle.recording.proofs.Kept.{Held, heldOf}
 use Rattle.recording.proofs.ListedReplies.{OffHeaders, OnHeaders, Lawful, unlisted-refused, listed-taken}

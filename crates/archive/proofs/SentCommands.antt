@@ -1,4 +1,4 @@
--- The command that a recording's fetch answers, by number and address, is the one that its session holds and that goes to the drive. Assumes nothing.
+-- The command that a fetch answers, by number and address, is the one that its session holds and that goes to the drive. Assumes nothing.
 use Prim.Native.Nat.{ℕ}
 use mathlib.Core.Path.{_≡_, ap, _∙_}
 use mathlib.Core.List.{List}
@@ -6,27 +6,36 @@ use Rattle.geometry.proofs.Impossible.{never}
 use Rattle.drive.specs.Command.{commandCode, commandAddress, commandBy}
 use Rattle.drive.specs.declared.command.Command.{Command}
 use Rattle.drive.proofs.Cases.{command-by}
-use Rattle.recording.specs.Fetch as fetch
-use Rattle.recording.specs.Fetch.{Said, Fetching, sending, fetchOf}
+use Rattle.recording.specs.Fetch as recording
+use Rattle.recording.specs.Fetch.{sending}
 use Rattle.recording.specs.declared.session.Recording.{Recording}
 use Rattle.recording.proofs.FetchView as view
 use Rattle.recording.proofs.FetchView.{FetchView, fetch-view}
-use Rattle.archive.specs.Recordings.{World, sent, flightAfter, afterFetch}
+use Rattle.reading.specs.Fetch as reading
+use Rattle.reading.specs.declared.session.Reading.{Reading}
+use Rattle.reading.proofs.FetchView as reading-view
+use Rattle.archive.specs.Recordings as recordings
+use Rattle.archive.specs.Readings as readings
 
--- the answer names the command
-pub record Names (number address : ℕ) (held : Command) : Type 0 where
-  pub number-is : number ≡ commandCode held
-  pub address-is : address ≡ commandAddress held
+-- a number and an address name a command
+pub record Names (number address : ℕ) (c : Command) : Type 0 where
+  pub number-is : number ≡ commandCode c
+  pub address-is : address ≡ commandAddress c
+
+named : {number address : ℕ} {c : Command} → Names number address c → commandBy number address ≡ c
+named {number} {address} {c} n = ap (λ (x : ℕ). commandBy x address) (n .number-is) ∙ ap (λ (x : ℕ). commandBy (commandCode c) x) (n .address-is) ∙ command-by c
+
+-- ---- a recording
 
 module _ (s : Recording) (lent frame : List ℕ) (n a : ℕ) where
-  sends : (c : Command) → sending s c lent frame .said ≡ fetch.command n a → Names n a (sending s c lent frame .session .command)
+  sends : (c : Command) → sending s c lent frame .said ≡ recording.command n a → Names n a (sending s c lent frame .session .command)
   unfolding sending
   sends c e = record { number-is = cc; address-is = cc }
 
-  pub answered-command : fetchOf s lent frame .said ≡ fetch.command n a → Names n a (fetchOf s lent frame .session .command)
+  pub answered-command : recording.fetchOf s lent frame .said ≡ recording.command n a → Names n a (recording.fetchOf s lent frame .session .command)
   answered-command = go (fetch-view s lent frame)
     where
-      go : {f : Fetching} → FetchView s lent frame f → f .said ≡ fetch.command n a → Names n a (f .session .command)
+      go : {f : recording.Fetching} → FetchView s lent frame f → f .said ≡ recording.command n a → Names n a (f .session .command)
       go (view.wrongPhase _) e = never (cc)
       go (view.wrongLength _ _ _) e = never (cc)
       go (view.repeating _ _) e = sends (s .command) e
@@ -36,13 +45,26 @@ module _ (s : Recording) (lent frame : List ℕ) (n a : ℕ) where
       go (view.stopping _ _ _ _ _) e = never (cc)
       go (view.finished _ _ _) e = never (cc)
 
--- and it is what the drive is sent, with the frame as the fetch left it
-pub sent-command : (w : World) (lent frame : List ℕ) (n a : ℕ) → fetchOf (w .session) lent frame .said ≡ fetch.command n a
-    → afterFetch w lent frame .flight ≡ sent (afterFetch w lent frame .session .command) (fetchOf (w .session) lent frame .frame)
+-- it goes to the drive with the frame as the fetch left it
+pub sent-command : (w : recordings.World) (lent frame : List ℕ) (n a : ℕ) → recording.fetchOf (w .session) lent frame .said ≡ recording.command n a
+    → recordings.afterFetch w lent frame .flight ≡ recordings.sent (recordings.afterFetch w lent frame .session .command) (recording.fetchOf (w .session) lent frame .frame)
 sent-command w lent frame n a e =
-    let names = answered-command (w .session) lent frame n a e in
-    let held = fetchOf (w .session) lent frame .session .command in
-    ap (λ (x : Said). flightAfter x (w .flight) (fetchOf (w .session) lent frame .frame)) e
-    ∙ ap (λ (x : ℕ). sent (commandBy x a) (fetchOf (w .session) lent frame .frame)) (names .number-is)
-    ∙ ap (λ (x : ℕ). sent (commandBy (commandCode held) x) (fetchOf (w .session) lent frame .frame)) (names .address-is)
-    ∙ ap (λ (c : Command). sent c (fetchOf (w .session) lent frame .frame)) (command-by held)
+    ap (λ (x : recording.Said). recordings.flightAfter x (w .flight) (recording.fetchOf (w .session) lent frame .frame)) e
+    ∙ ap (λ (c : Command). recordings.sent c (recording.fetchOf (w .session) lent frame .frame)) (named (answered-command (w .session) lent frame n a e))
+
+-- ---- a reading
+
+pub read-command : (s : Reading) (n a : ℕ) → reading.fetchOf s .said ≡ reading.command n a → Names n a (reading.fetchOf s .session .command)
+read-command s n a = go (reading-view.fetch-view s)
+  where
+    go : {f : reading.Fetching} → reading-view.FetchView s f → f .said ≡ reading.command n a → Names n a (f .session .command)
+    go (reading-view.wrong-phase _) e = never (cc)
+    go (reading-view.repeats _ _) e = record { number-is = cc; address-is = cc }
+    go (reading-view.ends _ _ _) e = never (cc)
+    go (reading-view.past-last _ _ _ _) e = never (cc)
+    go (reading-view.locates _ _ _) e = record { number-is = cc; address-is = cc }
+    go (reading-view.crosses _ _ _ _) e = record { number-is = cc; address-is = cc }
+    go (reading-view.reads _ _ _ _) e = record { number-is = cc; address-is = cc }
+
+pub sent-read : (w : readings.World) (n a : ℕ) → reading.fetchOf (w .session) .said ≡ reading.command n a → readings.afterFetch w .flight ≡ readings.sent (readings.afterFetch w .session .command)
+sent-read w n a e = ap (λ (x : reading.Said). readings.flightAfter x (w .flight)) e ∙ ap (λ (c : Command). readings.sent c) (named (read-command (w .session) n a e))

@@ -1,2 +1,3 @@
 pub mod SenseLaws
 pub mod Cases
+pub mod ListedCases

@@ -8,3 +8,4 @@ pub mod Busy
 pub mod Jump
 pub mod Onward
 pub mod Unread
+pub mod ListedReplies

@@ -17,7 +17,7 @@ use Rattle.judgement.specs.Judgement as judgement
 use Rattle.reading.specs.declared.session.Reading.{Reading}
 use Rattle.reading.specs.Fetch.{Fetching, command, fetchOf}
 use Rattle.reading.specs.Reply.{Taking, refused, addressOf, judgedBy, caseOf, replyOf}
-use Rattle.reading.proofs.Tests.{never}
+use Rattle.geometry.proofs.Impossible.{never}
 use Rattle.reading.proofs.FetchView as fetching
 use Rattle.reading.proofs.ReplyView as replying
 use Rattle.reading.proofs.Cases.{case-parts}

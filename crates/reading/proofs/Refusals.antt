@@ -12,7 +12,7 @@ use Rattle.judgement.proofs.JudgeView as judging
 use Rattle.reading.specs.declared.session.Reading.{Reading}
 use Rattle.reading.specs.Fetch as fetch
 use Rattle.reading.specs.Reply as reply
-use Rattle.reading.proofs.Tests.{never}
+use Rattle.geometry.proofs.Impossible.{never}
 use Rattle.reading.proofs.FetchView as fetching
 use Rattle.reading.proofs.ReplyView as replying
 

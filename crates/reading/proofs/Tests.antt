@@ -1,14 +1,12 @@
--- A number compared with two, and a case that cannot be. Assumes nothing.
+-- A number compared with two. Assumes nothing.
 use mathlib.Core.Path.{_≡_}
 use mathlib.Core.Bool.{true, false, _||_}
 use mathlib.Core.Logic.{_⊎_, inl, inr}
 use Prim.Native.Nat.{ℕ}
-use native.Mathlib.Omega.{arith}
 use borrow.Author.Tests.{eqb-true, eqb-false}
 use lib.Dec.{eqb}
 use Rattle.geometry.proofs.TestLaws.{or-true, or-false}
 
--- a number compared with two
 module _ (n a b : ℕ) where
   pub is-one : (eqb n a || eqb n b) ≡ true → (n ≡ a) ⊎ (n ≡ b)
   is-one e = go (or-true (eqb n a) (eqb n b) e)
@@ -21,7 +19,3 @@ module _ (n a b : ℕ) where
   is-neither e =
       let tests = or-false (eqb n a) (eqb n b) e in
       (eqb-false n a (tests .0), eqb-false n b (tests .1))
-
--- cc proves this equation where two constructors would be equal
-pub never : {X : Type 0} → _≡_ {A = ℕ} 0 1 → X
-never e = absurd (omega arith)

@@ -1,10 +1,9 @@
 -- 01, "Reading a cartridge": fetching the next command.
 use Prim.Native.Nat.{ℕ}
-use mathlib.Core.Bool.{Bool, true, false, _||_}
+use mathlib.Core.Bool.{true, false, _||_}
 use lib.Dec.{eqb, ltb}
 use Rattle.geometry.specs.Pick.{pick}
 use Rattle.geometry.specs.Refused.{refusalNumber}
-use Rattle.geometry.specs.declared.address.Address.{Address}
 use Rattle.drive.specs.Command.{commandCode, commandAddress}
 use Rattle.drive.specs.declared.command.Command.{Command}
 use Rattle.drive.specs.declared.command.Command.the-variants.{Read, Locate}

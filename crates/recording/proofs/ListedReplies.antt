@@ -1,6 +1,6 @@
 -- The meanings that the conduct lists for a command are those that a recording does not refuse with 8. Assumes nothing.
 use Prim.Native.Nat.{ℕ, _+_, _*_, _≤_, _<_}
-use mathlib.Core.Path.{_≡_, refl, sym, subst, _∙_}
+use mathlib.Core.Path.{_≡_, refl, sym, _∙_}
 use mathlib.Core.Bool.{true, false}
 use mathlib.Core.Logic.{_⊎_, inl, inr, ⊎-elim}
 use native.Mathlib.Decide.{ℕ-discrete}
@@ -13,9 +13,9 @@ use Rattle.drive.specs.Listed as on
 use Rattle.drive.specs.Listed.{Listed}
 use Rattle.drive.specs.Senses.{meaningOf}
 use Rattle.drive.specs.declared.command.Command.{Command}
-use Rattle.drive.specs.declared.command.Command.the-variants.{Read, Write, Locate, ReadPosition}
+use Rattle.drive.specs.declared.command.Command.the-variants.{Read, Write}
 use Rattle.drive.specs.declared.reply.Reply.{Reply}
-use Rattle.drive.proofs.Cases.{case-parts, by-write, by-locate, by-position}
+use Rattle.drive.proofs.ListedCases.{at-write, at-locate, at-position}
 use Rattle.copies.specs.Copies as copies
 use Rattle.copies.specs.Copies.{oldestAddress, nextAddress}
 use Rattle.copies.proofs.AnswerView as copying
@@ -46,41 +46,29 @@ module _ (s : Recording) (r : Reply) where
   abbrev Here : Type 0
   Here = Listed (s .command) meaning
 
-  -- the number of the case says which
-  located-at : (m : ℕ) → m < 256 → ((a : Address) → Listed (Locate a) m) → caseOf s r ≡ 0x2B * 256 + m → Here
-  located-at m low h e = let p = case-parts (s .command) r 0x2B m low e in subst (Listed (s .command)) (sym (p .1)) (by-locate (λ (c : Command). Listed c m) (s .command) (p .0) h)
-
-  position-at : (m : ℕ) → m < 256 → Listed ReadPosition m → caseOf s r ≡ 0x34 * 256 + m → Here
-  position-at m low h e = let p = case-parts (s .command) r 0x34 m low e in subst (Listed (s .command)) (sym (p .1)) (by-position (λ (c : Command). Listed c m) (s .command) (p .0) h)
-
-  written-at : (m : ℕ) → m < 256 → ((a : Address) → s .command ≡ Write a → Listed (Write a) m) → caseOf s r ≡ 0x0A * 256 + m → Here
-  written-at m low h e =
-      let p = case-parts (s .command) r 0x0A m low e in
-      subst (Listed (s .command)) (sym (p .1)) (by-write (λ (c : Command). ((a : Address) → c ≡ Write a → Listed (Write a) m) → Listed c m) (s .command) (p .0) (λ a x. x a refl) h)
-
   busy-listed : Busy (caseOf s r) → Here
-  busy-listed (inl e) = written-at 2 (omega arith) (λ _ _. on.write-busy) e
-  busy-listed (inr (inl e)) = located-at 2 (omega arith) (λ _. on.locate-busy) e
-  busy-listed (inr (inr e)) = position-at 2 (omega arith) on.position-busy e
+  busy-listed (inl e) = at-write (s .command) r 2 (omega arith) (λ _ _. on.write-busy) e
+  busy-listed (inr (inl e)) = at-locate (s .command) r 2 (omega arith) (λ _. on.locate-busy) e
+  busy-listed (inr (inr e)) = at-position (s .command) r 2 (omega arith) on.position-busy e
 
   error-listed : (caseOf s r ≡ 0x0A03) ⊎ (caseOf s r ≡ 0x3403) → Here
-  error-listed (inl e) = written-at 3 (omega arith) (λ _ _. on.write-error) e
-  error-listed (inr e) = position-at 3 (omega arith) on.position-error e
+  error-listed (inl e) = at-write (s .command) r 3 (omega arith) (λ _ _. on.write-error) e
+  error-listed (inr e) = at-position (s .command) r 3 (omega arith) on.position-error e
 
   copies-listed : {x : copies.Said} → copying.AnswerView (s .copies) (caseOf s r) r x → (x ≡ copies.refused 8 → ⊥) → Here
-  copies-listed (copying.located e) h = located-at 1 (omega arith) (λ _. on.locate-good) e
-  copies-listed (copying.taken e) h = written-at 1 (omega arith) (λ _ _. on.write-good) e
-  copies-listed (copying.positioned e _) h = position-at 1 (omega arith) on.position-good e
+  copies-listed (copying.located e) h = at-locate (s .command) r 1 (omega arith) (λ _. on.locate-good) e
+  copies-listed (copying.taken e) h = at-write (s .command) r 1 (omega arith) (λ _ _. on.write-good) e
+  copies-listed (copying.positioned e _) h = at-position (s .command) r 1 (omega arith) on.position-good e
   copies-listed (copying.failed e _ _) h = error-listed e
   copies-listed (copying.unlawful _) h = absurd (h refl)
 
   elements-listed : {x : answer.Step} → ElementStage s → OffHeaders s → answers.AnswerView (s .elements) (caseOf s r) (at (commandAddress (s .command))) r x → (x .number ≡ 8 → ⊥) → Here
-  elements-listed st off (answers.located e) h = located-at 1 (omega arith) (λ _. on.locate-good) e
-  elements-listed st off (answers.taken e) h = written-at 1 (omega arith) (λ _ _. on.write-good) e
-  elements-listed st off (answers.positioned e _) h = position-at 1 (omega arith) on.position-good e
+  elements-listed st off (answers.located e) h = at-locate (s .command) r 1 (omega arith) (λ _. on.locate-good) e
+  elements-listed st off (answers.taken e) h = at-write (s .command) r 1 (omega arith) (λ _ _. on.write-good) e
+  elements-listed st off (answers.positioned e _) h = at-position (s .command) r 1 (omega arith) on.position-good e
   elements-listed st off (answers.failed e _ _ _) h = error-listed e
   elements-listed st off (answers.full e _ _ _) h = error-listed e
-  elements-listed st off (answers.shortened e) h = written-at 4 (omega arith) (λ a q. on.write-overflow (off st a q)) e
+  elements-listed st off (answers.shortened e) h = at-write (s .command) r 4 (omega arith) (λ a q. on.write-overflow (off st a q)) e
   elements-listed st off (answers.unlawful _) h = absurd (h refl)
 
   pub taken-listed : s .ended ≡ false → s .awaiting ≡ true → OffHeaders s → (replyOf s r .number ≡ 8 → ⊥) → Here

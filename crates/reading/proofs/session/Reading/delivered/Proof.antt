@@ -4,7 +4,6 @@ use native.Mathlib.Nat.{mod-mod}
 use borrow.Author.Needs.{needs}
 use Rattle.reading.proofs.session.Reading.delivered.Statement.{statement}
 use Rattle.reading.proofs.session.Reading.delivered.Tie as tie
-use Rattle.std.proofs.num.wrapping_add_u32.Reads as wrapping-add-u32-reads
 
 wrapping-add-u32-requires : tie.Need-wrapping-add-u32-requires
 wrapping-add-u32-requires c κs = search needs
