@@ -28,7 +28,7 @@ use Rattle.archive.proofs.Flush.{same}
 use Rattle.archive.proofs.ScanLaws.{put-other}
 use Rattle.archive.proofs.SampleHeaders.{at}
 use Rattle.archive.proofs.SampleTape.{empty, same-reads, headers-elsewhere}
-use Rattle.archive.proofs.SampleFirstRecording.{older-fits, opening, afterFailure, afterBlock, afterFilemark, elementsWritten, firstLeft, first-readable, first-valid, first-newest}
+use Rattle.archive.proofs.SampleFirstRecording.{older-fits, block-fits, opening, afterFailure, afterBlock, afterFilemark, elementsWritten, firstLeft, first-readable, first-valid, first-newest}
 use Rattle.archive.proofs.SampleReading.{between, before, ended, address-located, address-located-again, frame-read, unreadable-skipped, blank-jumped, end-said, reading-opened}
 
 pub first-reading-opened : openOf geometry (headerFrame firstClosing) ≡ record { session = opening-of.fresh 11999 1 false; number = 0 }
@@ -46,11 +46,8 @@ eod-found : judgement.judgeFrame 11999 1 2 (elementFrame firstEod blank) ≡ jud
 eod-found = judged-written firstEod (lit< tt) (lit< tt) blank refl (same (elementFrame firstEod blank))
 
 module _ (b : List ℕ) (full : length b ≡ 32768) where
-  block-fits : elementFits Data 33280 (length b) ≡ true
-  block-fits = eq-eqb (length b) 32768 full
-
   block-found : judgement.judgeFrame 11999 1 0 (elementFrame firstBlock b) ≡ judgement.block
-  block-found = judged-written firstBlock (lit< tt) (lit< tt) b block-fits (same (elementFrame firstBlock b))
+  block-found = judged-written firstBlock (lit< tt) (lit< tt) b (block-fits b full) (same (elementFrame firstBlock b))
 
   -- ---- the tape
 
@@ -101,7 +98,7 @@ module _ (b : List ℕ) (full : length b ≡ 32768) where
       (unreadable-skipped left 1 [] 2 (Read (at 10)) 11 0 refl refl (gap-empty 11 (lit≤ tt) (lit< tt))
       (blank-jumped left 1 [] 3 (Read (at 11)) 12 0 refl refl (λ a low high. gap-empty a (omega arith) high)
       (address-located left 1 [] 4 (Read (at 12)) 44 0 refl 12
-      (frame-read left 1 [] 5 (Locate (at 44)) 44 0 refl refl true (elementFrame firstBlock b) judgement.block block-reads (element-length firstBlock b block-fits) block-found refl
+      (frame-read left 1 [] 5 (Locate (at 44)) 44 0 refl refl true (elementFrame firstBlock b) judgement.block block-reads (element-length firstBlock b (block-fits b full)) block-found refl
       (frame-read left 1 delivered 6 (Read (at 44)) 45 1 refl refl true (elementFrame firstFilemark blank) judgement.filemark filemark-reads (element-length firstFilemark blank refl) filemark-found refl
       (frame-read left 1 both 7 (Read (at 45)) 46 2 refl refl true (elementFrame firstEod blank) judgement.end eod-reads (element-length firstEod blank refl) eod-found refl
       (end-said left 47 both 8 1 (Read (at 46)) 47 2))))))))
@@ -111,7 +108,7 @@ module _ (b : List ℕ) (full : length b ≡ 32768) where
   first-read place =
       subst (λ (x : opening-of.Result). Runs left (started (x .session) place) (firstReading b) firstRead) (sym first-reading-opened)
       (subst (λ (d : List ℕ). Runs left (started (opening-of.fresh 11999 1 false) place) (firstReading b) (between 47 (block d ∷ filemark ∷ []) 8 (before 1 (Read (at 46)) 47 false 2 true)))
-      (element-data firstBlock b block-fits) (from-fresh place))
+      (element-data firstBlock b (block-fits b full)) (from-fresh place))
 
   -- and demand 3 says so of this list
   pub first-faithful : Faithful 11999 (firstElements b) firstRead

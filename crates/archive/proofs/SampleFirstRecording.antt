@@ -186,6 +186,9 @@ module _ (b : List ℕ) (full : length b ≡ 32768) where
   unfolding blockOf
   block-stored = rw (eq-eqb (length b) 32768 full, eq-eqb (length window) 32768 window-long)
 
+  pub block-fits : elementFits Data 33280 (length b) ≡ true
+  block-fits = eq-eqb (length b) 32768 full
+
   filled-long : length filled ≡ 32768
   filled-long = put-length window b 0 (omega (arith, window-long)) full ∙ window-long
 
@@ -288,8 +291,12 @@ first-on-none a h there =
     let apart : a ≡ 10 → ⊥ = λ e. let t : isHeader 10 ≡ true = subst (λ (n : ℕ). isHeader n ≡ true) e (there .group) in let z : _≡_ {A = ℕ} 0 1 = cc in omega arith in
     none-some (sym (put-other empty 10 (some (elementFrame older blank)) a apart) ∙ there .reads)
 
+-- the older frame bears pass 7 alone
+pub first-bears : (pass : ℕ) → (older .pass ≡ pass → ⊥) → NoneBears 11999 tape pass
+first-bears pass differ = frame-bears-none older blank older-fits empty 10 11999 pass (lit< tt) differ (empty-bears-none 11999 pass)
+
 pub first-bears-none : NoneBears 11999 tape (firstOpening .pass)
-first-bears-none = frame-bears-none older blank older-fits empty 10 11999 1 (lit< tt) (λ e. omega arith) (empty-bears-none 11999 1)
+first-bears-none = first-bears 1 (λ e. omega arith)
 
 -- ---- what demand 3 says of it
 
