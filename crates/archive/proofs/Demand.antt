@@ -12,14 +12,14 @@ use Rattle.archive.specs.Recordings as recordings
 use Rattle.archive.specs.Recordings.{Element}
 use Rattle.archive.specs.Readings as readings
 use Rattle.archive.specs.Demand.{NoneBears, Readable, Within, Demand3}
-use Rattle.archive.proofs.Setting.{Setting, Leaves}
-use Rattle.archive.proofs.Invariant.{Inv, live, rejecting, over}
-use Rattle.archive.proofs.ReadingInvariant.{RecordedTape, ReadInv}
-use Rattle.archive.proofs.Start.{sets, pass-is, begins}
-use Rattle.archive.proofs.DriveMoves.{keeps-move}
-use Rattle.archive.proofs.Calls.{keeps-call}
-use Rattle.archive.proofs.Completion.{completes, opens}
-use Rattle.archive.proofs.ReadingSteps.{read-begins, read-keeps-move, read-keeps-call, read-faithful}
+use Rattle.archive.proofs.recording.Setting.{Setting, Leaves}
+use Rattle.archive.proofs.recording.Invariant.{Inv, live, rejecting, over}
+use Rattle.archive.proofs.reading.Invariant.{RecordedTape, ReadInv}
+use Rattle.archive.proofs.recording.Start.{sets, pass-is, begins}
+use Rattle.archive.proofs.recording.DriveMoves.{keeps-move}
+use Rattle.archive.proofs.recording.Calls.{keeps-call}
+use Rattle.archive.proofs.recording.Completion.{completes, opens}
+use Rattle.archive.proofs.reading.Steps.{read-begins, read-keeps-move, read-keeps-call, read-faithful}
 
 -- the invariants hold after every list
 pub runs-keep : {last pass : ℕ} {premises : Type 0} {w v : recordings.World} {cs : List recordings.Call} → Setting last pass → Inv last pass premises w → recordings.Runs w cs v → Inv last pass premises v

@@ -1,0 +1,3 @@
+pub mod Invariant
+pub mod Facts
+pub mod Steps

@@ -1,0 +1,320 @@
+-- Accepting and close keep the invariant. Assumes nothing.
+use Prim.Native.Nat.{ℕ, suc, _+_, _-_, _*_, _/_, _%_, _^_, _≤_, _<_}
+use mathlib.Core.Path.{_≡_, refl, sym, ap, subst, _∙_}
+use mathlib.Core.Bool.{Bool, true, false, _&&_}
+use mathlib.Core.List.{List, [], _∷_, _++_}
+use mathlib.Core.Logic.{_⊎_, inl, inr, ⊎-elim}
+use native.Mathlib.Decide.{decLe}
+use native.Mathlib.Nat.{eq-or-lt-of-le, div-add-mod', mul-le-mul-right, mod-eq-of-lt}
+use native.Mathlib.Omega.{arith}
+use borrow.Author.Tests.{ltb-true, ltb-false, eqb-true}
+use lib.Dec.{eqb, ltb}
+use lib.ListN.{length, set, length-append, length-set}
+use lib.Seq.{getD-at}
+use Rattle.geometry.proofs.PickLaws.{pick-by}
+use Rattle.geometry.proofs.TestLaws.{or-false, and-true}
+use Rattle.geometry.proofs.Impossible.{never, clash}
+use Rattle.buffer.specs.Bytes.{agree}
+use Rattle.buffer.proofs.Agreement.{agree-is}
+use Rattle.drive.specs.Listed.{Listed}
+use Rattle.drive.specs.Senses.{meaningOf}
+use Rattle.elements.specs.Elements as elements
+use Rattle.elements.specs.declared.state.Elements.{Elements}
+use Rattle.elements.proofs.AcceptLaws.{mark-kept, accepted-new}
+use Rattle.recording.specs.Accept.{acceptsNone, isFull, withElement, filemarkOf, placeOf, Stored, blockOf, closedOf, closeOf}
+use Rattle.recording.specs.Session.{Result, windowOf, windowLength, accepting, eodDue, closingStarted, settledBy, settledOf}
+use Rattle.recording.specs.Window.{blockAt, putBlock}
+use Rattle.recording.specs.declared.session.Recording.{Recording}
+use Rattle.recording.specs.declared.session.Stage.{Stage}
+use Rattle.recording.specs.declared.session.Stage.the-variants as S
+use Rattle.recording.proofs.BlockPlace.{place-inside}
+use Rattle.recording.proofs.Stages.{HeaderStage, ElementStage}
+use Rattle.archive.specs.Recordings.{World, Element, block, filemark, TakesEffect, afterBlock, afterFilemark}
+use Rattle.archive.proofs.tape.Basics.{no-effect}
+use Rattle.archive.proofs.tape.WindowLaws.{put-same-block, put-other-block}
+use Rattle.archive.proofs.tape.Scan.{Seen}
+use Rattle.archive.proofs.tape.SeenLaws.{seen-accept}
+use Rattle.archive.proofs.tape.Stands.{Item, element, eod, itemAt, Stands, Queue, StoredAs}
+use Rattle.archive.proofs.tape.StandsLaws.{item-in, item-more}
+use Rattle.archive.proofs.recording.ElementsLink.{Writing}
+use Rattle.archive.proofs.recording.KeptAgreement.{agree-as, writing-as, writing-numbers, sent-due}
+use Rattle.archive.proofs.recording.Invariant as inv
+use Rattle.archive.proofs.recording.Invariant.{totalOf, Counted, Course, Content, Live, Rejecting, Inv, live, rejecting, over}
+use Rattle.archive.proofs.recording.Setting.{Setting}
+
+-- ---- calls that take effect
+
+pub record Accepting (s : Recording) : Type 0 where
+  pub going : s .ended ≡ false
+  pub unclosed : s .closed ≡ false
+  pub room : s .elements .pending ≤ s .highest
+
+accepting-so : (s : Recording) → acceptsNone s ≡ false → isFull s ≡ false → Accepting s
+accepting-so s a b = let x = or-false (s .ended) (s .closed) a in record { going = x .0; unclosed = x .1; room = ltb-false (s .highest) (s .elements .pending) b }
+
+pub filemark-view : (s : Recording) → TakesEffect (filemarkOf s .number) → (filemarkOf s ≡ accepting (withElement s true)) × Accepting s
+unfolding filemarkOf
+filemark-view s =
+    pick-by (λ (r : Result). TakesEffect (r .number) → (r ≡ accepting (withElement s true)) × Accepting s) (acceptsNone s) (λ _ te. no-effect (omega arith) (omega arith) te)
+    (λ a. pick-by (λ (r : Result). TakesEffect (r .number) → (r ≡ accepting (withElement s true)) × Accepting s) (isFull s) (λ _ te. no-effect (omega arith) (omega arith) te)
+    (λ b te. (refl, accepting-so s a b)))
+
+pub record Storing (s : Recording) (b window : List ℕ) (r : Stored) : Type 0 where
+  pub is : r ≡ record { result = accepting (withElement s false); window = putBlock window (placeOf s) b }
+  pub accepting-it : Accepting s
+  pub full : length b ≡ 32768
+  pub long : length window ≡ windowLength s
+
+pub block-view : (s : Recording) (b window : List ℕ) → TakesEffect (blockOf s b window .result .number) → Storing s b window (blockOf s b window)
+unfolding blockOf
+block-view s b window =
+    pick-by (λ (r : Stored). TakesEffect (r .result .number) → Storing s b window r) (acceptsNone s) (λ _ te. no-effect (omega arith) (omega arith) te)
+    (λ a. pick-by (λ (r : Stored). TakesEffect (r .result .number) → Storing s b window r) (eqb (length b) 32768 && eqb (length window) (windowLength s))
+    (λ l. pick-by (λ (r : Stored). TakesEffect (r .result .number) → Storing s b window r) (isFull s) (λ _ te. no-effect (omega arith) (omega arith) te)
+    (λ f te.
+    let lengths = and-true (eqb (length b) 32768) (eqb (length window) (windowLength s)) l in
+    record { is = refl; accepting-it = accepting-so s a f; full = eqb-true (length b) 32768 (lengths .0); long = eqb-true (length window) (windowLength s) (lengths .1) }))
+    (λ _ te. no-effect (omega arith) (omega arith) te))
+
+pub close-view : (s : Recording) → TakesEffect (closeOf s .number) → (closeOf s ≡ accepting (settledOf (closedOf s))) × (s .ended ≡ false) × (s .closed ≡ false)
+unfolding closeOf
+close-view s =
+    pick-by (λ (r : Result). TakesEffect (r .number) → (r ≡ accepting (settledOf (closedOf s))) × (s .ended ≡ false) × (s .closed ≡ false)) (acceptsNone s) (λ _ te. no-effect (omega arith) (omega arith) te)
+    (λ a te. let x = or-false (s .ended) (s .closed) a in (refl, x .0, x .1))
+
+-- ---- one element more
+
+-- two numbers less than n apart have different remainders
+mod-apart : (n i j : ℕ) → i < j → j < i + n → i % n ≡ j % n → ⊥
+mod-apart n i j l u e = go (decLe (suc (i / n)) (j / n))
+  where
+    a : i / n * n + i % n ≡ i
+    a = div-add-mod' i n
+
+    b : j / n * n + j % n ≡ j
+    b = div-add-mod' j n
+
+    go : Dec (suc (i / n) ≤ j / n) → ⊥
+    go (yes h) = omega (arith, a, b, mul-le-mul-right n h)
+    go (no h) = let g : j / n ≤ i / n = omega arith in omega (arith, a, b, mul-le-mul-right n g)
+
+abbrev acceptedWorld : World → Recording → List ℕ → Bool → Element → World
+acceptedWorld w s window unaltered x = record {
+  session = s;
+  window = window;
+  unaltered = unaltered;
+  drive = w .drive;
+  flight = w .flight;
+  accepted = w .accepted ++ x ∷ [];
+  reported = w .reported;
+}
+
+-- what the window must keep and gain
+pub record Gains (s : Recording) (before after : List ℕ) (x : Element) (marks : List Bool) : Type 0 where
+  pub keeps : (i : ℕ) → i < s .elements .pending → blockAt after ((s .elements .first .0 + i) % windowOf s) ≡ blockAt before ((s .elements .first .0 + i) % windowOf s)
+  pub gains : StoredAs (element x) after marks (windowOf s) (s .elements .first .0 + s .elements .pending)
+
+queue-grow : (last pass : ℕ) (xs ys : List Element) (k : ℕ) (fs : List (List ℕ)) → k + length fs ≤ length xs → Queue last pass xs k fs → Queue last pass (xs ++ ys) k fs
+unfolding Queue
+queue-grow last pass xs ys k [] l q = tt
+queue-grow last pass xs ys k (f ∷ fs) l q =
+    (subst (λ (x : Item). Stands last pass x k f) (sym (item-more xs ys k (omega arith))) (q .0), queue-grow last pass xs ys (k + 1) fs (omega arith) (q .1))
+
+module _ {last pass : ℕ} {premises : Type 0} (w : World) (set : Setting last pass) (l : Live last pass premises w) (mark : Bool) (x : Element) (acc : Accepting (w .session)) where
+  -- the stages in which elements are accepted
+  data Early (k edge : ℕ) : Type 0 where
+    opening : w .session .stage ≡ S.OpeningHeaders → Course last w k edge → Early k edge
+    writing : w .session .stage ≡ S.Elements → Writing last (w .session) (w .drive) k edge (w .flight) → Early k edge
+
+  early : {k edge : ℕ} → Course last w k edge → Early k edge
+  early (inv.opening st t c) = opening st (inv.opening st t c)
+  early (inv.writing st a) = writing st a
+  early (inv.ending st c p a) = clash c (acc .unclosed)
+  early (inv.closing st c a b g) = clash c (acc .unclosed)
+  early (inv.finished st c a b f g h r y) = clash c (acc .unclosed)
+
+  total-plain : {k edge : ℕ} (n : ℕ) → Early k edge → totalOf (w .session .stage) n ≡ n
+  total-plain n (opening st _) = ap (λ (y : Stage). totalOf y n) st
+  total-plain n (writing st _) = ap (λ (y : Stage). totalOf y n) st
+
+  plain-pending : (w .session .elements .pending + 1) % 2 ^ 16 ≡ w .session .elements .pending + 1
+  plain-pending = mod-eq-of-lt (omega (arith, acc .room, l .counted .wide))
+
+  grown : length (w .accepted ++ x ∷ []) ≡ length (w .accepted) + 1
+  grown = length-append (w .accepted) (x ∷ [])
+
+  counted-more : Counted last (length (w .accepted ++ x ∷ [])) (withElement (w .session) mark)
+  counted-more =
+      let c = l .counted in
+      let held = c .held in
+      let y = early (l .course) in
+      record {
+        wide = c .wide;
+        held = omega (arith, plain-pending);
+        windowed = omega (arith, plain-pending, acc .room);
+        numbered = omega (arith, plain-pending, grown, c .numbered, total-plain (length (w .accepted)) y, total-plain (length (w .accepted ++ x ∷ [])) y);
+        marks = length-set (w .session .elements .marks) _ mark ∙ c .marks;
+        room = c .room;
+      }
+
+  more-pending : w .session .elements .pending ≤ withElement (w .session) mark .elements .pending
+  more-pending = omega (arith, plain-pending)
+
+  course-more : (window : List ℕ) (unaltered : Bool) {k edge : ℕ} → Course last w k edge → Course last (acceptedWorld w (withElement (w .session) mark) window unaltered x) k edge
+  course-more window unaltered (inv.opening st t c) = inv.opening st t (agree-as (w .session) (withElement (w .session) mark) (w .drive) refl refl c)
+  course-more window unaltered {k} {edge} (inv.writing st a) = inv.writing st (writing-as last (w .session) (withElement (w .session) mark) (w .drive) k edge refl more-pending a)
+  course-more window unaltered (inv.ending st c p a) = clash c (acc .unclosed)
+  course-more window unaltered (inv.closing st c a b g) = clash c (acc .unclosed)
+  course-more window unaltered (inv.finished st c a b f g h r y) = clash c (acc .unclosed)
+
+  first-small : {k edge : ℕ} → Course last w k edge → w .session .elements .first .0 + w .session .elements .pending < 2 ^ 32
+  first-small (inv.opening st t c) = omega (arith, t .first-is, t .spread, t .roof, acc .room, l .counted .wide, set .small)
+  first-small (inv.writing st a) = let n = writing-numbers (l .counted .held) a in omega (arith, n .low, acc .room, l .counted .wide, set .small)
+  first-small (inv.ending st c p a) = clash c (acc .unclosed)
+  first-small (inv.closing st c a b g) = clash c (acc .unclosed)
+  first-small (inv.finished st c a b f g h r y) = clash c (acc .unclosed)
+
+  module _ (window : List ℕ) (c : Content last pass w (l .k) (l .edge)) (g : Gains (w .session) (w .window) window x (elements.acceptedOf (w .session .elements) mark .marks)) where
+    count-is : w .session .elements .first .0 + w .session .elements .pending ≡ length (w .accepted)
+    count-is = l .counted .numbered ∙ total-plain (length (w .accepted)) (early (l .course))
+
+    -- an item that was pending stays as it was stored
+    stays : (y : Item) (i : ℕ) → i < w .session .elements .pending → StoredAs y (w .window) (w .session .elements .marks) (windowOf (w .session)) (w .session .elements .first .0 + i)
+        → StoredAs y window (elements.acceptedOf (w .session .elements) mark .marks) (windowOf (w .session)) (w .session .elements .first .0 + i)
+    stays (element (block b)) i h old =
+        (g .keeps i h ∙ old .0, mark-kept (w .session .elements .marks) (w .session .elements .first .0) i (w .session .elements .pending) mark h (omega (arith, acc .room, l .counted .wide)) ∙ old .1)
+    stays (element filemark) i h old = mark-kept (w .session .elements .marks) (w .session .elements .first .0) i (w .session .elements .pending) mark h (omega (arith, acc .room, l .counted .wide)) ∙ old
+    stays eod i h old = tt
+
+    new-item : itemAt (w .accepted ++ x ∷ []) (w .session .elements .first .0 + w .session .elements .pending) ≡ element x
+    new-item =
+        let n = w .session .elements .first .0 + w .session .elements .pending in
+        item-in (w .accepted ++ x ∷ []) n (omega (arith, count-is, grown)) ∙ ap element (getD-at (w .accepted) x [] filemark n (sym count-is))
+
+    stored-more : (i : ℕ) → i < withElement (w .session) mark .elements .pending
+        → StoredAs (itemAt (w .accepted ++ x ∷ []) (w .session .elements .first .0 + i)) window (elements.acceptedOf (w .session .elements) mark .marks) (windowOf (w .session)) (w .session .elements .first .0 + i)
+    stored-more i h = go (eq-or-lt-of-le upper)
+      where
+        upper : i ≤ w .session .elements .pending
+        upper = omega (arith, plain-pending)
+
+        go : (i ≡ w .session .elements .pending) ⊎ (i < w .session .elements .pending)
+            → StoredAs (itemAt (w .accepted ++ x ∷ []) (w .session .elements .first .0 + i)) window (elements.acceptedOf (w .session .elements) mark .marks) (windowOf (w .session)) (w .session .elements .first .0 + i)
+        go (inl same) =
+            subst (λ (j : ℕ). StoredAs (itemAt (w .accepted ++ x ∷ []) (w .session .elements .first .0 + j)) window (elements.acceptedOf (w .session .elements) mark .marks) (windowOf (w .session)) (w .session .elements .first .0 + j)) (sym same)
+            (subst (λ (y : Item). StoredAs y window (elements.acceptedOf (w .session .elements) mark .marks) (windowOf (w .session)) (w .session .elements .first .0 + w .session .elements .pending)) (sym new-item) (g .gains))
+        go (inr low) =
+            subst (λ (y : Item). StoredAs y window (elements.acceptedOf (w .session .elements) mark .marks) (windowOf (w .session)) (w .session .elements .first .0 + i)) (sym (item-more (w .accepted) (x ∷ []) (w .session .elements .first .0 + i) (omega (arith, count-is))))
+            (stays (itemAt (w .accepted) (w .session .elements .first .0 + i)) i low (c .stored i low))
+
+    writing-of : ElementStage (w .session) → Writing last (w .session) (w .drive) (l .k) (l .edge) (w .flight)
+    writing-of st = go st (early (l .course))
+      where
+        go : ElementStage (w .session) → Early (l .k) (l .edge) → Writing last (w .session) (w .drive) (l .k) (l .edge) (w .flight)
+        go (inl q) (opening o _) = never (cc)
+        go (inr q) (opening o _) = never (cc)
+        go q (writing o a) = a
+
+    content-more : (unaltered : Bool) → Content last pass (acceptedWorld w (withElement (w .session) mark) window unaltered x) (l .k) (l .edge)
+    content-more unaltered =
+        let y = early (l .course) in
+        record {
+          tape = c .tape;
+          seen = subst (λ (n : ℕ). Seen last pass (w .accepted ++ x ∷ []) n (l .k) (l .edge) (w .drive .tape)) (sym (total-plain (length (w .accepted ++ x ∷ [])) y))
+              (seen-accept x (subst (λ (n : ℕ). Seen last pass (w .accepted) n (l .k) (l .edge) (w .drive .tape)) (total-plain (length (w .accepted)) y) (c .seen)));
+          below = c .below;
+          stored = stored-more;
+          queue = λ st free. queue-grow last pass (w .accepted) (x ∷ []) (l .k) (w .drive .buffer) (omega (arith, writing-numbers (l .counted .held) (writing-of st) .fits free, count-is)) (c .queue st free);
+          sent = λ a f st q.
+              let due = sent-due (subst (Writing last (w .session) (w .drive) (l .k) (l .edge)) q (writing-of st)) in
+              subst (λ (y : Item). Stands last pass y (w .session .elements .first .0 + w .session .elements .outstanding) f) (sym (item-more (w .accepted) (x ∷ []) (w .session .elements .first .0 + w .session .elements .outstanding) (omega (arith, count-is)))) (c .sent a f st q);
+        }
+
+  live-more : (window : List ℕ) (unaltered : Bool) → (unaltered ≡ true → (w .unaltered ≡ true) × Gains (w .session) (w .window) window x (elements.acceptedOf (w .session .elements) mark .marks))
+      → Live last pass premises (acceptedWorld w (withElement (w .session) mark) window unaltered x)
+  live-more window unaltered gain = record {
+    k = l .k;
+    edge = l .edge;
+    going = l .going;
+    counted = counted-more;
+    carried = l .carried;
+    course = course-more window unaltered (l .course);
+    reported = l .reported;
+    content = λ p u. let y = gain u in content-more window (l .content p (y .0)) (y .1) unaltered;
+  }
+
+-- ---- the calls
+
+rejecting-more : {last : ℕ} (w : World) (s : Recording) (window : List ℕ) (unaltered : Bool) (x : Element) (d : Rejecting last w) → s .ended ≡ w .session .ended → s .awaiting ≡ w .session .awaiting → s .command ≡ w .session .command → s .stage ≡ w .session .stage → Rejecting last (acceptedWorld w s window unaltered x)
+rejecting-more w s window unaltered x d ended awaiting command stage = record {
+  reply = d .reply;
+  going = ended ∙ d .going;
+  awaits = awaiting ∙ d .awaits;
+  replied = d .replied;
+  unlisted = λ y. d .unlisted (subst (λ c. Listed c (meaningOf (d .reply .key) (d .reply .asc) (d .reply .ascq))) command y);
+  off-headers = λ el a e. d .off-headers (⊎-elim (λ q. inl (sym stage ∙ q)) (λ q. inr (sym stage ∙ q)) el) a (sym command ∙ e);
+  safe = d .safe;
+  unreported = d .unreported;
+}
+
+pub keeps-filemark : {last pass : ℕ} {premises : Type 0} (w : World) → Setting last pass → Inv last pass premises w → TakesEffect (filemarkOf (w .session) .number) → Inv last pass premises (afterFilemark w)
+keeps-filemark {last} {pass} {premises} w set i te =
+    let v = filemark-view (w .session) te in
+    subst (λ (r : Result). Inv last pass premises (acceptedWorld w (r .session) (w .window) (w .unaltered) filemark)) (sym (v .0)) (go (v .1) i)
+  where
+    go : Accepting (w .session) → Inv last pass premises w → Inv last pass premises (acceptedWorld w (withElement (w .session) true) (w .window) (w .unaltered) filemark)
+    go acc (live wr l) =
+        live wr (live-more w set l true filemark acc (w .window) (w .unaltered) (λ u. (u, record { keeps = λ _ _. refl; gains = accepted-new (w .session .elements) true (l .counted .marks) })))
+    go acc (rejecting wr d) = rejecting wr (rejecting-more w (withElement (w .session) true) (w .window) (w .unaltered) filemark d refl refl refl refl)
+    go acc (over wr o) = clash (o .ended) (acc .going)
+
+pub keeps-block : {last pass : ℕ} {premises : Type 0} (w : World) (b lent : List ℕ) → Setting last pass → Inv last pass premises w → TakesEffect (blockOf (w .session) b lent .result .number) → Inv last pass premises (afterBlock w b lent)
+keeps-block {last} {pass} {premises} w b lent set i te =
+    let v = block-view (w .session) b lent te in
+    subst (λ (r : Stored). Inv last pass premises (acceptedWorld w (r .result .session) (r .window) (w .unaltered && agree lent (w .window)) (block b))) (sym (v .is)) (go v i)
+  where
+    go : Storing (w .session) b lent (blockOf (w .session) b lent) → Inv last pass premises w
+        → Inv last pass premises (acceptedWorld w (withElement (w .session) false) (putBlock lent (placeOf (w .session)) b) (w .unaltered && agree lent (w .window)) (block b))
+    go v (live wr l) =
+        let acc = v .accepting-it in
+        let first = w .session .elements .first .0 in
+        let pending = w .session .elements .pending in
+        let width = windowOf (w .session) in
+        let exact : (first + pending) % 2 ^ 32 ≡ first + pending = mod-eq-of-lt (first-small w set l false (block b) acc (l .course)) in
+        let place-is : placeOf (w .session) ≡ (first + pending) % width = ap (λ (n : ℕ). n % width) exact in
+        let room : placeOf (w .session) * 32768 + 32768 ≤ length lent = subst (λ (n : ℕ). placeOf (w .session) * 32768 + 32768 ≤ n) (sym (v .long)) (place-inside (elements.numberOf (w .session .elements) pending) (w .session .highest)) in
+        live wr
+        (live-more w set l false (block b) acc (putBlock lent (placeOf (w .session)) b) (w .unaltered && agree lent (w .window))
+        (λ u.
+        let both = and-true (w .unaltered) (agree lent (w .window)) u in
+        let same : lent ≡ w .window = agree-is lent (w .window) (both .1) in (
+          both .0,
+          record {
+            keeps = λ i h.
+                put-other-block lent b (placeOf (w .session)) room (v .full) ((first + i) % width)
+                (λ q. mod-apart width (first + i) (first + pending) (omega arith) (omega (arith, acc .room)) (q ∙ place-is))
+                (subst (λ (n : ℕ). (first + i) % width * 32768 + 32768 ≤ n) (sym (v .long)) (place-inside (first + i) (w .session .highest)))
+                ∙ ap (λ (x : List ℕ). blockAt x ((first + i) % width)) same;
+            gains =
+                (subst (λ (n : ℕ). blockAt (putBlock lent (placeOf (w .session)) b) n ≡ b) place-is (put-same-block lent b (placeOf (w .session)) room (v .full)), accepted-new (w .session .elements) false (l .counted .marks));
+          },
+        )))
+    go v (rejecting wr d) = rejecting wr (rejecting-more w (withElement (w .session) false) (putBlock lent (placeOf (w .session)) b) (w .unaltered && agree lent (w .window)) (block b) d refl refl refl refl)
+    go v (over wr o) = clash (o .ended) (v .accepting-it .going)
+
+-- ---- close
+
+-- EOD becomes due, or the closing headers do, or neither
+pub settled-cases : (s : Recording) (P : Recording → Type 0) → ((0 < s .elements .pending) ⊎ (HeaderStage s ⊎ (s .stage ≡ S.Done)) ⊎ ((s .stage ≡ S.Elements) × (s .closed ≡ false)) → P s)
+    → (s .stage ≡ S.Elements → s .closed ≡ true → s .elements .pending ≡ 0 → P (eodDue s)) → (s .stage ≡ S.Eod → s .elements .pending ≡ 0 → P (closingStarted s)) → P (settledOf s)
+unfolding settledOf
+settled-cases s P same eod-due closing-due =
+    pick-by P (ltb 0 (s .elements .pending)) (λ e. same (inl (ltb-true 0 (s .elements .pending) e)))
+    (λ e. let none : s .elements .pending ≡ 0 = let z = ltb-false 0 (s .elements .pending) e in omega arith in by none (s .stage) refl)
+  where
+    by : s .elements .pending ≡ 0 → (st : Stage) → s .stage ≡ st → P (settledBy st s)
+    by none S.OpeningHeaders q = same (inr (inl (inl (inl q))))
+    by none S.Elements q = pick-by P (s .closed) (λ c. eod-due q c none) (λ c. same (inr (inr (q, c))))
+    by none S.Eod q = closing-due q none
+    by none S.ClosingHeaders q = same (inr (inl (inl (inr q))))
+    by none S.Done q = same (inr (inl (inr q)))

@@ -1,0 +1,139 @@
+-- Close keeps the invariant, and so does EOD's becoming due. Assumes nothing.
+use Prim.Native.Nat.{ℕ, _+_, _%_, _^_, _<_}
+use mathlib.Core.Path.{_≡_, refl, sym, ap, subst, _∙_}
+use mathlib.Core.Bool.{Bool, true, false}
+use mathlib.Core.List.{List}
+use mathlib.Core.Logic.{inl, inr}
+use native.Mathlib.Omega.{arith}
+use lib.ListN.{length, length-set}
+use Rattle.drive.specs.Listed.{Listed}
+use Rattle.drive.specs.Senses.{meaningOf}
+use Rattle.elements.specs.Elements as elements
+use Rattle.recording.specs.Accept.{closedOf, closeOf}
+use Rattle.recording.specs.Session.{Result, windowOf, eodDue, closingStarted, settledOf}
+use Rattle.recording.specs.declared.session.Recording.{Recording}
+use Rattle.recording.specs.declared.session.Stage.{Stage}
+use Rattle.recording.specs.declared.session.Stage.the-variants as S
+use Rattle.recording.proofs.Stages.{ElementStage}
+use Rattle.archive.specs.Recordings.{World, TakesEffect, withSession}
+use Rattle.archive.proofs.tape.Scan.{Seen}
+use Rattle.archive.proofs.tape.SeenLaws.{seen-eod}
+use Rattle.archive.proofs.tape.Stands.{Item, itemAt, StoredAs}
+use Rattle.archive.proofs.tape.StandsLaws.{item-past}
+use Rattle.archive.proofs.recording.HeaderCopies.{Carried}
+use Rattle.archive.proofs.recording.KeptAgreement.{agree-as, writing-as}
+use Rattle.archive.proofs.recording.Accepts.{close-view, settled-cases}
+use Rattle.archive.proofs.recording.Invariant as inv
+use Rattle.archive.proofs.recording.Invariant.{totalOf, spareOf, Course, Live, Rejecting, Inv, live, rejecting, over}
+use Rattle.geometry.proofs.Impossible.{never, clash}
+
+-- ---- EOD becomes due
+
+module _ {last pass : ℕ} {premises : Type 0} (w : World) (l : Live last pass premises w) (st : w .session .stage ≡ S.Elements) (closed : w .session .closed ≡ true) (none : w .session .elements .pending ≡ 0) where
+  one : (w .session .elements .pending + 1) % 2 ^ 16 ≡ 1
+  one = ap (λ (n : ℕ). (n + 1) % 2 ^ 16) none
+
+  count : w .session .elements .first .0 ≡ length (w .accepted)
+  count = let n = l .counted .numbered in let t = ap (λ (x : Stage). totalOf x (length (w .accepted))) st in omega arith
+
+  eod-course : Course last w (l .k) (l .edge) → Course last (withSession w (eodDue (w .session))) (l .k) (l .edge)
+  eod-course (inv.opening q t c) = never (cc)
+  eod-course (inv.writing q a) = inv.ending refl closed one (writing-as last (w .session) (eodDue (w .session)) (w .drive) (l .k) (l .edge) refl (omega (arith, one, none)) a)
+  eod-course (inv.ending q c p a) = never (cc)
+  eod-course (inv.closing q c a b g) = never (cc)
+  eod-course (inv.finished q c a b f g h r y) = never (cc)
+
+  eod-stored : (window : List ℕ) (marks : List Bool) (i : ℕ) → i < (w .session .elements .pending + 1) % 2 ^ 16 → StoredAs (itemAt (w .accepted) (w .session .elements .first .0 + i)) window marks (windowOf (w .session)) (w .session .elements .first .0 + i)
+  eod-stored window marks i h =
+      subst (λ (x : Item). StoredAs x window marks (windowOf (w .session)) (w .session .elements .first .0 + i)) (sym (item-past (w .accepted) (w .session .elements .first .0 + i) (omega (arith, count)))) tt
+
+  pub eod-live : Live last pass premises (withSession w (eodDue (w .session)))
+  eod-live =
+      let c = l .counted in
+      let held = c .held in
+      record {
+        k = l .k;
+        edge = l .edge;
+        going = l .going;
+        counted = record {
+          wide = c .wide;
+          held = omega (arith, one, none);
+          windowed = omega (arith, one);
+          numbered = omega (arith, one, count);
+          marks = length-set (w .session .elements .marks) _ false ∙ c .marks;
+          room = c .room;
+        };
+        carried = subst (λ (n : ℕ). Carried last pass n (w .session .copies .header)) (ap spareOf st) (l .carried);
+        course = eod-course (l .course);
+        reported = λ r. never (let q = l .reported r in cc);
+        content = λ p u.
+            let x = l .content p u in
+            record {
+              tape = x .tape;
+              seen = seen-eod (subst (λ (n : ℕ). Seen last pass (w .accepted) n (l .k) (l .edge) (w .drive .tape)) (ap (λ (y : Stage). totalOf y (length (w .accepted))) st) (x .seen));
+              below = x .below;
+              stored = λ i h. eod-stored (w .window) (elements.acceptedOf (w .session .elements) false .marks) i h;
+              queue = λ _ free. x .queue (inl st) free;
+              sent = λ a f _ q. x .sent a f (inl st) q;
+            };
+      }
+
+-- ---- close was called
+
+module _ {last pass : ℕ} {premises : Type 0} (w : World) (l : Live last pass premises w) (unclosed : w .session .closed ≡ false) where
+  closed-course : Course last w (l .k) (l .edge) → Course last (withSession w (closedOf (w .session))) (l .k) (l .edge)
+  closed-course (inv.opening q t c) =
+      inv.opening q t (agree-as (w .session) (closedOf (w .session)) (w .drive) refl refl c)
+  closed-course (inv.writing q a) = inv.writing q (writing-as last (w .session) (closedOf (w .session)) (w .drive) (l .k) (l .edge) refl (omega arith) a)
+  closed-course (inv.ending q c p a) = clash c unclosed
+  closed-course (inv.closing q c a b g) = clash c unclosed
+  closed-course (inv.finished q c a b f g h r y) = clash c unclosed
+
+  closed-live : Live last pass premises (withSession w (closedOf (w .session)))
+  closed-live =
+      let c = l .counted in
+      record {
+        k = l .k;
+        edge = l .edge;
+        going = l .going;
+        counted = record { wide = c .wide; held = c .held; windowed = c .windowed; numbered = c .numbered; marks = c .marks; room = c .room };
+        carried = l .carried;
+        course = closed-course (l .course);
+        reported = l .reported;
+        content = λ p u. let x = l .content p u in record { tape = x .tape; seen = x .seen; below = x .below; stored = x .stored; queue = x .queue; sent = x .sent };
+      }
+
+  not-eod : {X : Type 0} → w .session .stage ≡ S.Eod → Course last w (l .k) (l .edge) → X
+  not-eod e (inv.opening q t c) = never (cc)
+  not-eod e (inv.writing q a) = never (cc)
+  not-eod e (inv.ending q c p a) = clash c unclosed
+  not-eod e (inv.closing q c a b g) = clash c unclosed
+  not-eod e (inv.finished q c a b f g h r y) = clash c unclosed
+
+rejecting-close : {last : ℕ} (w : World) (s : Recording) → Rejecting last w → s .ended ≡ w .session .ended → s .awaiting ≡ w .session .awaiting → s .command ≡ w .session .command → (ElementStage s → ElementStage (w .session)) → Rejecting last (withSession w s)
+rejecting-close w s d ended awaiting command stage = record {
+  reply = d .reply;
+  going = ended ∙ d .going;
+  awaits = awaiting ∙ d .awaits;
+  replied = d .replied;
+  unlisted = λ y. d .unlisted (subst (λ c. Listed c (meaningOf (d .reply .key) (d .reply .asc) (d .reply .ascq))) command y);
+  off-headers = λ el a e. d .off-headers (stage el) a (sym command ∙ e);
+  safe = d .safe;
+  unreported = d .unreported;
+}
+
+pub keeps-close : {last pass : ℕ} {premises : Type 0} (w : World) → Inv last pass premises w → TakesEffect (closeOf (w .session) .number) → Inv last pass premises (withSession w (closeOf (w .session) .session))
+keeps-close {last} {pass} {premises} w i te =
+    let v = close-view (w .session) te in
+    subst (λ (r : Result). Inv last pass premises (withSession w (r .session))) (sym (v .0)) (go (v .1) (v .2) i)
+  where
+    go : w .session .ended ≡ false → w .session .closed ≡ false → Inv last pass premises w → Inv last pass premises (withSession w (settledOf (closedOf (w .session))))
+    go going unclosed (live wr l) =
+        settled-cases (closedOf (w .session)) (λ (s : Recording). Inv last pass premises (withSession w s)) (λ _. live wr (closed-live w l unclosed))
+        (λ q c none. live wr (eod-live (withSession w (closedOf (w .session))) (closed-live w l unclosed) q c none))
+        (λ q none. not-eod w l unclosed q (l .course))
+    go going unclosed (rejecting wr d) =
+        settled-cases (closedOf (w .session)) (λ (s : Recording). Inv last pass premises (withSession w s)) (λ _. rejecting wr (rejecting-close w (closedOf (w .session)) d refl refl refl (λ h. h)))
+        (λ q c none. rejecting wr (rejecting-close w (eodDue (closedOf (w .session))) d refl refl refl (λ _. inl q)))
+        (λ q none. rejecting wr (rejecting-close w (closingStarted (closedOf (w .session))) d refl refl refl (λ _. inr q)))
+    go going unclosed (over wr o) = clash (o .ended) going

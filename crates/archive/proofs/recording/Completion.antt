@@ -1,0 +1,120 @@
+-- What a recording that reported done leaves, and that a reading opens on it. Assumes nothing.
+use Prim.Native.Nat.{ℕ, _+_, _^_, _≤_, _<_}
+use mathlib.Core.Path.{_≡_, sym, ap, subst, _∙_}
+use mathlib.Core.Bool.{true, false, true≢false, _||_}
+use mathlib.Core.List.{List}
+use mathlib.Core.Logic.{_⊎_, inl, inr, ⊎-elim}
+use native.Mathlib.Omega.{arith}
+use borrow.Author.Tests.{eq-eqb, eqb-true}
+use lib.Dec.{eqb}
+use lib.ListN.{length}
+use Rattle.geometry.specs.Said.{address}
+use Rattle.geometry.specs.Cartridge.{isUser, lastOf}
+use Rattle.geometry.proofs.PickLaws.{pick-t}
+use Rattle.geometry.proofs.TestLaws.{or-true}
+use Rattle.geometry.proofs.Impossible.{never}
+use Rattle.geometry.specs.declared.cartridge.Geometry.{Geometry}
+use Rattle.frame.specs.Header.{headerFrame}
+use Rattle.frame.specs.Sent.{ReadsAs}
+use Rattle.frame.specs.declared.header.Header.{Header}
+use Rattle.header.specs.Valid.{validHeader, updateOf, headerOf}
+use Rattle.header.proofs.AsRead.{read-valid, read-update, read-fields}
+use Rattle.header.proofs.Built.{built-valid, built-update, built-fields}
+use Rattle.archive.specs.Tape.{Tape, Cartridge}
+use Rattle.recording.specs.declared.session.Stage.{Stage}
+use Rattle.recording.specs.declared.session.Stage.the-variants as S
+use Rattle.reading.specs.Open as reading
+use Rattle.archive.specs.Headers.{HeaderAt, Newest}
+use Rattle.archive.specs.Recordings.{World}
+use Rattle.archive.proofs.tape.Scan.{Seen}
+use Rattle.archive.proofs.tape.SeenLaws.{seen-recorded}
+use Rattle.archive.proofs.tape.UserPlaces.{User, user-ranges}
+use Rattle.archive.proofs.recording.HeaderCopies.{Carried, Copy, Below}
+use Rattle.archive.proofs.recording.Invariant.{totalOf, Course, opening, writing, ending, closing, finished, Content, Live, live, rejecting, over, Inv}
+use Rattle.archive.proofs.recording.Setting.{Setting, Leaves}
+
+-- ---- a copy of the header
+
+module _ {last pass spare : ℕ} (set : Setting last pass) (h : Header) (c : Carried last pass spare h) where
+  eod-small : h .eod .0 < 2 ^ 32
+  eod-small = go (or-true _ _ (c .eod-fits))
+    where
+      low : User last (h .eod .0) → h .eod .0 < 2 ^ 32
+      low (inl x) = let y = x .1 in omega arith
+      low (inr x) = let y = x .1 in omega (arith, set .small)
+
+      go : (eqb (h .eod .0) 0 ≡ true) ⊎ (isUser last (h .eod .0) ≡ true) → h .eod .0 < 2 ^ 32
+      go (inl e) = let z = eqb-true (h .eod .0) 0 e in omega arith
+      go (inr e) = low (user-ranges last (h .eod .0) e)
+
+  last-small : h .last .0 < 2 ^ 32
+  last-small = omega (arith, c .last-is, set .small)
+
+  update-small : h .update < 2 ^ 32
+  update-small = omega (arith, c .count-fits)
+
+  pass-low : h .pass ≤ 65534
+  pass-low = omega (arith, c .pass-is, set .low)
+
+  module _ {f : List ℕ} (r : ReadsAs (headerFrame h) f) where
+    pub copy-valid : validHeader last f ≡ true
+    copy-valid =
+        read-valid r last
+        ∙ subst (λ (n : ℕ). validHeader n (headerFrame h) ≡ true) (c .last-is)
+        (built-valid h last-small pass-low eod-small (subst (λ (n : ℕ). (eqb (h .eod .0) 0 || isUser n (h .eod .0)) ≡ true) (sym (c .last-is)) (c .eod-fits)))
+
+    pub copy-update : updateOf f ≡ h .update
+    copy-update = read-update r ∙ built-update h update-small
+
+    pub copy-pass : headerOf f .pass ≡ pass
+    copy-pass =
+        ap (λ (x : Header). x .pass) (read-fields r ∙ built-fields h last-small (omega (arith, pass-low)) eod-small update-small) ∙ c .pass-is
+
+  -- it is the newest, and so is every other newest one a copy
+  module _ {t : Tape} {bound : ℕ} (y : Copy h t bound) (below : Below last h t) where
+    here : HeaderAt last t (y .address) (y .frame)
+    here = record { group = y .group; reads = y .reads; valid = copy-valid (y .as-sent) }
+
+    pub copy-newest : Newest last t (y .frame)
+    copy-newest = record {
+      address = y .address;
+      here = here;
+      highest = λ a other at. ⊎-elim (λ l. omega (arith, copy-update (y .as-sent))) (λ r. omega (arith, copy-update (y .as-sent), copy-update r)) (below a other at);
+    }
+
+    pub newest-pass : (f : List ℕ) → Newest last t f → headerOf f .pass ≡ pass
+    newest-pass f n =
+        ⊎-elim (λ l. absurd (omega (arith, copy-update (y .as-sent), n .highest (y .address) (y .frame) here))) (λ r. copy-pass r) (below (n .address) f (n .here))
+
+-- ---- done
+
+module _ {last pass : ℕ} {premises : Type 0} {w : World} (set : Setting last pass) (l : Live last pass premises w) (content : Content last pass w (l .k) (l .edge)) (done : w .session .stage ≡ S.Done) where
+  leaves : Course last w (l .k) (l .edge) → Leaves last pass (w .drive .tape) (w .accepted)
+  leaves (opening s _ _) = never (cc)
+  leaves (writing s _) = never (cc)
+  leaves (ending s _ _ _) = never (cc)
+  leaves (closing s _ _ _ _) = never (cc)
+  leaves (finished s c k edge f a g rests copy) =
+      let all = subst (λ (n : ℕ). Seen last pass (w .accepted) n (l .k) (l .edge) (w .drive .tape)) (ap (λ (x : Stage). totalOf x (length (w .accepted))) s) (content .seen) in
+      let seen = subst (λ (n : ℕ). Seen last pass (w .accepted) (length (w .accepted) + 1) n (last + 1) (w .drive .tape)) k (subst (λ (n : ℕ). Seen last pass (w .accepted) (length (w .accepted) + 1) (l .k) n (w .drive .tape)) edge all) in
+      record {
+        tape = record { large = set .large; small = omega (arith, set .small); cartridge = content .tape; recorded = seen-recorded seen };
+        header = copy .frame;
+        newest = copy-newest set (w .session .copies .header) (l .carried) copy (content .below);
+        passes = newest-pass set (w .session .copies .header) (l .carried) copy (content .below);
+      }
+
+pub completes : {last pass : ℕ} {premises : Type 0} (w : World) → Setting last pass → Inv last pass premises w → premises → w .unaltered ≡ true → w .reported ≡ true → Leaves last pass (w .drive .tape) (w .accepted)
+completes w set (live _ l) pre unaltered reported = leaves set l (l .content pre unaltered) (l .reported reported) (l .course)
+completes w set (rejecting _ d) pre unaltered reported = absurd (true≢false (sym reported ∙ d .unreported))
+completes w set (over _ o) pre unaltered reported = absurd (true≢false (sym reported ∙ o .unreported))
+
+-- ---- a reading opens
+
+pub opens : (g : Geometry) (last : ℕ) (t : Tape) (h : List ℕ) → lastOf g ≡ address last → Cartridge last t → Newest last t h
+    → reading.openOf g h ≡ record { session = reading.fresh last (headerOf h .pass) false; number = 0 }
+unfolding reading.openOf reading.openOn
+opens g last t h e cart n =
+    pick-t _ (eq-eqb (length h) 33280 (cart .long (n .address) h (n .here .reads)))
+    ∙ ap (λ x. reading.openFor x h) e
+    ∙ pick-t _ (n .here .valid)

@@ -1,0 +1,139 @@
+-- What the drive's own writes and failures leave of tape and window. Assumes nothing.
+use Prim.Native.Nat.{ℕ, _+_, _≤_, _<_}
+use mathlib.Core.Path.{_≡_, refl, sym, ap, subst, _∙_}
+use mathlib.Core.Bool.{Bool, true, false, true≢false}
+use mathlib.Core.List.{List, [], _∷_, _++_}
+use mathlib.Core.Logic.{_⊎_, inl, inr, ⊎-elim}
+use mathlib.Core.Option.{Option, some}
+use native.Mathlib.Decide.{ℕ-discrete}
+use native.Mathlib.Omega.{arith}
+use borrow.Author.Tests.{leb-true}
+use lib.Dec.{leb}
+use lib.ListN.{length}
+use Rattle.geometry.specs.Cartridge.{isHeader, isUser}
+use Rattle.geometry.proofs.TestLaws.{and-true, or-true}
+use Rattle.frame.specs.Header.{headerFrame}
+use Rattle.frame.specs.Sent.{ReadsAs}
+use Rattle.frame.specs.declared.header.Header.{Header}
+use Rattle.frame.proofs.Frames.{header-length}
+use Rattle.header.specs.Valid.{updateOf}
+use Rattle.archive.specs.Conduct as conduct
+use Rattle.archive.specs.Conduct.{Drive, Written, Left, as-before, as-new, not-at-all, wrote, failing}
+use Rattle.archive.specs.Tape.{Tape, Cartridge, put}
+use Rattle.recording.specs.declared.session.Stage.{Stage}
+use Rattle.recording.specs.declared.session.Stage.the-variants as S
+use Rattle.recording.proofs.Stages.{ElementStage}
+use Rattle.archive.specs.Recordings.{World, Element, withDrive}
+use Rattle.archive.proofs.tape.Basics.{none-some, some-same}
+use Rattle.archive.proofs.tape.Places.{header-not-user}
+use Rattle.archive.proofs.tape.Scan.{Seen}
+use Rattle.archive.proofs.tape.ScanLaws.{put-same, put-other}
+use Rattle.archive.proofs.tape.SeenLaws.{cartridge-put, seen-elsewhere, seen-writes, seen-fails}
+use Rattle.archive.proofs.tape.Stands.{itemAt, Stands, Queue}
+use Rattle.archive.proofs.tape.StandsLaws.{stands-read, stands-long}
+use Rattle.archive.proofs.tape.UserPlaces.{user-ranges}
+use Rattle.archive.proofs.recording.HeaderCopies.{Below}
+use Rattle.archive.proofs.recording.Invariant.{totalOf, Content}
+
+-- what a tried address reads as
+pub left-reads : {before : Option (List ℕ)} {sent f : List ℕ} {v : Option (List ℕ)} → Left before sent v → v ≡ some f → (before ≡ some f) ⊎ ReadsAs sent f
+left-reads as-before e = inl e
+left-reads {sent = sent} (as-new _ (conduct.reads read r)) e = inr (subst (λ (x : List ℕ). ReadsAs sent x) (some-same e) r)
+left-reads not-at-all e = none-some e
+
+user-low : (last a : ℕ) → 3000 ≤ last → isUser last a ≡ true → a ≤ last
+user-low last a large u = ⊎-elim (λ h. let x = h .1 in omega arith) (λ h. h .1) (user-ranges last a u)
+
+-- ---- headers
+
+below-put : (last : ℕ) (h : Header) (t : Tape) (a : ℕ) (v : Option (List ℕ)) → ((f : List ℕ) → v ≡ some f → (t a ≡ some f) ⊎ ReadsAs (headerFrame h) f) → Below last h t → Below last h (put t a v)
+below-put last h t a v left below b f at = go (ℕ-discrete b a)
+  where
+    again : t b ≡ some f → (updateOf f < h .update) ⊎ ReadsAs (headerFrame h) f
+    again e = below b f (record { group = at .group; reads = e; valid = at .valid })
+
+    go : Dec (b ≡ a) → (updateOf f < h .update) ⊎ ReadsAs (headerFrame h) f
+    go (yes e) =
+        ⊎-elim (λ q. again (ap t e ∙ q)) inr (left f (sym (put-same t a v) ∙ ap (put t a v) (sym e) ∙ at .reads))
+    go (no n) = again (sym (put-other t a v b n) ∙ at .reads)
+
+module _ {last pass k edge : ℕ} (w : World) (large : 3000 ≤ last) (c : Content last pass w k edge) where
+  pub header-content : (e : Drive) (v : Option (List ℕ)) → e .tape ≡ put (w .drive .tape) (w .drive .at) v → isHeader (w .drive .at) ≡ true → (ElementStage (w .session) → ⊥)
+      → Left (w .drive .tape (w .drive .at)) (headerFrame (w .session .copies .header)) v → Content last pass (withDrive w e (w .flight)) k edge
+  header-content e v q at no-elements left =
+      let a = w .drive .at in
+      let t = w .drive .tape in
+      record {
+        tape = subst (Cartridge last) (sym q) (cartridge-put last t a v (header-low a at) (λ f x. ⊎-elim (λ y. c .tape .long a f y) (λ r. r .long ∙ header-length (w .session .copies .header)) (left-reads left x)) (c .tape));
+        seen = subst (λ x. Seen last pass (w .accepted) (totalOf (w .session .stage) (length (w .accepted))) k edge x) (sym q) (seen-elsewhere a v (not-user a at (isUser last a) refl) (c .seen));
+        below = subst (Below last (w .session .copies .header)) (sym q) (below-put last (w .session .copies .header) t a v (λ f x. left-reads left x) (c .below));
+        stored = c .stored;
+        queue = λ st _. absurd (no-elements st);
+        sent = λ _ _ st _. absurd (no-elements st);
+      }
+    where
+      header-low : (a : ℕ) → isHeader a ≡ true → a ≤ last
+      header-low a h = ⊎-elim (λ x. let y = leb-true a 9 (and-true (leb 5 a) (leb a 9) x .1) in omega arith) (λ x. let y = leb-true a 2994 (and-true (leb 2990 a) (leb a 2994) x .1) in omega arith) (or-true _ _ h)
+
+      not-user : (a : ℕ) → isHeader a ≡ true → (b : Bool) → isUser last a ≡ b → isUser last a ≡ false
+      not-user a h true e = absurd (header-not-user last a h e)
+      not-user a h false e = e
+
+  -- ---- elements
+
+  module _ (f : List ℕ) (rest : List (List ℕ)) (b : w .drive .buffer ≡ f ∷ rest) (free : w .drive .failed ≡ false) (st : ElementStage (w .session))
+      (here : isUser last (w .drive .at) ≡ true) (edge-here : edge ≡ w .drive .at) (room : k + 1 ≤ totalOf (w .session .stage) (length (w .accepted))) where
+    most : (s : Stage) (n : ℕ) → totalOf s n ≤ n + 1
+    most S.OpeningHeaders n = omega arith
+    most S.Elements n = omega arith
+    most S.Eod n = omega arith
+    most S.ClosingHeaders n = omega arith
+    most S.Done n = omega arith
+
+    queued : Stands last pass (itemAt (w .accepted) k) k f × Queue last pass (w .accepted) (k + 1) rest
+    unfolding Queue
+    queued = subst (Queue last pass (w .accepted) k) b (c .queue st free)
+
+    seen-here : Seen last pass (w .accepted) (totalOf (w .session .stage) (length (w .accepted))) k (w .drive .at) (w .drive .tape)
+    seen-here = subst (λ (x : ℕ). Seen last pass (w .accepted) (totalOf (w .session .stage) (length (w .accepted))) k x (w .drive .tape)) edge-here (c .seen)
+
+    -- no header is there
+    below-user : (v : Option (List ℕ)) → Below last (w .session .copies .header) (put (w .drive .tape) (w .drive .at) v)
+    below-user v x g at =
+        c .below x g (record { group = at .group; reads = sym (put-other (w .drive .tape) (w .drive .at) v x (λ e. header-not-user last x (at .group) (ap (isUser last) e ∙ here))) ∙ at .reads; valid = at .valid })
+
+    long-left : {v : Option (List ℕ)} → Left (w .drive .tape (w .drive .at)) f v → (g : List ℕ) → v ≡ some g → length g ≡ 33280
+    long-left left g e = ⊎-elim (λ y. c .tape .long (w .drive .at) g y) (λ r. r .long ∙ stands-long (queued .0)) (left-reads left e)
+
+    cartridge-left : {v : Option (List ℕ)} → Left (w .drive .tape (w .drive .at)) f v → Cartridge last (put (w .drive .tape) (w .drive .at) v)
+    cartridge-left {v} left = cartridge-put last (w .drive .tape) (w .drive .at) v (user-low last (w .drive .at) large here) (long-left left) (c .tape)
+
+    pub element-writes : (v : Option (List ℕ)) → Written f v → Content last pass (withDrive w (wrote (w .drive) rest v) (w .flight)) (k + 1) (w .drive .at + 1)
+    element-writes v (conduct.reads read r) = record {
+      tape = cartridge-left (as-new (some read) (conduct.reads read r));
+      seen = seen-writes (c .tape) (w .drive .at) here seen-here room (most (w .session .stage) (length (w .accepted))) read (stands-read (queued .0) r);
+      below = below-user (some read);
+      stored = c .stored;
+      queue = λ _ _. queued .1;
+      sent = c .sent;
+    }
+
+    pub element-fails : (v : Option (List ℕ)) → Left (w .drive .tape (w .drive .at)) f v → Content last pass (withDrive w (failing (w .drive) v) (w .flight)) k (w .drive .at + 1)
+    element-fails v left = record {
+      tape = cartridge-left left;
+      seen = seen-fails (c .tape) (w .drive .at) here seen-here room (most (w .session .stage) (length (w .accepted))) f v (queued .0) left;
+      below = below-user v;
+      stored = c .stored;
+      queue = λ _ x. absurd (true≢false x);
+      sent = c .sent;
+    }
+
+-- one frame more
+pub queue-more : (last pass : ℕ) (xs : List Element) (k : ℕ) (fs : List (List ℕ)) (f : List ℕ) → Queue last pass xs k fs → Stands last pass (itemAt xs (k + length fs)) (k + length fs) f → Queue last pass xs k (fs ++ f ∷ [])
+unfolding Queue
+queue-more last pass xs k [] f q s =
+    let e : k + 0 ≡ k = omega arith in
+    (subst (λ (i : ℕ). Stands last pass (itemAt xs i) i f) e s, tt)
+queue-more last pass xs k (g ∷ fs) f q s =
+    let e : k + length (g ∷ fs) ≡ k + 1 + length fs = omega arith in
+    (q .0, queue-more last pass xs (k + 1) fs f (q .1) (subst (λ (i : ℕ). Stands last pass (itemAt xs i) i f) e s))

@@ -1,0 +1,245 @@
+-- Every move of the drive keeps the invariant. Assumes nothing.
+use Prim.Native.Nat.{ℕ, suc, _+_, _≤_}
+use mathlib.Core.Path.{_≡_, refl, sym, ap, subst, _∙_}
+use mathlib.Core.Bool.{true, false, _||_}
+use mathlib.Core.List.{List, _∷_}
+use mathlib.Core.Logic.{inl, inr}
+use mathlib.Core.Option.{Option}
+use native.Mathlib.Omega.{arith}
+use lib.ListN.{length}
+use Rattle.geometry.specs.Cartridge.{isHeader, isUser}
+use Rattle.geometry.proofs.TestLaws.{either-left, either-right}
+use Rattle.geometry.proofs.Impossible.{clash}
+use Rattle.frame.specs.Header.{headerFrame}
+use Rattle.archive.specs.Conduct as conduct
+use Rattle.archive.specs.Conduct.{Drive, Acts, Answers, Left, Written, as-new, wrote, failing}
+use Rattle.drive.specs.declared.command.Command.{Command}
+use Rattle.drive.specs.declared.reply.Reply.{Reply}
+use Rattle.recording.specs.declared.session.Stage.the-variants as S
+use Rattle.recording.proofs.ListedReplies.{OffHeaders}
+use Rattle.recording.proofs.Stages.{HeaderStage, ElementStage, header-not-element, header-not-done, element-not-done}
+use Rattle.recording.proofs.Kept.{heldOf}
+use Rattle.archive.specs.Recordings as recordings
+use Rattle.archive.specs.Recordings.{World, Flight, withDrive, Moves}
+use Rattle.archive.specs.Demand.{Within, one-more}
+use Rattle.archive.proofs.tape.Basics.{none-sent, answered-sent}
+use Rattle.archive.proofs.tape.Stands.{itemAt, Stands, Queue}
+use Rattle.drive.specs.Senses.{meaningOf}
+use Rattle.drive.specs.Listed.{Listed}
+use Rattle.archive.specs.Tape.{Cartridge}
+use Rattle.archive.proofs.tape.Scan.{Seen}
+use Rattle.archive.proofs.recording.HeaderCopies.{Below}
+use Rattle.archive.proofs.recording.CopiesLink as copies
+use Rattle.archive.proofs.recording.CopiesLink.{Copying, CopiesAgree}
+use Rattle.archive.proofs.recording.CopiesMoves as copying
+use Rattle.archive.proofs.recording.CopiesMoves.{rests-still, CopyGoes, copying-goes, CopyOutcome, copies-answer}
+use Rattle.archive.proofs.recording.ElementsLink as elements
+use Rattle.archive.proofs.recording.ElementsLink.{Asks, Answered, Writing}
+use Rattle.archive.proofs.recording.ElementsMoves as writing
+use Rattle.archive.proofs.recording.ElementsMoves.{Goes, writing-goes, Outcome, elements-answer, asks-off-header}
+use Rattle.archive.proofs.recording.ContentMoves.{header-content, element-writes, element-fails, queue-more}
+use Rattle.archive.proofs.recording.Invariant as inv
+use Rattle.archive.proofs.recording.Invariant.{totalOf, Course, Content, Live, Safe, halted, allowed, Inv, live, rejecting, over}
+use Rattle.archive.proofs.recording.InvariantLaws.{unreported}
+use Rattle.archive.proofs.recording.Setting.{Setting}
+
+-- ---- a drive whose session has ended, or will
+
+safe-acts : {last : ℕ} {d e : Drive} → Safe last d → Acts d e → Safe last e × (Within last (d .written) → Within last (e .written))
+safe-acts (halted x) (conduct.writes f rest v b free r) = clash x free
+safe-acts (halted x) (conduct.fails f rest v b free l) = clash x free
+safe-acts {last} {d} (allowed h) (conduct.writes f rest v b free r) =
+    let size : length (d .buffer) ≡ suc (length rest) = ap length b in (
+      allowed (λ i below. let e : d .at + (i + 1) ≡ d .at + 1 + i = omega arith in subst (λ (a : ℕ). (isHeader a || isUser last a) ≡ true) e (h (i + 1) (omega (arith, size)))),
+      λ wr. let e : d .at + 0 ≡ d .at = omega arith in one-more (d .at) (d .written) (subst (λ (a : ℕ). (isHeader a || isUser last a) ≡ true) e (h 0 (omega (arith, size)))) wr,
+    )
+safe-acts {last} {d} (allowed h) (conduct.fails f rest v b free l) =
+    let size : length (d .buffer) ≡ suc (length rest) = ap length b in (
+      halted refl,
+      λ wr. let e : d .at + 0 ≡ d .at = omega arith in one-more (d .at) (d .written) (subst (λ (a : ℕ). (isHeader a || isUser last a) ≡ true) e (h 0 (omega (arith, size)))) wr,
+    )
+
+-- ---- a live one
+
+module _ {last pass : ℕ} {premises : Type 0} {w : World} (set : Setting last pass) (written : Within last (w .drive .written)) (l : Live last pass premises w) where
+  -- another drive, in the same session
+  relive : (d : Drive) (f : Flight) (k edge : ℕ) → Course last (withDrive w d f) k edge → (premises → w .unaltered ≡ true → Content last pass (withDrive w d f) k edge) → Live last pass premises (withDrive w d f)
+  relive d f k edge course content = record {
+    k = k;
+    edge = edge;
+    going = l .going;
+    counted = l .counted;
+    carried = l .carried;
+    course = course;
+    reported = l .reported;
+    content = content;
+  }
+
+  header-written : isHeader (w .drive .at) ≡ true → Within last (w .drive .at ∷ w .drive .written)
+  header-written h = one-more (w .drive .at) (w .drive .written) (either-left (isHeader (w .drive .at)) (isUser last (w .drive .at)) h) written
+
+  user-written : isUser last (w .drive .at) ≡ true → Within last (w .drive .at ∷ w .drive .written)
+  user-written u = one-more (w .drive .at) (w .drive .written) (either-right (isHeader (w .drive .at)) (isUser last (w .drive .at)) u) written
+
+  -- ---- it acts by itself, in a header stage
+
+  module _ (f : List ℕ) (rest : List (List ℕ)) (b : w .drive .buffer ≡ f ∷ rest) (free : w .drive .failed ≡ false) (st : HeaderStage (w .session)) (agree : CopiesAgree (w .session) (w .drive) (w .flight))
+      (course : (e : Drive) → CopiesAgree (w .session) e (w .flight) → Course last (withDrive w e (w .flight)) (l .k) (l .edge)) where
+    goes : CopyGoes (w .session .copies .header) (w .drive) f rest (λ e. Copying (w .session) e (w .flight))
+    goes = copying-goes f rest (agree .counts) b free (agree .copying)
+
+    agreed : {e : Drive} → Copying (w .session) e (w .flight) → CopiesAgree (w .session) e (w .flight)
+    agreed x = record { counts = agree .counts; placed = agree .placed; copying = x }
+
+    as-header : {v : Option (List ℕ)} → Left (w .drive .tape (w .drive .at)) f v → Left (w .drive .tape (w .drive .at)) (headerFrame (w .session .copies .header)) v
+    as-header {v} x = subst (λ (y : List ℕ). Left (w .drive .tape (w .drive .at)) y v) (goes .same) x
+
+    header-writes : (v : Option (List ℕ)) → Written f v → Inv last pass premises (withDrive w (wrote (w .drive) rest v) (w .flight))
+    header-writes v x =
+        live (header-written (goes .place))
+        (relive (wrote (w .drive) rest v) (w .flight) (l .k) (l .edge) (course (wrote (w .drive) rest v) (agreed (goes .written v x)))
+        (λ p u. header-content w (set .large) (l .content p u) (wrote (w .drive) rest v) v refl (goes .place) (λ el. header-not-element (w .session) st el) (as-header (as-new v x))))
+
+    header-fails : (v : Option (List ℕ)) → Left (w .drive .tape (w .drive .at)) f v → Inv last pass premises (withDrive w (failing (w .drive) v) (w .flight))
+    header-fails v x =
+        live (header-written (goes .place))
+        (relive (failing (w .drive) v) (w .flight) (l .k) (l .edge) (course (failing (w .drive) v) (agreed (goes .broken v)))
+        (λ p u. header-content w (set .large) (l .content p u) (failing (w .drive) v) v refl (goes .place) (λ el. header-not-element (w .session) st el) (as-header x)))
+
+  -- ---- among the elements
+
+  module _ (f : List ℕ) (rest : List (List ℕ)) (b : w .drive .buffer ≡ f ∷ rest) (free : w .drive .failed ≡ false) (st : ElementStage (w .session)) (agree : Writing last (w .session) (w .drive) (l .k) (l .edge) (w .flight))
+      (course : (e : Drive) (k edge : ℕ) → Writing last (w .session) e k edge (w .flight) → Course last (withDrive w e (w .flight)) k edge) where
+    on : Goes last (w .session .elements .first .0) (w .session .elements .pending) (w .drive) rest (l .k) (l .edge) (λ e k edge. Writing last (w .session) e k edge (w .flight))
+    on = writing-goes f rest (l .counted .held) b free agree
+
+    room : l .k + 1 ≤ totalOf (w .session .stage) (length (w .accepted))
+    room = omega (arith, on .room, l .counted .numbered)
+
+    writes : (v : Option (List ℕ)) → Written f v → Inv last pass premises (withDrive w (wrote (w .drive) rest v) (w .flight))
+    writes v x =
+        live (user-written (on .place))
+        (relive (wrote (w .drive) rest v) (w .flight) (l .k + 1) (w .drive .at + 1) (course (wrote (w .drive) rest v) (l .k + 1) (w .drive .at + 1) (on .written v))
+        (λ p u. element-writes w (set .large) (l .content p u) f rest b free st (on .place) (on .edge-here) room v x))
+
+    fails : (v : Option (List ℕ)) → Left (w .drive .tape (w .drive .at)) f v → Inv last pass premises (withDrive w (failing (w .drive) v) (w .flight))
+    fails v x =
+        live (user-written (on .place))
+        (relive (failing (w .drive) v) (w .flight) (l .k) (w .drive .at + 1) (course (failing (w .drive) v) (l .k) (w .drive .at + 1) (on .broken v))
+        (λ p u. element-fails w (set .large) (l .content p u) f rest b free st (on .place) (on .edge-here) room v x))
+
+  live-acts : Course last w (l .k) (l .edge) → (d : Drive) → Acts (w .drive) d → Inv last pass premises (withDrive w d (w .flight))
+  live-acts (inv.opening s t a) d (conduct.writes f rest v b free x) = header-writes f rest b free (inl s) a (λ _ y. inv.opening s t y) v x
+  live-acts (inv.opening s t a) d (conduct.fails f rest v b free x) = header-fails f rest b free (inl s) a (λ _ y. inv.opening s t y) v x
+  live-acts (inv.writing s a) d (conduct.writes f rest v b free x) = writes f rest b free (inl s) a (λ _ _ _ y. inv.writing s y) v x
+  live-acts (inv.writing s a) d (conduct.fails f rest v b free x) = fails f rest b free (inl s) a (λ _ _ _ y. inv.writing s y) v x
+  live-acts (inv.ending s c p a) d (conduct.writes f rest v b free x) = writes f rest b free (inr s) a (λ _ _ _ y. inv.ending s c p y) v x
+  live-acts (inv.ending s c p a) d (conduct.fails f rest v b free x) = fails f rest b free (inr s) a (λ _ _ _ y. inv.ending s c p y) v x
+  live-acts (inv.closing s c k e a) d (conduct.writes f rest v b free x) = header-writes f rest b free (inr s) a (λ _ y. inv.closing s c k e y) v x
+  live-acts (inv.closing s c k e a) d (conduct.fails f rest v b free x) = header-fails f rest b free (inr s) a (λ _ y. inv.closing s c k e y) v x
+  live-acts (inv.finished s c k e fl a g rests copy) d (conduct.writes f rest v b free x) = rests-still b free rests
+  live-acts (inv.finished s c k e fl a g rests copy) d (conduct.fails f rest v b free x) = rests-still b free rests
+
+  -- ---- it answers
+
+  -- an answer leaves the tape, and what is written
+  same-tape : {d e : Drive} {frame : List ℕ} {c : Command} {r : Reply} → Answers d frame c r e → (e .tape ≡ d .tape) × (e .written ≡ d .written)
+  same-tape (conduct.takes a r m) = (refl, refl)
+  same-tape (conduct.overflows a r off m) = (refl, refl)
+  same-tape (conduct.counts r m q) = (refl, refl)
+  same-tape (conduct.write-fails a r m x q) = (refl, refl)
+  same-tape (conduct.position-fails r m x q) = (refl, refl)
+  same-tape (conduct.locates a r m) = (refl, refl)
+  same-tape (conduct.reads a r m) = (refl, refl)
+  same-tape (conduct.waits c r m) = (refl, refl)
+  same-tape (conduct.waits-located a r m) = (refl, refl)
+  same-tape (conduct.rejects c r m) = (refl, refl)
+  same-tape (conduct.rejects-located a r m) = (refl, refl)
+
+  module _ (c : Command) (frame : List ℕ) (r : Reply) (d : Drive) (q : w .flight ≡ recordings.sent c frame) (an : Answers (w .drive) frame c r d) where
+    within : Within last (d .written)
+    within = subst (Within last) (sym (same-tape an .1)) written
+
+    lost : (w .session .stage ≡ S.Done → ⊥) → w .session .awaiting ≡ true → (Listed (w .session .command) (meaningOf (r .key) (r .asc) (r .ascq)) → ⊥) → OffHeaders (w .session) → Safe last d
+        → Inv last pass premises (withDrive w d (recordings.answered r))
+    lost n a h off safe = rejecting within (record { reply = r; going = l .going; awaits = a; replied = refl; unlisted = h; off-headers = off; safe = safe; unreported = unreported l n })
+
+    -- the tape stays
+    same-content : {k edge : ℕ} → Content last pass w k edge → (ElementStage (w .session) → d .failed ≡ false → Queue last pass (w .accepted) k (d .buffer)) → Content last pass (withDrive w d (recordings.answered r)) k edge
+    same-content {k} {edge} x queue =
+        let e = sym (same-tape an .0) in
+        record {
+          tape = subst (Cartridge last) e (x .tape);
+          seen = subst (λ t. Seen last pass (w .accepted) (totalOf (w .session .stage) (length (w .accepted))) k edge t) e (x .seen);
+          below = subst (Below last (w .session .copies .header)) e (x .below);
+          stored = x .stored;
+          queue = queue;
+          sent = λ _ _ _ z. answered-sent z;
+        }
+
+    module _ (st : HeaderStage (w .session)) (agree : CopiesAgree (w .session) (w .drive) (w .flight))
+        (course : (e : Drive) → CopiesAgree (w .session) e (recordings.answered r) → Course last (withDrive w e (recordings.answered r)) (l .k) (l .edge)) where
+      header-answers : Copying (w .session) (w .drive) (recordings.sent c frame) → Inv last pass premises (withDrive w d (recordings.answered r))
+      header-answers (copies.under-way _ _ a g e h x) = go (copies-answer (agree .counts) h x an)
+        where
+          go : CopyOutcome last (w .session .copies) d r c → Inv last pass premises (withDrive w d (recordings.answered r))
+          go (copying.goes-on y) =
+              live within
+              (relive d (recordings.answered r) (l .k) (l .edge)
+              (course d (record { counts = agree .counts; placed = agree .placed; copying = copies.replied r a g (subst (λ z. copies.CopyAnswered (w .session .copies) d r z) (sym e) y) }))
+              (λ p u. same-content (l .content p u) (λ el _. header-not-element (w .session) st el)))
+          go (copying.reject m safe) = lost (header-not-done (w .session) st) a (λ z. m (subst (λ k. Listed k (meaningOf (r .key) (r .asc) (r .ascq))) e z)) (λ el. header-not-element (w .session) st el) safe
+
+    module _ (st : ElementStage (w .session)) (agree : Writing last (w .session) (w .drive) (l .k) (l .edge) (w .flight))
+        (course : (e : Drive) → Writing last (w .session) e (l .k) (l .edge) (recordings.answered r) → Course last (withDrive w e (recordings.answered r)) (l .k) (l .edge)) where
+      queue-answers : {e : Drive} {k2 : Command} → w .flight ≡ recordings.sent k2 frame → Content last pass w (l .k) (l .edge) → Asks last (heldOf (w .session)) (w .session .elements .pending) (w .drive) (l .k) (l .edge) k2 → Answers (w .drive) frame k2 r e → e .failed ≡ false → Queue last pass (w .accepted) (l .k) (e .buffer)
+      unfolding Queue
+      queue-answers q2 x (elements.writes a p due off low li) (conduct.takes _ _ m) free =
+          let i = w .session .elements .first .0 + w .session .elements .outstanding in
+          let there : i ≡ l .k + length (w .drive .buffer) = let z = li .taken-is in omega arith in
+          queue-more last pass (w .accepted) (l .k) (w .drive .buffer) frame (x .queue st free) (subst (λ (j : ℕ). Stands last pass (itemAt (w .accepted) j) j frame) there (x .sent a frame st q2))
+      queue-answers q2 x (elements.writes a p due off low li) (conduct.overflows _ _ _ m) free = x .queue st free
+      queue-answers q2 x (elements.writes a p due off low li) (conduct.write-fails _ _ m y z) free = x .queue st free
+      queue-answers q2 x (elements.writes a p due off low li) (conduct.waits _ _ m) free = x .queue st free
+      queue-answers q2 x (elements.writes a p due off low li) (conduct.rejects _ _ m) free = x .queue st free
+      queue-answers q2 x (elements.asks li) (conduct.counts _ m z) free = x .queue st free
+      queue-answers q2 x (elements.asks li) (conduct.position-fails _ m y z) free = x .queue st free
+      queue-answers q2 x (elements.asks li) (conduct.waits _ _ m) free = x .queue st free
+      queue-answers q2 x (elements.asks li) (conduct.rejects _ _ m) free = x .queue st free
+      queue-answers q2 x (elements.moves a mo) (conduct.locates _ _ m) free = tt
+      queue-answers q2 x (elements.moves a mo) (conduct.waits _ _ m) free = x .queue st free
+      queue-answers q2 x (elements.moves a mo) (conduct.waits-located _ _ m) free = tt
+      queue-answers q2 x (elements.moves a mo) (conduct.rejects _ _ m) free = x .queue st free
+      queue-answers q2 x (elements.moves a mo) (conduct.rejects-located _ _ m) free = tt
+
+      element-answers : Writing last (w .session) (w .drive) (l .k) (l .edge) (recordings.sent c frame) → Inv last pass premises (withDrive w d (recordings.answered r))
+      element-answers (elements.under-way _ _ a g e x) = go (elements-answer x an)
+        where
+          go : Outcome last (heldOf (w .session)) (w .session .elements .pending) d (l .k) (l .edge) r c → Inv last pass premises (withDrive w d (recordings.answered r))
+          go (writing.goes-on y) =
+              live within
+              (relive d (recordings.answered r) (l .k) (l .edge)
+              (course d (elements.replied r a g (subst (λ z. Answered last (heldOf (w .session)) (w .session .elements .pending) d (l .k) (l .edge) r z) (sym e) y)))
+              (λ p u. same-content (l .content p u) (λ el free. queue-answers q (l .content p u) x an free)))
+          go (writing.reject m safe) = lost (element-not-done (w .session) st) a (λ z. m (subst (λ k. Listed k (meaningOf (r .key) (r .asc) (r .ascq))) e z)) (λ _ b f. asks-off-header (subst (λ k. Asks last (heldOf (w .session)) (w .session .elements .pending) (w .drive) (l .k) (l .edge) k) (sym e ∙ f) x)) safe
+
+    live-answers : Course last w (l .k) (l .edge) → Inv last pass premises (withDrive w d (recordings.answered r))
+    live-answers (inv.opening s t a) = header-answers (inl s) a (λ _ y. inv.opening s t y) (subst (Copying (w .session) (w .drive)) q (a .copying))
+    live-answers (inv.writing s a) = element-answers (inl s) a (λ _ y. inv.writing s y) (subst (Writing last (w .session) (w .drive) (l .k) (l .edge)) q a)
+    live-answers (inv.ending s cl p a) = element-answers (inr s) a (λ _ y. inv.ending s cl p y) (subst (Writing last (w .session) (w .drive) (l .k) (l .edge)) q a)
+    live-answers (inv.closing s cl k e a) = header-answers (inr s) a (λ _ y. inv.closing s cl k e y) (subst (Copying (w .session) (w .drive)) q (a .copying))
+    live-answers (inv.finished s cl k e fl a g rests copy) = none-sent (sym fl ∙ q)
+
+-- ---- the whole
+
+pub keeps-move : {last pass : ℕ} {premises : Type 0} (w v : World) → Setting last pass → Inv last pass premises w → Moves w v → Inv last pass premises v
+keeps-move w v set (live wr l) (recordings.acts d a) = live-acts set wr l (l .course) d a
+keeps-move w v set (live wr l) (recordings.answers c frame r d q a) = live-answers set wr l c frame r d q a (l .course)
+keeps-move w v set (rejecting wr x) (recordings.acts d a) =
+    let s = safe-acts (x .safe) a in
+    rejecting (s .1 wr) (record { reply = x .reply; going = x .going; awaits = x .awaits; replied = x .replied; unlisted = x .unlisted; off-headers = x .off-headers; safe = s .0; unreported = x .unreported })
+keeps-move w v set (rejecting wr x) (recordings.answers c frame r d q a) = answered-sent (sym (x .replied) ∙ q)
+keeps-move w v set (over wr x) (recordings.acts d a) =
+    let s = safe-acts (x .safe) a in
+    over (s .1 wr) (record { ended = x .ended; none = x .none; safe = s .0; unreported = x .unreported })
+keeps-move w v set (over wr x) (recordings.answers c frame r d q a) = none-sent (sym (x .none) ∙ q)

@@ -1,0 +1,283 @@
+-- A reply among the elements keeps the invariant. Assumes nothing.
+use Prim.Native.Nat.{ℕ, _+_, _-_, _%_, _^_, _≤_, _<_}
+use mathlib.Core.Path.{_≡_, refl, sym, ap, subst, _∙_}
+use mathlib.Core.Bool.{Bool, true, false}
+use mathlib.Core.List.{List}
+use mathlib.Core.Logic.{_⊎_, inl, inr, ⊎-elim}
+use native.Mathlib.Decide.{decLe}
+use native.Mathlib.Nat.{mod-eq-of-lt}
+use native.Mathlib.Omega.{arith}
+use lib.Dec.{eqb}
+use lib.ListN.{length}
+use Rattle.geometry.specs.Cartridge.{isUser}
+use Rattle.geometry.proofs.TestLaws.{either-right}
+use Rattle.geometry.proofs.Impossible.{never}
+use Rattle.drive.specs.Command.{commandAddress}
+use Rattle.drive.specs.Listed.{Means}
+use Rattle.archive.specs.Conduct.{AtRest}
+use Rattle.drive.specs.Senses.{busy}
+use Rattle.archive.specs.Tape.{Tape, Cartridge}
+use Rattle.drive.specs.declared.command.Command.{Command}
+use Rattle.drive.specs.declared.reply.Reply.{Reply}
+use Rattle.copies.proofs.Counts.{start-counts}
+use Rattle.copies.proofs.DueAddress.{start-placed}
+use Rattle.elements.specs.Elements as counting
+use Rattle.elements.specs.Answer as answer
+use Rattle.elements.specs.declared.state.Elements.{Elements}
+use Rattle.recording.specs.Session.{Result, windowOf, ending, withElements, closingHeader, closingStarted, settledOf}
+use Rattle.recording.specs.Reply.{caseOf, answeredOf, repeatedOf, elementReplyBy, elementStep, elementReply, stageReplyBy, stageReply, replyOf}
+use Rattle.recording.specs.declared.session.Recording.{Recording}
+use Rattle.recording.specs.declared.session.Stage.{Stage}
+use Rattle.recording.specs.declared.session.Stage.the-variants as S
+use Rattle.recording.proofs.Stages.{HeaderStage, ElementStage, element-not-done}
+use Rattle.recording.proofs.Kept.{heldOf}
+use Rattle.recording.proofs.ReplyView.{isBusy}
+use Rattle.archive.specs.Recordings as recordings
+use Rattle.archive.specs.Recordings.{World, Element}
+use Rattle.archive.specs.Demand.{Within}
+use Rattle.archive.proofs.tape.Basics.{none-sent}
+use Rattle.archive.proofs.tape.Scan.{Seen}
+use Rattle.archive.proofs.tape.ScanLaws.{scan-over}
+use Rattle.archive.proofs.tape.SeenLaws.{seen-moves}
+use Rattle.archive.proofs.tape.Stands.{itemAt, StoredAs}
+use Rattle.archive.proofs.tape.UserPlaces.{User, user-ranges}
+use Rattle.archive.proofs.recording.HeaderCopies.{Below}
+use Rattle.archive.proofs.recording.Completion.{copy-update}
+use Rattle.archive.proofs.recording.CopiesLink as copies
+use Rattle.archive.proofs.recording.CopiesMoves.{rests-safe}
+use Rattle.archive.proofs.recording.ElementsLink as elements
+use Rattle.archive.proofs.recording.ElementsLink.{Asks, Answered, Writing}
+use Rattle.archive.proofs.recording.ElementsMoves.{link-safe}
+use Rattle.archive.proofs.recording.ElementSteps as steps
+use Rattle.archive.proofs.recording.ElementSteps.{Step, Reached, taken-step, filled-step, moved-step, counted-step, failed-step}
+use Rattle.archive.proofs.recording.Fetches.{reask}
+use Rattle.archive.proofs.recording.Accepts.{settled-cases}
+use Rattle.archive.proofs.recording.Closes.{eod-live}
+use Rattle.archive.proofs.recording.HeaderReplies.{case-is, reply-so, reply-busy, repliedWorld, ends-so}
+use Rattle.archive.proofs.recording.Invariant as inv
+use Rattle.archive.proofs.recording.Invariant.{totalOf, spareOf, Counted, Course, Content, Live, Safe, Inv, live}
+use Rattle.archive.proofs.recording.Setting.{Setting}
+
+-- nothing of the user's is above LAST
+seen-top : {last pass total k edge : ℕ} {xs : List Element} {t : Tape} → 3000 ≤ last → Cartridge last t → last + 1 ≤ edge → Seen last pass xs total k edge t → Seen last pass xs total k (last + 1) t
+seen-top {last} {pass} {edge = edge} {t = t} large cart l h = record {
+  m = h .m;
+  low = h .low;
+  high = h .high;
+  top = h .top;
+  seen = sym (scan-over last pass t (cart .long) (last + 1) edge l (λ c f b _ u _ _. above c b (user-ranges last c u))) ∙ h .seen;
+  clean = λ a f b u _ _. above a b (user-ranges last a u);
+}
+  where
+    above : (c : ℕ) → last + 1 ≤ c → User last c → ⊥
+    above c b (inl x) = let y = x .1 in omega arith
+    above c b (inr x) = let y = x .1 in omega arith
+
+module _ {last pass : ℕ} {premises : Type 0} (w : World) (r : Reply) (set : Setting last pass) (wr : Within last (w .drive .written)) (l : Live last pass premises w) (st : ElementStage (w .session)) where
+  abbrev After : Result → Type 0
+  After x = Inv last pass premises (repliedWorld w (x .session))
+
+  -- ---- before the stage is looked at
+
+  module _ (e : Elements) (s : Step last (w .session) (w .drive) (l .k) (l .edge) e) where
+    abbrev stepped : Recording
+    stepped = withElements (answeredOf (w .session)) e
+
+    counted-so : Counted last (length (w .accepted)) stepped
+    counted-so =
+        let c = l .counted in
+        let held = c .held in
+        let windowed = c .windowed in
+        let numbered = c .numbered in
+        let n-low = s .confirmed in
+        let pending-is = s .pending-is in
+        let first-is = s .first-is in
+        record { wide = c .wide; held = s .held; windowed = omega arith; numbered = omega arith; marks = ap (λ (x : List Bool). length x) (s .marks-is) ∙ c .marks; room = s .room }
+
+    stored-so : Content last pass w (l .k) (l .edge) → (i : ℕ) → i < e .pending → StoredAs (itemAt (w .accepted) (e .first .0 + i)) (w .window) (e .marks) (windowOf (w .session)) (e .first .0 + i)
+    stored-so c i h =
+        let pending-is = s .pending-is in
+        let first-is = s .first-is in
+        let at : w .session .elements .first .0 + (s .n + i) ≡ e .first .0 + i = omega arith in
+        subst (λ (m : List Bool). StoredAs (itemAt (w .accepted) (e .first .0 + i)) (w .window) m (windowOf (w .session)) (e .first .0 + i)) (sym (s .marks-is))
+        (subst (λ (j : ℕ). StoredAs (itemAt (w .accepted) j) (w .window) (w .session .elements .marks) (windowOf (w .session)) j) at (c .stored (s .n + i) (omega arith)))
+
+    content-so : premises → w .unaltered ≡ true → Content last pass (repliedWorld w stepped) (l .k) (s .tried)
+    content-so p u =
+        let c = l .content p u in
+        record {
+          tape = c .tape;
+          seen = seen-moves (c .tape) (s .tried) (s .further) (c .seen);
+          below = c .below;
+          stored = stored-so c;
+          queue = c .queue;
+          sent = λ _ _ _ z. none-sent z;
+        }
+
+    stepped-live : Course last (repliedWorld w stepped) (l .k) (s .tried) → Live last pass premises (repliedWorld w stepped)
+    stepped-live course = record {
+      k = l .k;
+      edge = s .tried;
+      going = l .going;
+      counted = counted-so;
+      carried = l .carried;
+      course = course;
+      reported = l .reported;
+      content = content-so;
+    }
+
+    -- ---- EOD is on tape
+
+    module _ (q : w .session .stage ≡ S.Eod) (closed : w .session .closed ≡ true) (some : 0 < w .session .elements .pending) (none : e .pending ≡ 0) where
+      on-tape : (l .k ≡ e .first .0) × AtRest (w .drive) × (isUser last (e .next .0 - 1) ≡ true)
+      on-tape = s .all some none
+
+      total : totalOf (w .session .stage) (length (w .accepted)) ≡ length (w .accepted) + 1
+      total = ap (λ (x : Stage). totalOf x (length (w .accepted))) q
+
+      all-on : l .k ≡ length (w .accepted) + 1
+      all-on = let n = counted-so .numbered in let k = on-tape .0 in omega (arith, total)
+
+      count-up : (w .session .copies .header .update + 1) % 2 ^ 32 ≡ w .session .copies .header .update + 1
+      count-up = mod-eq-of-lt (let c = l .carried .count-fits in omega (arith, ap spareOf q))
+
+      below-so : Below last (w .session .copies .header) (w .drive .tape) → Below last (closingHeader stepped) (w .drive .tape)
+      below-so b a f at =
+          ⊎-elim (λ x. inl (omega (arith, count-up))) (λ x. inl (omega (arith, count-up, copy-update set (w .session .copies .header) (l .carried) x))) (b a f at)
+
+      seen-all : Content last pass w (l .k) (l .edge) → Seen last pass (w .accepted) (length (w .accepted) + 1) (l .k) (last + 1) (w .drive .tape)
+      seen-all c = go (decLe (s .tried) (last + 1))
+        where
+          here : Seen last pass (w .accepted) (length (w .accepted) + 1) (l .k) (s .tried) (w .drive .tape)
+          here = subst (λ (n : ℕ). Seen last pass (w .accepted) n (l .k) (s .tried) (w .drive .tape)) total (seen-moves (c .tape) (s .tried) (s .further) (c .seen))
+
+          go : Dec (s .tried ≤ last + 1) → Seen last pass (w .accepted) (length (w .accepted) + 1) (l .k) (last + 1) (w .drive .tape)
+          go (yes h) = seen-moves (c .tape) (last + 1) h here
+          go (no h) = seen-top (set .large) (c .tape) (omega arith) here
+
+      closing-live : w .session .again ≡ false → Live last pass premises (repliedWorld w (closingStarted stepped))
+      closing-live again =
+          let c = counted-so in
+          record {
+            k = l .k;
+            edge = last + 1;
+            going = l .going;
+            counted = record { wide = c .wide; held = c .held; windowed = c .windowed; numbered = c .numbered ∙ total; marks = c .marks; room = c .room };
+            carried = record {
+              last-is = l .carried .last-is;
+              pass-is = l .carried .pass-is;
+              eod-fits = either-right (eqb (e .next .0 - 1) 0) (isUser last (e .next .0 - 1)) (on-tape .2);
+              count-fits = let h = l .carried .count-fits in omega (arith, count-up, ap spareOf q);
+            };
+            course = inv.closing refl closed all-on refl (record {
+              counts = start-counts (closingHeader stepped);
+              placed = start-placed (closingHeader stepped);
+              copying = copies.to-seek refl again (record { due = refl; rests = on-tape .1; kept = inl refl });
+            });
+            reported = λ x. never (let z = l .reported x in cc);
+            content = λ p u.
+                let x = l .content p u in
+                record {
+                  tape = x .tape;
+                  seen = seen-all x;
+                  below = below-so (x .below);
+                  stored = λ i h. absurd (omega arith);
+                  queue = λ el _. ⊎-elim (λ z. never (cc)) (λ z. never (cc)) el;
+                  sent = λ _ _ _ z. none-sent z;
+                };
+          }
+
+  -- ---- by stage
+
+  pub data Ends : Type 0 where
+    writing : w .session .stage ≡ S.Elements → Ends
+    ending-one : w .session .stage ≡ S.Eod → w .session .closed ≡ true → w .session .elements .pending ≡ 1 → Ends
+
+  settles : w .session .again ≡ false → Ends → (e : Elements) → Step last (w .session) (w .drive) (l .k) (l .edge) e → Inv last pass premises (repliedWorld w (settledOf (withElements (answeredOf (w .session)) e)))
+  settles again (writing q) e s =
+      let x = stepped-live e s (inv.writing q (s .writing)) in
+      settled-cases (withElements (answeredOf (w .session)) e) (λ (v : Recording). Inv last pass premises (repliedWorld w v)) (λ _. live wr x)
+      (λ a b c. live wr (eod-live (repliedWorld w (withElements (answeredOf (w .session)) e)) x a b c)) (λ a _. never (cc))
+  settles again (ending-one q c one) e s =
+      settled-cases (withElements (answeredOf (w .session)) e) (λ (v : Recording). Inv last pass premises (repliedWorld w v)) (λ why. live wr (stepped-live e s (inv.ending q c (still why) (s .writing))))
+      (λ a _ _. never (cc)) (λ a none. live wr (closing-live e s q c (omega arith) none again))
+    where
+      still : (0 < e .pending) ⊎ (HeaderStage (withElements (answeredOf (w .session)) e) ⊎ (w .session .stage ≡ S.Done)) ⊎ ((w .session .stage ≡ S.Elements) × (w .session .closed ≡ false)) → e .pending ≡ 1
+      still (inl h) = let p = s .pending-is in omega arith
+      still (inr (inl (inl (inl h)))) = never (cc)
+      still (inr (inl (inl (inr h)))) = never (cc)
+      still (inr (inl (inr h))) = never (cc)
+      still (inr (inr h)) = let z = h .0 in never (cc)
+
+  -- ---- by what the drive gave
+
+  module _ (again : w .session .again ≡ false) (asked : w .session .awaiting ≡ true) (which : Ends) where
+    in-stage : (n : ℕ) → stageReply (w .session) n r ≡ elementReply (w .session) n r
+    in-stage n = ⊎-elim (λ q. ap (λ (x : Stage). stageReplyBy x (w .session) n r) q) (λ q. ap (λ (x : Stage). stageReplyBy x (w .session) n r) q) st
+
+    reached-so : {x : answer.Step} → Reached last (w .session) (w .drive) (l .k) (l .edge) x → Safe last (w .drive) → After (elementReplyBy (x .number) (x .elements) (w .session))
+    reached-so (steps.goes e s) safe = settles again which e s
+    reached-so (steps.unlawful e) safe = ends-so w r set wr l 8 (element-not-done (w .session) st) safe
+    reached-so (steps.full e) safe = ends-so w r set wr l 9 (element-not-done (w .session) st) safe
+
+    by : {x : answer.Step} (n : ℕ) → caseOf (w .session) r ≡ n → isBusy n ≡ false → elementStep (w .session) n r ≡ x → Reached last (w .session) (w .drive) (l .k) (l .edge) x → Safe last (w .drive) → After (replyOf (w .session) r)
+    unfolding elementReply
+    by n c b a x safe =
+        subst After (sym (reply-so (w .session) r (l .going) asked n c b ∙ in-stage n ∙ ap (λ (y : answer.Step). elementReplyBy (y .number) (y .elements) (w .session)) a)) (reached-so x safe)
+
+    low : w .session .elements .pending ≤ 64
+    low = let a = l .counted .windowed in let b = l .counted .wide in omega arith
+
+    repeated : {c : Command} (n : ℕ) → w .session .command ≡ c → caseOf (w .session) r ≡ n → isBusy n ≡ true → Asks last (heldOf (w .session)) (w .session .elements .pending) (w .drive) (l .k) (l .edge) c → After (replyOf (w .session) r)
+    repeated n e z b y =
+        subst After (sym (reply-busy (w .session) r (l .going) asked n z b))
+        (live wr (record {
+          k = l .k;
+          edge = l .edge;
+          going = l .going;
+          counted = let c = l .counted in record { wide = c .wide; held = c .held; windowed = c .windowed; numbered = c .numbered; marks = c .marks; room = c .room };
+          carried = l .carried;
+          course = course which;
+          reported = l .reported;
+          content = λ p u. let c = l .content p u in record { tape = c .tape; seen = c .seen; below = c .below; stored = c .stored; queue = c .queue; sent = λ _ _ _ z. none-sent z };
+        }))
+      where
+        asks : Asks last (heldOf (repeatedOf (w .session))) (w .session .elements .pending) (w .drive) (l .k) (l .edge) (w .session .command)
+        asks = reask (heldOf (w .session)) (heldOf (repeatedOf (w .session))) refl refl refl refl (subst (λ (i : Command). Asks last (heldOf (w .session)) (w .session .elements .pending) (w .drive) (l .k) (l .edge) i) (sym e) y)
+
+        course : Ends → Course last (repliedWorld w (repeatedOf (w .session))) (l .k) (l .edge)
+        course (writing q) = inv.writing q (elements.again refl refl asks)
+        course (ending-one q c one) = inv.ending q c one (elements.again refl refl asks)
+
+    busy-by : {c : Command} → Means r busy → w .session .command ≡ c → Asks last (heldOf (w .session)) (w .session .elements .pending) (w .drive) (l .k) (l .edge) c → After (replyOf (w .session) r)
+    busy-by m e (elements.writes a p d o lo y) = repeated 0x0A02 e (case-is (w .session) r (l .going) asked e m) refl (elements.writes a p d o lo y)
+    busy-by m e (elements.asks y) = repeated 0x3402 e (case-is (w .session) r (l .going) asked e m) refl (elements.asks y)
+    busy-by m e (elements.moves a y) = repeated 0x2B02 e (case-is (w .session) r (l .going) asked e m) refl (elements.moves a y)
+
+    small : last + 65 < 2 ^ 32
+    small = set .small
+
+    element-replies : (c : Command) → w .session .command ≡ c → Answered last (heldOf (w .session)) (w .session .elements .pending) (w .drive) (l .k) (l .edge) r c → After (replyOf (w .session) r)
+    unfolding answer.answerOf
+    element-replies c e (elements.taken a m due x) =
+        by 0x0A01 (case-is (w .session) r (l .going) asked e m) refl refl (steps.goes _ (taken-step last (w .session) (w .drive) (l .k) (l .edge) small again (l .counted .held) low (l .counted .room) due x)) (link-safe x)
+    element-replies c e (elements.counted m b x) =
+        by 0x3401 (case-is (w .session) r (l .going) asked e m) refl refl (counted-step last (w .session) (w .drive) (l .k) (l .edge) small again (l .counted .held) low (l .counted .room) x (r .buffered) b) (link-safe x)
+    element-replies c e (elements.failed-write a m f p x) =
+        by 0x0A03 (case-is (w .session) r (l .going) asked e m) refl refl (failed-step last (w .session) (w .drive) (l .k) (l .edge) small again (l .counted .held) low (l .counted .room) x (r .position .0) (r .skip) p f) (link-safe x)
+    element-replies c e (elements.failed-position m f p x) =
+        by 0x3403 (case-is (w .session) r (l .going) asked e m) refl refl (failed-step last (w .session) (w .drive) (l .k) (l .edge) small again (l .counted .held) low (l .counted .room) x (r .position .0) (r .skip) p f) (link-safe x)
+    element-replies c e (elements.filled a m lo x) =
+        by 0x0A04 (case-is (w .session) r (l .going) asked e m) refl (ap (λ (y : Command). kept-short y) e) (steps.goes _ (filled-step last (w .session) (w .drive) (l .k) (l .edge) small again (l .counted .held) low (l .counted .room) a lo x)) (link-safe x)
+      where
+        kept-short : Command → answer.Step
+        kept-short y = answer.kept (answer.shortenedOf (w .session .elements) (counting.at (commandAddress y)))
+    element-replies c e (elements.moved a m none-left f p x) =
+        by 0x2B01 (case-is (w .session) r (l .going) asked e m) refl (ap (λ (y : Command). kept-located y) e) (steps.goes _ (moved-step last (w .session) (w .drive) (l .k) (l .edge) small again (l .counted .held) low (l .counted .room) a none-left f p x)) (rests-safe (x .rests))
+      where
+        kept-located : Command → answer.Step
+        kept-located y = answer.kept (answer.locatedOf (w .session .elements) (counting.at (commandAddress y)))
+    element-replies c e (elements.waits k m x) = busy-by m e x
+
+  pub elements-reply : Ends → Writing last (w .session) (w .drive) (l .k) (l .edge) (recordings.answered r) → After (replyOf (w .session) r)
+  elements-reply which (elements.replied _ a g x) = element-replies g a which (w .session .command) refl x

@@ -1,0 +1,229 @@
+-- What a reply leaves of the elements and the drive. Assumes nothing.
+use Prim.Native.Nat.{ℕ, _+_, _-_, _%_, _^_, _≤_, _<_}
+use mathlib.Core.Path.{_≡_, refl, sym, ap, _∙_}
+use mathlib.Core.Bool.{Bool, true, false}
+use mathlib.Core.List.{[]}
+use mathlib.Core.Logic.{_⊎_, inl, inr, ⊎-elim}
+use native.Mathlib.Nat.{le-refl, mod-eq-of-lt}
+use native.Mathlib.Omega.{arith}
+use borrow.Author.Tests.{ltb-true, ltb-false, leb-false, eqb-false}
+use lib.Dec.{eqb, ltb, leb}
+use lib.ListN.{length}
+use Rattle.geometry.specs.Cartridge.{isUser, pastReserved}
+use Rattle.geometry.specs.Said as said
+use Rattle.geometry.specs.Target.{stepOf}
+use Rattle.geometry.specs.declared.address.Address.{Address}
+use Rattle.geometry.proofs.PickLaws.{pick-by}
+use Rattle.archive.specs.Conduct.{Drive, AtRest, empty, stopped}
+use Rattle.elements.specs.Elements as counting
+use Rattle.elements.specs.Elements.{at, baseOf, numberOf}
+use Rattle.elements.specs.Answer as answer
+use Rattle.elements.specs.Answer.{kept, refusing, locatedOf, takenOf, confirmedOf, relocatedOf, shortenedOf, failedTo, positionedOf, failedOf}
+use Rattle.elements.specs.declared.state.Elements.{Elements}
+use Rattle.recording.specs.Session.{withElements}
+use Rattle.recording.specs.Reply.{answeredOf}
+use Rattle.recording.specs.declared.session.Recording.{Recording}
+use Rattle.recording.proofs.Kept.{heldOf}
+use Rattle.reading.proofs.Jump.{past-reserved-least}
+use Rattle.archive.specs.Recordings as recordings
+use Rattle.archive.proofs.tape.Basics.{no-frames}
+use Rattle.archive.proofs.tape.UserPlaces.{ranges-user, Landing, before, across, behind, landing}
+use Rattle.archive.proofs.recording.ElementsLink as elements
+use Rattle.archive.proofs.recording.ElementsLink.{edgeOf, Linked, Moving, Writing}
+
+-- the elements after a reply: some more are confirmed, and the tape was tried as far or further
+pub record Step (last : ℕ) (s : Recording) (d : Drive) (k edge : ℕ) (e : Elements) : Type 0 where
+  pub n : ℕ
+  pub tried : ℕ
+  pub further : edge ≤ tried
+  pub confirmed : n ≤ s .elements .outstanding
+  pub first-is : e .first .0 ≡ s .elements .first .0 + n
+  pub pending-is : e .pending ≡ s .elements .pending - n
+  pub held : e .outstanding ≤ e .pending
+  pub room : e .limit .0 ≤ last + 1
+  pub marks-is : e .marks ≡ s .elements .marks
+  pub writing : Writing last (withElements (answeredOf s) e) d k tried recordings.none
+  -- where the last was confirmed, all are on tape, and it lies before the next address
+  pub all : 0 < s .elements .pending → e .pending ≡ 0 → (k ≡ e .first .0) × AtRest d × (isUser last (e .next .0 - 1) ≡ true)
+
+pub data Reached (last : ℕ) (s : Recording) (d : Drive) (k edge : ℕ) : answer.Step → Type 0 where
+  goes : (e : Elements) → Step last s d k edge e → Reached last s d k edge (kept e)
+  unlawful : (e : Elements) → Reached last s d k edge (refusing e 8)
+  full : (e : Elements) → Reached last s d k edge (refusing e 9)
+
+module _ (last : ℕ) (s : Recording) (d : Drive) (k edge : ℕ) (small : last + 65 < 2 ^ 32) (again : s .again ≡ false) (held : s .elements .outstanding ≤ s .elements .pending) (low : s .elements .pending ≤ 64) (room : s .elements .limit .0 ≤ last + 1) where
+  pub taken-step : s .elements .outstanding < s .elements .pending → Linked last (heldOf s) d k edge 1 → Step last s d k edge (takenOf (s .elements))
+  taken-step due l =
+      let roof = l .roof in
+      let taken-is = l .taken-is in
+      let next-is = l .next-is in
+      let known = l .known in
+      let out : (s .elements .outstanding + 1) % 2 ^ 16 ≡ s .elements .outstanding + 1 = mod-eq-of-lt (omega arith) in
+      let next : (s .elements .next .0 + 1) % 2 ^ 32 ≡ s .elements .next .0 + 1 = mod-eq-of-lt (omega arith) in
+      record {
+        n = 0;
+        tried = edge;
+        further = le-refl edge;
+        confirmed = omega arith;
+        first-is = omega arith;
+        pending-is = omega arith;
+        held = omega (arith, out);
+        room = room;
+        marks-is = refl;
+        writing = elements.at-place refl again (record {
+          placed = l .placed;
+          taken-is = omega (arith, out);
+          next-is = omega (arith, next);
+          known = omega (arith, out);
+          roof = omega (arith, next);
+          zone = ⊎-elim (λ z. inl (omega (arith, next))) (λ z. inr (omega (arith, out, next))) (l .zone);
+          spread = l .spread;
+          edge-is = l .edge-is;
+        });
+        all = λ p z. absurd (omega arith);
+      }
+
+  pub filled-step : (a : Address) → a .0 ≤ last → Linked last (heldOf s) d k edge 0 → Step last s d k edge (shortenedOf (s .elements) a)
+  filled-step a below l = record {
+    n = 0;
+    tried = edge;
+    further = le-refl edge;
+    confirmed = omega arith;
+    first-is = omega arith;
+    pending-is = omega arith;
+    held = held;
+    room = omega arith;
+    marks-is = refl;
+    writing = elements.at-place refl again (record { placed = l .placed; taken-is = l .taken-is; next-is = l .next-is; known = l .known; roof = l .roof; zone = l .zone; spread = l .spread; edge-is = l .edge-is });
+    all = λ p z. absurd (omega arith);
+  }
+
+  pub moved-step : (a : Address) → d .buffer ≡ [] → d .failed ≡ false → d .at ≡ a .0 → Moving last (heldOf s) d k edge (a .0) → Step last s d k edge (locatedOf (s .elements) a)
+  moved-step a e f p m =
+      let size : length (d .buffer) ≡ 0 = ap length e in
+      let none-out = m .none-out in
+      let first-is = m .first-is in
+      let roof = m .roof in
+      let spread = m .spread in
+      record {
+        n = 0;
+        tried = edge;
+        further = le-refl edge;
+        confirmed = omega arith;
+        first-is = omega arith;
+        pending-is = omega arith;
+        held = held;
+        room = room;
+        marks-is = refl;
+        writing = elements.at-place refl again (record {
+          placed = refl;
+          taken-is = omega arith;
+          next-is = omega arith;
+          known = omega arith;
+          roof = omega arith;
+          zone = ⊎-elim (λ z. inl (omega arith)) (λ z. inr (omega arith)) (m .zone);
+          spread = omega arith;
+          edge-is = m .edge-is ∙ sym p ∙ ap (λ (b : Bool). edgeOf b (d .at)) (sym f);
+        });
+        all = λ x z. absurd (omega arith);
+      }
+
+  module _ (l : Linked last (heldOf s) d k edge 0) where
+    exact : (n : ℕ) → n ≤ s .elements .outstanding → numberOf (s .elements) n ≡ s .elements .first .0 + n
+    exact n h =
+        let roof = l .roof in
+        let taken-is = l .taken-is in
+        let next-is = l .next-is in
+        let known = l .known in
+        let spread = l .spread in
+        mod-eq-of-lt (omega arith)
+
+    pub counted-step : (f : ℕ) → length (d .buffer) ≤ f → Reached last s d k edge (positionedOf (s .elements) f)
+    unfolding positionedOf confirmedOf
+    counted-step f bound =
+        pick-by (Reached last s d k edge) (ltb (s .elements .outstanding) f) (λ _. unlawful (s .elements))
+        (λ x.
+        let few = ltb-false (s .elements .outstanding) f x in
+        let n = s .elements .outstanding - f in
+        let number = exact n (omega arith) in
+        let roof = l .roof in
+        let taken-is = l .taken-is in
+        let next-is = l .next-is in
+        let known = l .known in
+        let spread = l .spread in
+        goes (confirmedOf (s .elements) n) (record {
+          n = n;
+          tried = edge;
+          further = le-refl edge;
+          confirmed = omega arith;
+          first-is = number;
+          pending-is = refl;
+          held = omega arith;
+          room = room;
+          marks-is = refl;
+          writing = elements.at-place refl again (record {
+            placed = l .placed;
+            taken-is = omega arith;
+            next-is = l .next-is;
+            known = omega arith;
+            roof = l .roof;
+            zone = ⊎-elim inl (λ z. inr (omega arith)) (l .zone);
+            spread = l .spread;
+            edge-is = l .edge-is;
+          });
+          all = λ p z.
+              (omega arith, empty (no-frames (d .buffer) (omega arith)), ranges-user last (s .elements .next .0 - 1) (⊎-elim (λ y. inl (omega arith, omega arith)) (λ y. inr (omega arith, omega arith)) (l .zone)));
+        }))
+
+    step-least : (skip : ℕ) → 1 ≤ stepOf skip
+    step-least skip = pick-by (λ (n : ℕ). 1 ≤ n) (eqb skip 0) (λ _. omega arith) (λ e. let x = eqb-false skip 0 e in omega (arith, x))
+
+    pub failed-step : (p skip : ℕ) → p ≡ d .at → d .failed ≡ true → Reached last s d k edge (failedOf (s .elements) p skip)
+    unfolding failedOf confirmedOf
+    failed-step p skip at f =
+        pick-by (Reached last s d k edge) (ltb p (baseOf (s .elements))) (λ _. unlawful (s .elements))
+        (λ x. pick-by (Reached last s d k edge) (leb (s .elements .next .0) p) (λ _. unlawful (s .elements))
+        (λ y.
+        let above = ltb-false p (baseOf (s .elements)) x in
+        let below = leb-false (s .elements .next .0) p y in
+        pick-by (λ (z : said.Said). Reached last s d k edge (failedTo (s .elements) p z)) (ltb (pastReserved (p + stepOf skip)) (s .elements .limit .0)) (λ fits. relocated above below (ltb-true _ _ fits)) (λ _. full (s .elements))))
+      where
+        relocated : baseOf (s .elements) ≤ p → p < s .elements .next .0 → pastReserved (p + stepOf skip) < s .elements .limit .0
+            → Reached last s d k edge (kept (relocatedOf (confirmedOf (s .elements) (p - baseOf (s .elements))) (counting.at (pastReserved (p + stepOf skip)))))
+        relocated above below fits =
+            let target = pastReserved (p + stepOf skip) in
+            let n = p - baseOf (s .elements) in
+            let taken-is = l .taken-is in
+            let next-is = l .next-is in
+            let known = l .known in
+            let spread = l .spread in
+            let number = exact n (omega arith) in
+            let least = past-reserved-least (p + stepOf skip) in
+            let one = step-least skip in
+            let edge-is : edge ≡ d .at + 1 = l .edge-is ∙ ap (λ (b : Bool). edgeOf b (d .at)) f in
+            goes (relocatedOf (confirmedOf (s .elements) n) (counting.at target)) (record {
+              n = n;
+              tried = target;
+              further = omega arith;
+              confirmed = omega arith;
+              first-is = number;
+              pending-is = refl;
+              held = omega arith;
+              room = room;
+              marks-is = refl;
+              writing = elements.to-locate refl again refl (record {
+                none-out = refl;
+                first-is = omega arith;
+                rests = stopped f;
+                roof = omega arith;
+                zone = clear (landing (p + stepOf skip));
+                spread = omega arith;
+                edge-is = refl;
+              });
+              all = λ q z. absurd (omega arith);
+            })
+          where
+            clear : Landing (p + stepOf skip) (pastReserved (p + stepOf skip)) → (pastReserved (p + stepOf skip) ≤ 2990) ⊎ (3000 ≤ pastReserved (p + stepOf skip))
+            clear (before h e) = inl (omega arith)
+            clear (across h g e) = inr (omega arith)
+            clear (behind h e) = inr (omega arith)

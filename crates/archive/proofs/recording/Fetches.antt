@@ -1,0 +1,397 @@
+-- A fetch keeps the invariant. Assumes nothing.
+use Prim.Native.Nat.{ℕ, _+_, _≤_, _<_}
+use mathlib.Core.Path.{_≡_, refl, sym, ap, subst, _∙_}
+use mathlib.Core.Bool.{Bool, true, false, _&&_}
+use mathlib.Core.List.{List}
+use mathlib.Core.Logic.{_⊎_, inl, inr, ⊎-elim}
+use native.Mathlib.Nat.{le-refl}
+use native.Mathlib.Omega.{arith}
+use lib.ListN.{length}
+use Rattle.geometry.specs.declared.address.Address.{Address}
+use Rattle.geometry.specs.declared.address.Seq.{Seq}
+use Rattle.geometry.proofs.TestLaws.{and-true}
+use Rattle.geometry.proofs.Impossible.{never, clash}
+use Rattle.buffer.specs.Bytes.{agree}
+use Rattle.buffer.proofs.Agreement.{agree-is}
+use Rattle.frame.specs.Header.{headerFrame}
+use Rattle.archive.specs.Conduct.{Drive, empty}
+use Rattle.drive.specs.declared.command.Command.{Command}
+use Rattle.drive.specs.declared.command.Command.the-variants.{Read, Write, Locate, ReadPosition}
+use Rattle.drive.proofs.Cases.{command-by}
+use Rattle.copies.specs.Copies as copying
+use Rattle.copies.proofs.CommandView as command
+use Rattle.copies.proofs.DueAddress.{PlacedOf}
+use Rattle.copies.proofs.HeaderPlaces.{header-from-first}
+use Rattle.elements.specs.Elements as counting
+use Rattle.elements.specs.Due as due
+use Rattle.elements.proofs.DueView as rule
+use Rattle.recording.specs.Session.{windowOf, windowLength}
+use Rattle.recording.specs.Fetch.{Fetching, fetchOf, awaits, frameFor, sending, writtenBy, writtenFrame}
+use Rattle.recording.specs.declared.session.Recording.{Recording}
+use Rattle.recording.specs.declared.session.Stage.{Stage}
+use Rattle.recording.specs.declared.session.Stage.the-variants as S
+use Rattle.recording.proofs.FetchView as view
+use Rattle.recording.proofs.FetchView.{FetchView, fetch-view}
+use Rattle.recording.proofs.Stages.{HeaderStage, ElementStage, header-not-element, header-not-done, element-not-done}
+use Rattle.recording.proofs.Kept.{Held, heldOf}
+use Rattle.archive.specs.Recordings as recordings
+use Rattle.archive.specs.Recordings.{World, Flight, TakesEffect, fetchNumber, flightAfter, reportedAfter, afterFetch}
+use Rattle.archive.specs.Demand.{Within}
+use Rattle.archive.proofs.tape.Basics.{no-effect, no-frames}
+use Rattle.archive.proofs.tape.Scan.{Seen}
+use Rattle.archive.proofs.tape.SeenLaws.{seen-moves}
+use Rattle.archive.proofs.tape.Stands.{itemAt, Stands, StoredAs}
+use Rattle.archive.proofs.recording.CopiesLink as copies
+use Rattle.archive.proofs.recording.CopiesLink.{CopyAsks, HeaderSent, Copying, CopiesAgree}
+use Rattle.archive.proofs.recording.CopiesMoves.{rests-safe}
+use Rattle.archive.proofs.recording.ElementsLink as elements
+use Rattle.archive.proofs.recording.ElementsLink.{edgeOf, Linked, Moving, Asks, Writing}
+use Rattle.archive.proofs.recording.ElementsMoves.{link-safe}
+use Rattle.archive.proofs.recording.KeptAgreement.{Numbers, writing-numbers}
+use Rattle.archive.proofs.recording.SentFrames.{sent-element, sent-eod}
+use Rattle.archive.proofs.recording.Invariant as inv
+use Rattle.archive.proofs.recording.Invariant.{totalOf, Course, Content, Live, Safe, Inv, live, rejecting, over}
+use Rattle.archive.proofs.recording.InvariantLaws.{unreported}
+use Rattle.archive.proofs.recording.Setting.{Setting}
+
+-- ---- the same elements, by another command
+
+pub relink : {last : ℕ} {d : Drive} {k edge extra : ℕ} (h v : Held) → v .first ≡ h .first → v .outstanding ≡ h .outstanding → v .next ≡ h .next → v .relocate ≡ h .relocate → Linked last h d k edge extra → Linked last v d k edge extra
+relink h v a b c e l =
+    let a0 = ap (λ (x : Seq). x .0) a in
+    let c0 = ap (λ (x : Address). x .0) c in
+    let taken-is = l .taken-is in
+    let next-is = l .next-is in
+    let known = l .known in
+    let roof = l .roof in
+    record {
+      placed = e ∙ l .placed;
+      taken-is = omega arith;
+      next-is = omega arith;
+      known = omega arith;
+      roof = omega arith;
+      zone = ⊎-elim (λ z. inl (omega arith)) (λ z. inr (omega arith)) (l .zone);
+      spread = l .spread;
+      edge-is = l .edge-is;
+    }
+
+pub remove : {last : ℕ} {d : Drive} {k edge target : ℕ} (h v : Held) → v .first ≡ h .first → v .outstanding ≡ h .outstanding → Moving last h d k edge target → Moving last v d k edge target
+remove h v a b m =
+    let a0 = ap (λ (x : Seq). x .0) a in
+    record { none-out = b ∙ m .none-out; first-is = a0 ∙ m .first-is; rests = m .rests; roof = m .roof; zone = m .zone; spread = m .spread; edge-is = m .edge-is }
+
+pub reask : {last pending : ℕ} {d : Drive} {k edge : ℕ} {c : Command} (h v : Held) → v .first ≡ h .first → v .outstanding ≡ h .outstanding → v .next ≡ h .next → v .relocate ≡ h .relocate → Asks last h pending d k edge c → Asks last v pending d k edge c
+reask h v a b c e (elements.writes x p due off low l) =
+    let c0 = ap (λ (y : Address). y .0) c in
+    elements.writes x (p ∙ sym c) (omega arith) (λ q. off (sym c0 ∙ q)) (omega arith) (relink h v a b c e l)
+reask h v a b c e (elements.asks l) = elements.asks (relink h v a b c e l)
+reask h v a b c e (elements.moves x m) = elements.moves x (remove h v a b m)
+
+-- ---- the world after a fetch
+
+abbrev fetchedWorld : World → List ℕ → Fetching → World
+fetchedWorld w lent x = record {
+  session = x .session;
+  window = lent;
+  unaltered = w .unaltered && agree lent (w .window);
+  drive = w .drive;
+  flight = flightAfter (x .said) (w .flight) (x .frame);
+  accepted = w .accepted;
+  reported = reportedAfter (x .said) (w .reported);
+}
+
+abbrev lentWorld : World → List ℕ → Recording → Flight → Bool → World
+lentWorld w lent s f reported = record { session = s; window = lent; unaltered = w .unaltered && agree lent (w .window); drive = w .drive; flight = f; accepted = w .accepted; reported = reported }
+
+module _ {last pass : ℕ} {premises : Type 0} (w : World) (lent frame : List ℕ) (set : Setting last pass) (wr : Within last (w .drive .written)) (l : Live last pass premises w) where
+  -- lent as last left
+  as-left : (w .unaltered && agree lent (w .window)) ≡ true → (w .unaltered ≡ true) × (lent ≡ w .window)
+  as-left u = let b = and-true (w .unaltered) (agree lent (w .window)) u in (b .0, agree-is lent (w .window) (b .1))
+
+  stored-lent : lent ≡ w .window → Content last pass w (l .k) (l .edge) → (i : ℕ) → i < w .session .elements .pending
+      → StoredAs (itemAt (w .accepted) (w .session .elements .first .0 + i)) lent (w .session .elements .marks) (windowOf (w .session)) (w .session .elements .first .0 + i)
+  stored-lent e c i h = subst (λ (x : List ℕ). StoredAs (itemAt (w .accepted) (w .session .elements .first .0 + i)) x (w .session .elements .marks) (windowOf (w .session)) (w .session .elements .first .0 + i)) (sym e) (c .stored i h)
+
+  -- ---- nothing goes out: idle, or done
+
+  quiet : (reported : Bool) → (reported ≡ true → w .session .stage ≡ S.Done) → Live last pass premises (lentWorld w lent (w .session) (w .flight) reported)
+  quiet reported done = record {
+    k = l .k;
+    edge = l .edge;
+    going = l .going;
+    counted = l .counted;
+    carried = l .carried;
+    course = course (l .course);
+    reported = done;
+    content = λ p u.
+        let b = as-left u in
+        let c = l .content p (b .0) in
+        record { tape = c .tape; seen = c .seen; below = c .below; stored = stored-lent (b .1) c; queue = c .queue; sent = c .sent };
+  }
+    where
+      course : Course last w (l .k) (l .edge) → Course last (lentWorld w lent (w .session) (w .flight) reported) (l .k) (l .edge)
+      course (inv.opening q t c) = inv.opening q t c
+      course (inv.writing q a) = inv.writing q a
+      course (inv.ending q c p a) = inv.ending q c p a
+      course (inv.closing q c a b g) = inv.closing q c a b g
+      course (inv.finished q c a b f g h r y) = inv.finished q c a b f g h r y
+
+  -- ---- a command goes out
+
+  module _ (c : Command) where
+    abbrev sentWorld : World
+    sentWorld = lentWorld w lent (awaits (w .session) c) (recordings.sent c (frameFor c (w .session) lent frame)) (w .reported)
+
+    goes-out : (edge : ℕ) → Course last sentWorld (l .k) edge → (premises → w .unaltered ≡ true → lent ≡ w .window → Content last pass sentWorld (l .k) edge) → Live last pass premises sentWorld
+    goes-out edge course content = record {
+      k = l .k;
+      edge = edge;
+      going = l .going;
+      counted = let n = l .counted in record { wide = n .wide; held = n .held; windowed = n .windowed; numbered = n .numbered; marks = n .marks; room = n .room };
+      carried = l .carried;
+      course = course;
+      reported = l .reported;
+      content = λ p u. let b = as-left u in content p (b .0) (b .1);
+    }
+
+    -- what is known of the frame, by the command
+    content-out : {edge : ℕ} → premises → w .unaltered ≡ true → lent ≡ w .window
+        → Seen last pass (w .accepted) (totalOf (w .session .stage) (length (w .accepted))) (l .k) edge (w .drive .tape)
+        → ((a : Address) (f : List ℕ) → ElementStage (w .session) → recordings.sent c (frameFor c (w .session) lent frame) ≡ recordings.sent (Write a) f
+        → Stands last pass (itemAt (w .accepted) (w .session .elements .first .0 + w .session .elements .outstanding)) (w .session .elements .first .0 + w .session .elements .outstanding) f)
+        → Content last pass sentWorld (l .k) edge
+    content-out p u same seen sent =
+        let x = l .content p u in
+        record { tape = x .tape; seen = seen; below = x .below; stored = stored-lent same x; queue = x .queue; sent = sent }
+
+  -- ---- from a header stage
+
+  module _ (st : HeaderStage (w .session)) where
+    header-written : writtenFrame (w .session) lent ≡ headerFrame (w .session .copies .header)
+    unfolding writtenFrame
+    header-written = ⊎-elim (λ q. ap (λ (y : Stage). writtenBy y (w .session) lent) q) (λ q. ap (λ (y : Stage). writtenBy y (w .session) lent) q) st
+
+    header-sent : (c : Command) → HeaderSent (w .session .copies) c (frameFor c (w .session) lent frame)
+    header-sent (Read a) = tt
+    header-sent (Write a) = header-written
+    header-sent (Locate a) = tt
+    header-sent ReadPosition = tt
+
+    header-out : (c : Command) (agree : CopiesAgree (w .session) (w .drive) (w .flight)) → CopyAsks (w .session .copies) (w .drive) c
+        → (CopiesAgree (awaits (w .session) c) (w .drive) (recordings.sent c (frameFor c (w .session) lent frame)) → Course last (sentWorld c) (l .k) (l .edge)) → Inv last pass premises (sentWorld c)
+    header-out c agree asked course =
+        live wr
+        (goes-out c (l .edge) (course (record { counts = agree .counts; placed = agree .placed; copying = copies.under-way c (frameFor c (w .session) lent frame) refl refl refl (header-sent c) asked }))
+        (λ p u same. content-out c p u same (l .content p u .seen) (λ _ _ el _. header-not-element (w .session) st el)))
+
+    asks-header : {c : Command} → PlacedOf (w .session .copies) → command.CommandView (w .session .depth) (w .session .copies) c → w .session .again ≡ false → Copying (w .session) (w .drive) recordings.none → CopyAsks (w .session .copies) (w .drive) c
+    asks-header pl (command.locating t) ag (copies.at-place a g x) = clash t (x .placed)
+    asks-header pl (command.locating t) ag (copies.to-seek a g x) = copies.seeks (copying.headerAt (w .session .copies)) (header-from-first (w .session .copies .group) (w .session .copies .copy) (pl .left t)) x
+    asks-header pl (command.locating t) ag (copies.again a g x) = clash g ag
+    asks-header pl (command.writing f left room) ag (copies.at-place a g x) = copies.writes (copying.headerAt (w .session .copies)) (header-from-first (w .session .copies .group) (w .session .copies .copy) left) left x
+    asks-header pl (command.writing f left room) ag (copies.to-seek a g x) = clash (x .due) f
+    asks-header pl (command.writing f left room) ag (copies.again a g x) = clash g ag
+    asks-header pl (command.asking f y) ag (copies.at-place a g x) = copies.asks x
+    asks-header pl (command.asking f y) ag (copies.to-seek a g x) = clash (x .due) f
+    asks-header pl (command.asking f y) ag (copies.again a g x) = clash g ag
+
+    again-header : w .session .again ≡ true → Copying (w .session) (w .drive) recordings.none → CopyAsks (w .session .copies) (w .drive) (w .session .command)
+    again-header ag (copies.at-place a g x) = clash ag g
+    again-header ag (copies.to-seek a g x) = clash ag g
+    again-header ag (copies.again a g x) = x
+
+  -- ---- from the elements
+
+  record Out (c : Command) : Type 0 where
+    edge : ℕ
+    further : l .edge ≤ edge
+    asks : Asks last (heldOf (w .session)) (w .session .elements .pending) (w .drive) (l .k) edge c
+
+  edge-low : (b : Bool) (a : ℕ) → edgeOf b a ≤ a + 1
+  edge-low true a = le-refl (a + 1)
+  edge-low false a = omega arith
+
+  cross : Linked last (heldOf (w .session)) (w .drive) (l .k) (l .edge) 0 → w .session .elements .outstanding ≡ 0 → w .session .elements .next .0 ≡ 2990 → Out (Locate (counting.at 3000))
+  cross x none gap =
+      let taken-is = x .taken-is in
+      let next-is = x .next-is in
+      let known = x .known in
+      let spread = x .spread in
+      let edge-is = x .edge-is in
+      let e = edge-low (w .drive .failed) (w .drive .at) in
+      record {
+        edge = 3000;
+        further = omega arith;
+        asks = elements.moves (counting.at 3000) (record {
+          none-out = none;
+          first-is = omega arith;
+          rests = empty (no-frames (w .drive .buffer) (omega arith));
+          roof = set .large;
+          zone = inr (le-refl 3000);
+          spread = omega arith;
+          edge-is = refl;
+        });
+      }
+
+  out-element : {c : Command} → rule.DueView (w .session .depth) (w .session .elements) (due.send c) → w .session .again ≡ false → Writing last (w .session) (w .drive) (l .k) (l .edge) recordings.none → Out c
+  out-element (rule.relocating r) ag (elements.at-place a g x) = clash r (x .placed)
+  out-element (rule.relocating r) ag (elements.to-locate a g q x) = record { edge = l .edge; further = le-refl (l .edge); asks = elements.moves (w .session .elements .target) x }
+  out-element (rule.relocating r) ag (elements.again a g x) = clash g ag
+  out-element (rule.settling r p o) ag (elements.at-place a g x) = record { edge = l .edge; further = le-refl (l .edge); asks = elements.asks x }
+  out-element (rule.settling r p o) ag (elements.to-locate a g q x) = clash q r
+  out-element (rule.settling r p o) ag (elements.again a g x) = clash g ag
+  out-element (rule.confirming r p o) ag (elements.at-place a g x) = record { edge = l .edge; further = le-refl (l .edge); asks = elements.asks x }
+  out-element (rule.confirming r p o) ag (elements.to-locate a g q x) = clash q r
+  out-element (rule.confirming r p o) ag (elements.again a g x) = clash g ag
+  out-element (rule.jumping r p none below gap) ag (elements.at-place a g x) = cross x none gap
+  out-element (rule.jumping r p none below gap) ag (elements.to-locate a g q x) = clash q r
+  out-element (rule.jumping r p none below gap) ag (elements.again a g x) = clash g ag
+  out-element (rule.writing r p room below off) ag (elements.at-place a g x) =
+      record { edge = l .edge; further = le-refl (l .edge); asks = elements.writes (w .session .elements .next) refl p off (omega (arith, below, l .counted .room)) x }
+  out-element (rule.writing r p room below off) ag (elements.to-locate a g q x) = clash q r
+  out-element (rule.writing r p room below off) ag (elements.again a g x) = clash g ag
+
+  again-element : w .session .again ≡ true → Writing last (w .session) (w .drive) (l .k) (l .edge) recordings.none → Out (w .session .command)
+  again-element ag (elements.at-place a g x) = clash ag g
+  again-element ag (elements.to-locate a g q x) = clash ag g
+  again-element ag (elements.again a g x) = record { edge = l .edge; further = le-refl (l .edge); asks = x }
+
+  due-of : {k edge : ℕ} {a : Address} → Asks last (heldOf (w .session)) (w .session .elements .pending) (w .drive) k edge (Write a) → w .session .elements .outstanding < w .session .elements .pending
+  due-of (elements.writes a p due off low x) = due
+
+  -- the frame of a WRITE
+  module _ (long : length lent ≡ windowLength (w .session)) (numbers : Numbers last (w .session .elements .first .0) (w .session .elements .outstanding) (w .session .elements .pending) (l .k) (w .drive))
+      (alone : w .session .stage ≡ S.Eod → w .session .elements .pending ≡ 1) where
+    stands-sent : premises → w .unaltered ≡ true → lent ≡ w .window → ElementStage (w .session) → w .session .elements .outstanding < w .session .elements .pending
+        → Stands last pass (itemAt (w .accepted) (w .session .elements .first .0 + w .session .elements .outstanding)) (w .session .elements .first .0 + w .session .elements .outstanding) (writtenFrame (w .session) lent)
+    stands-sent p u same (inl st) d =
+        let n = l .counted .numbered in
+        let t = ap (λ (x : Stage). totalOf x (length (w .accepted))) st in
+        sent-element last pass (w .session) lent (w .accepted) (l .carried .last-is) (l .carried .pass-is) (set .low) long (omega (arith, numbers .low, l .counted .windowed, l .counted .wide, set .small)) st (omega arith)
+        (stored-lent same (l .content p u) (w .session .elements .outstanding) d)
+    stands-sent p u same (inr st) d =
+        let n = l .counted .numbered in
+        let t = ap (λ (x : Stage). totalOf x (length (w .accepted))) st in
+        let one = alone st in
+        sent-eod last pass (w .session) lent (w .accepted) (l .carried .last-is) (l .carried .pass-is) (set .low) long (omega (arith, numbers .low, l .counted .windowed, l .counted .wide, set .small)) st (omega arith)
+
+    element-out : (c : Command) → Out c → ElementStage (w .session) → ((edge : ℕ) → Writing last (awaits (w .session) c) (w .drive) (l .k) edge (recordings.sent c (frameFor c (w .session) lent frame)) → Course last (sentWorld c) (l .k) edge)
+        → Inv last pass premises (sentWorld c)
+    element-out c o st course =
+        live wr
+        (goes-out c (o .edge) (course (o .edge) (elements.under-way c (frameFor c (w .session) lent frame) refl refl refl (reask (heldOf (w .session)) (heldOf (awaits (w .session) c)) refl refl refl refl (o .asks))))
+        (λ p u same. content-out c p u same (seen-moves (l .content p u .tape) (o .edge) (o .further) (l .content p u .seen))
+        (λ a f el q.
+        let command-is : c ≡ Write a = cc in
+        let frame-is : frameFor c (w .session) lent frame ≡ f = cc in
+        subst (λ (y : List ℕ). Stands last pass (itemAt (w .accepted) (w .session .elements .first .0 + w .session .elements .outstanding)) (w .session .elements .first .0 + w .session .elements .outstanding) y)
+        (sym (ap (λ (y : Command). frameFor y (w .session) lent frame) command-is) ∙ frame-is)
+        (stands-sent p u same el (due-of (subst (λ (y : Command). Asks last (heldOf (w .session)) (w .session .elements .pending) (w .drive) (l .k) (o .edge) y) command-is (o .asks)))))))
+
+-- ---- no reply is awaited, so no command is in flight
+
+copying-idle : {s : Recording} {d : Drive} {f : Flight} → s .awaiting ≡ false → Copying s d f → Copying s d recordings.none
+copying-idle a (copies.at-place b g x) = copies.at-place b g x
+copying-idle a (copies.to-seek b g x) = copies.to-seek b g x
+copying-idle a (copies.again b g x) = copies.again b g x
+copying-idle a (copies.under-way c f b g e h x) = clash b a
+copying-idle a (copies.replied r b g x) = clash b a
+
+writing-idle : {last : ℕ} {s : Recording} {d : Drive} {k edge : ℕ} {f : Flight} → s .awaiting ≡ false → Writing last s d k edge f → Writing last s d k edge recordings.none × (f ≡ recordings.none)
+writing-idle a (elements.at-place b g x) = (elements.at-place b g x, refl)
+writing-idle a (elements.to-locate b g r x) = (elements.to-locate b g r x, refl)
+writing-idle a (elements.again b g x) = (elements.again b g x, refl)
+writing-idle a (elements.under-way c f b g e x) = clash b a
+writing-idle a (elements.replied r b g x) = clash b a
+
+writing-safe : {last : ℕ} {s : Recording} {d : Drive} {k edge : ℕ} → s .again ≡ false → Writing last s d k edge recordings.none → Safe last d
+writing-safe ag (elements.at-place b g x) = link-safe x
+writing-safe ag (elements.to-locate b g r x) = rests-safe (x .rests)
+writing-safe ag (elements.again b g x) = clash g ag
+
+module _ {last pass : ℕ} {premises : Type 0} (w : World) (lent frame : List ℕ) (set : Setting last pass) (wr : Within last (w .drive .written)) (l : Live last pass premises w) where
+  abbrev After : Fetching → Type 0
+  After x = Inv last pass premises (fetchedWorld w lent x)
+
+  -- the command goes to the drive as the fetch names it
+  as-named : (c : Command) → Inv last pass premises (sentWorld w lent frame set wr l c) → After (sending (w .session) c lent frame)
+  unfolding sending
+  as-named c i =
+      subst (λ (x : Command). Inv last pass premises (lentWorld w lent (awaits (w .session) c) (recordings.sent x (frameFor c (w .session) lent frame)) (w .reported))) (sym (command-by c)) i
+
+  -- in a header stage
+  module _ (st : HeaderStage (w .session)) (agree : CopiesAgree (w .session) (w .drive) (w .flight))
+      (course : (c : Command) → CopiesAgree (awaits (w .session) c) (w .drive) (recordings.sent c (frameFor c (w .session) lent frame)) → Course last (sentWorld w lent frame set wr l c) (l .k) (l .edge)) where
+    fetch-header : {x : Fetching} → FetchView (w .session) lent frame x → TakesEffect (fetchNumber (x .said)) → After x
+    fetch-header (view.wrongPhase _) te = no-effect (omega arith) (omega arith) te
+    fetch-header (view.wrongLength _ _ _) te = no-effect (omega arith) (omega arith) te
+    fetch-header (view.repeating r ag) te = as-named (w .session .command) (header-out w lent frame set wr l st (w .session .command) agree (again-header w lent frame set wr l st ag (copying-idle (r .free) (agree .copying))) (course (w .session .command)))
+    fetch-header (view.copying r ag _) te =
+        let c = copying.commandOf (w .session .depth) (w .session .copies) in
+        as-named c (header-out w lent frame set wr l st c agree (asks-header w lent frame set wr l st (agree .placed) (command.command-view (w .session .depth) (w .session .copies)) ag (copying-idle (r .free) (agree .copying))) (course c))
+    fetch-header (view.stepping r ag el c d) te = header-not-element (w .session) st el
+    fetch-header (view.resting r ag el d) te = header-not-element (w .session) st el
+    fetch-header (view.stopping r ag el n d) te = header-not-element (w .session) st el
+    fetch-header (view.finished r ag d) te = header-not-done (w .session) st d
+
+  -- among the elements
+  module _ (st : ElementStage (w .session)) (agree : Writing last (w .session) (w .drive) (l .k) (l .edge) (w .flight)) (alone : w .session .stage ≡ S.Eod → w .session .elements .pending ≡ 1)
+      (course : (c : Command) (edge : ℕ) → Writing last (awaits (w .session) c) (w .drive) (l .k) edge (recordings.sent c (frameFor c (w .session) lent frame)) → Course last (sentWorld w lent frame set wr l c) (l .k) edge) where
+    numbers : Numbers last (w .session .elements .first .0) (w .session .elements .outstanding) (w .session .elements .pending) (l .k) (w .drive)
+    numbers = writing-numbers (l .counted .held) agree
+
+    fetch-elements : {x : Fetching} → FetchView (w .session) lent frame x → TakesEffect (fetchNumber (x .said)) → After x
+    fetch-elements (view.wrongPhase _) te = no-effect (omega arith) (omega arith) te
+    fetch-elements (view.wrongLength _ _ _) te = no-effect (omega arith) (omega arith) te
+    fetch-elements (view.repeating r ag) te =
+        as-named (w .session .command) (element-out w lent frame set wr l (r .windowRight) numbers alone (w .session .command) (again-element w lent frame set wr l ag (writing-idle (r .free) agree .0)) st (course (w .session .command)))
+    fetch-elements (view.copying r ag h) te = header-not-element (w .session) h st
+    fetch-elements (view.stepping r ag el c d) te =
+        as-named c (element-out w lent frame set wr l (r .windowRight) numbers alone c (out-element w lent frame set wr l (subst (rule.DueView (w .session .depth) (w .session .elements)) d (rule.due-view (w .session .depth) (w .session .elements))) ag (writing-idle (r .free) agree .0)) st (course c))
+    fetch-elements (view.resting r ag el d) te = live wr (quiet w lent frame set wr l (w .reported) (l .reported))
+    fetch-elements (view.stopping r ag el n d) te =
+        let i = writing-idle (r .free) agree in
+        over wr (record { ended = refl; none = i .1; safe = writing-safe ag (i .0); unreported = unreported l (element-not-done (w .session) st) })
+    fetch-elements (view.finished r ag d) te = element-not-done (w .session) st d
+
+  fetch-done : {x : Fetching} → w .session .stage ≡ S.Done → w .session .again ≡ false → FetchView (w .session) lent frame x → TakesEffect (fetchNumber (x .said)) → After x
+  fetch-done st ag (view.wrongPhase _) te = no-effect (omega arith) (omega arith) te
+  fetch-done st ag (view.wrongLength _ _ _) te = no-effect (omega arith) (omega arith) te
+  fetch-done st ag (view.repeating r again) te = clash again ag
+  fetch-done st ag (view.copying r _ h) te = header-not-done (w .session) h st
+  fetch-done st ag (view.stepping r _ el c d) te = element-not-done (w .session) el st
+  fetch-done st ag (view.resting r _ el d) te = element-not-done (w .session) el st
+  fetch-done st ag (view.stopping r _ el n d) te = element-not-done (w .session) el st
+  fetch-done st ag (view.finished r _ d) te = live wr (quiet w lent frame set wr l true (λ _. st))
+
+  live-fetch : Course last w (l .k) (l .edge) → {x : Fetching} → FetchView (w .session) lent frame x → TakesEffect (fetchNumber (x .said)) → After x
+  live-fetch (inv.opening q t c) v te = fetch-header (inl q) c (λ _ y. inv.opening q t y) v te
+  live-fetch (inv.writing q a) v te = fetch-elements (inl q) a (λ e. never (cc)) (λ _ _ y. inv.writing q y) v te
+  live-fetch (inv.ending q c p a) v te = fetch-elements (inr q) a (λ _. p) (λ _ _ y. inv.ending q c p y) v te
+  live-fetch (inv.closing q c a b g) v te = fetch-header (inr q) g (λ _ y. inv.closing q c a b y) v te
+  live-fetch (inv.finished q c a b f g h r y) v te = fetch-done q h v te
+
+pub keeps-fetch : {last pass : ℕ} {premises : Type 0} (w : World) (lent frame : List ℕ) → Setting last pass → Inv last pass premises w → TakesEffect (fetchNumber (fetchOf (w .session) lent frame .said)) → Inv last pass premises (afterFetch w lent frame)
+keeps-fetch w lent frame set (live wr l) te = live-fetch w lent frame set wr l (l .course) (fetch-view (w .session) lent frame) te
+keeps-fetch {last} {pass} {premises} w lent frame set (rejecting wr d) te = go (fetch-view (w .session) lent frame) te
+  where
+    go : {x : Fetching} → FetchView (w .session) lent frame x → TakesEffect (fetchNumber (x .said)) → Inv last pass premises (fetchedWorld w lent x)
+    go (view.wrongPhase _) t = no-effect (omega arith) (omega arith) t
+    go (view.wrongLength _ _ _) t = no-effect (omega arith) (omega arith) t
+    go (view.repeating r _) t = clash (d .awaits) (r .free)
+    go (view.copying r _ _) t = clash (d .awaits) (r .free)
+    go (view.stepping r _ _ _ _) t = clash (d .awaits) (r .free)
+    go (view.resting r _ _ _) t = clash (d .awaits) (r .free)
+    go (view.stopping r _ _ _ _) t = clash (d .awaits) (r .free)
+    go (view.finished r _ _) t = clash (d .awaits) (r .free)
+keeps-fetch {last} {pass} {premises} w lent frame set (over wr o) te = go (fetch-view (w .session) lent frame) te
+  where
+    go : {x : Fetching} → FetchView (w .session) lent frame x → TakesEffect (fetchNumber (x .said)) → Inv last pass premises (fetchedWorld w lent x)
+    go (view.wrongPhase _) t = no-effect (omega arith) (omega arith) t
+    go (view.wrongLength _ _ _) t = no-effect (omega arith) (omega arith) t
+    go (view.repeating r _) t = clash (o .ended) (r .going)
+    go (view.copying r _ _) t = clash (o .ended) (r .going)
+    go (view.stepping r _ _ _ _) t = clash (o .ended) (r .going)
+    go (view.resting r _ _ _) t = clash (o .ended) (r .going)
+    go (view.stopping r _ _ _ _) t = clash (o .ended) (r .going)
+    go (view.finished r _ _) t = clash (o .ended) (r .going)

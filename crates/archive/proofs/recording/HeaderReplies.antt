@@ -1,0 +1,251 @@
+-- A reply in a header stage keeps the invariant. Assumes nothing.
+use Prim.Native.Nat.{ℕ, _+_, _*_, _≤_, _<_}
+use mathlib.Core.Path.{_≡_, refl, sym, ap, subst, _∙_}
+use mathlib.Core.Bool.{true, false, not}
+use mathlib.Core.Logic.{_⊎_, inl, inr, ⊎-elim}
+use native.Mathlib.Omega.{arith}
+use lib.ListN.{length}
+use Rattle.geometry.proofs.PickLaws.{pick-t, pick-f}
+use Rattle.geometry.proofs.TestLaws.{neither}
+use Rattle.geometry.proofs.Impossible.{never, clash}
+use Rattle.frame.specs.declared.header.Header.{Header}
+use Rattle.drive.specs.Command.{commandCode}
+use Rattle.drive.specs.Listed.{Means}
+use Rattle.archive.specs.Conduct.{AtRest, empty, stopped}
+use Rattle.drive.specs.Senses.{meaningOf, busy}
+use Rattle.drive.specs.declared.command.Command.{Command}
+use Rattle.drive.specs.declared.reply.Reply.{Reply}
+use Rattle.copies.specs.Copies as copying
+use Rattle.elements.specs.declared.state.Elements.{Elements}
+use Rattle.recording.specs.Session.{Result, accepting, ending, withStage, withCopies, settledOf}
+use Rattle.recording.specs.Reply.{caseOf, answeredOf, repeatedOf, completedBy, headerReplyBy, headerReply, stageReplyBy, stageReply, replyOf}
+use Rattle.recording.specs.declared.session.Recording.{Recording}
+use Rattle.recording.specs.declared.session.Stage.{Stage}
+use Rattle.recording.specs.declared.session.Stage.the-variants as S
+use Rattle.recording.proofs.Stages.{HeaderStage, header-not-element}
+use Rattle.recording.proofs.ReplyView.{isBusy}
+use Rattle.archive.specs.Recordings as recordings
+use Rattle.archive.specs.Recordings.{World}
+use Rattle.archive.specs.Demand.{Within}
+use Rattle.archive.proofs.tape.Basics.{none-sent}
+use Rattle.archive.proofs.tape.Scan.{Seen}
+use Rattle.archive.proofs.tape.Stands.{itemAt, Queue, StoredAs}
+use Rattle.archive.proofs.recording.HeaderCopies.{Carried, Copy, Below}
+use Rattle.archive.proofs.recording.CopiesLink as copies
+use Rattle.archive.proofs.recording.CopiesLink.{CopyAsks, CopyAnswered, Copying, CopiesAgree}
+use Rattle.archive.proofs.recording.CopiesMoves.{answered-safe}
+use Rattle.archive.proofs.recording.CopiesReplies as next
+use Rattle.archive.proofs.recording.CopiesReplies.{copy-higher, Next, taken-next, located-next, counted-next, failed-next}
+use Rattle.archive.proofs.recording.ElementsLink as elements
+use Rattle.archive.proofs.recording.Accepts.{settled-cases}
+use Rattle.archive.proofs.recording.Closes.{eod-live}
+use Rattle.archive.proofs.recording.Invariant as inv
+use Rattle.archive.proofs.recording.Invariant.{totalOf, spareOf, Course, Live, Safe, Inv, live, over}
+use Rattle.archive.proofs.recording.InvariantLaws.{unreported}
+use Rattle.archive.proofs.recording.Setting.{Setting}
+
+-- ---- which case a reply is
+
+module _ (s : Recording) (r : Reply) (going : s .ended ≡ false) (asked : s .awaiting ≡ true) where
+  pub case-is : {c : Command} {m : ℕ} → s .command ≡ c → Means r m → caseOf s r ≡ commandCode c * 256 + m
+  case-is {c} e means = ap (λ (x : Command). commandCode x * 256 + meaningOf (r .key) (r .asc) (r .ascq)) e ∙ ap (λ (x : ℕ). commandCode c * 256 + x) means
+
+  pub reply-so : (n : ℕ) → caseOf s r ≡ n → isBusy n ≡ false → replyOf s r ≡ stageReply s n r
+  unfolding replyOf
+  reply-so n e b = pick-f _ (neither _ _ going (ap not asked)) ∙ pick-f _ (ap isBusy e ∙ b) ∙ ap (λ (x : ℕ). stageReply s x r) e
+
+  pub reply-busy : (n : ℕ) → caseOf s r ≡ n → isBusy n ≡ true → replyOf s r ≡ accepting (repeatedOf s)
+  unfolding replyOf
+  reply-busy n e b = pick-f _ (neither _ _ going (ap not asked)) ∙ pick-t _ (ap isBusy e ∙ b)
+
+abbrev pub repliedWorld : World → Recording → World
+repliedWorld w s = record { session = s; window = w .window; unaltered = w .unaltered; drive = w .drive; flight = recordings.none; accepted = w .accepted; reported = w .reported }
+
+-- what the window is for
+record Sized : Type 0 where
+  top : ℕ
+  els : Elements
+
+module _ {last pass : ℕ} {premises : Type 0} (w : World) (r : Reply) (set : Setting last pass) (wr : Within last (w .drive .written)) (l : Live last pass premises w) where
+  abbrev After : Result → Type 0
+  After x = Inv last pass premises (repliedWorld w (x .session))
+
+  pub ends-so : (n : ℕ) → (w .session .stage ≡ S.Done → ⊥) → Safe last (w .drive) → After (ending (w .session) n)
+  ends-so n d safe = over wr (record { ended = refl; none = refl; safe = safe; unreported = unreported l d })
+
+  module _ (st : HeaderStage (w .session)) (again : w .session .again ≡ false) (asked : w .session .awaiting ≡ true) where
+    sized-same : (v : Recording) → v .highest ≡ w .session .highest → v .elements ≡ w .session .elements → _≡_ {A = Sized} (record { top = v .highest; els = v .elements }) (record { top = w .session .highest; els = w .session .elements })
+    sized-same v high els = ap (λ (n : ℕ). record { top = n; els = v .elements }) high ∙ ap (λ (x : Elements). record { top = w .session .highest; els = x }) els
+
+    -- the same headers, other copies or another command
+    more-live : (v : Recording) → v .ended ≡ false → v .stage ≡ w .session .stage → v .highest ≡ w .session .highest → v .elements ≡ w .session .elements → v .copies .header ≡ w .session .copies .header
+        → Course last (repliedWorld w v) (l .k) (l .edge) → Live last pass premises (repliedWorld w v)
+    more-live v going stage high els head course = record {
+      k = l .k;
+      edge = l .edge;
+      going = going;
+      counted =
+          let c = l .counted in
+          let pending = ap (λ (x : Elements). x .pending) els in
+          let outstanding = ap (λ (x : Elements). x .outstanding) els in
+          let first = ap (λ (x : Elements). x .first .0) els in
+          let limit = ap (λ (x : Elements). x .limit .0) els in
+          record {
+            wide = subst (λ (n : ℕ). n ≤ 63) (sym high) (c .wide);
+            held = let h = c .held in omega arith;
+            windowed = let h = c .windowed in omega (arith, high);
+            numbered = ap (λ (x : Elements). x .first .0 + x .pending) els ∙ c .numbered ∙ ap (λ (x : Stage). totalOf x (length (w .accepted))) (sym stage);
+            marks = ap (λ (x : Elements). length (x .marks)) els ∙ c .marks;
+            room = let h = c .room in omega arith;
+          };
+      carried = subst (λ (n : ℕ). Carried last pass n (v .copies .header)) (ap spareOf (sym stage)) (subst (λ (x : Header). Carried last pass (spareOf (w .session .stage)) x) (sym head) (l .carried));
+      course = course;
+      reported = λ e. stage ∙ l .reported e;
+      content = λ p u.
+          let c = l .content p u in
+          record {
+            tape = c .tape;
+            seen = subst (λ (x : Stage). Seen last pass (w .accepted) (totalOf x (length (w .accepted))) (l .k) (l .edge) (w .drive .tape)) (sym stage) (c .seen);
+            below = subst (λ (x : Header). Below last x (w .drive .tape)) (sym head) (c .below);
+            stored = subst (λ (p : Sized). (i : ℕ) → i < p .els .pending → StoredAs (itemAt (w .accepted) (p .els .first .0 + i)) (w .window) (p .els .marks) (p .top + 1) (p .els .first .0 + i)) (sym (sized-same v high els)) (c .stored);
+            queue = λ el _. header-not-element (w .session) st (⊎-elim (λ q. inl (sym stage ∙ q)) (λ q. inr (sym stage ∙ q)) el);
+            sent = λ _ _ _ z. none-sent z;
+          };
+    }
+
+  -- ---- the opening headers
+
+  module _ (q : w .session .stage ≡ S.OpeningHeaders) (t : inv.Unstarted last (w .session .elements) (l .k) (l .edge)) (again : w .session .again ≡ false) (asked : w .session .awaiting ≡ true) where
+    abbrev opened : Recording
+    opened = withStage (answeredOf (w .session)) S.Elements
+
+    nothing-queued : AtRest (w .drive) → w .drive .failed ≡ false → Queue last pass (w .accepted) (l .k) (w .drive .buffer)
+    unfolding Queue
+    nothing-queued (stopped e) free = clash e free
+    nothing-queued (empty e) free = subst (Queue last pass (w .accepted) (l .k)) (sym e) tt
+
+    opened-live : AtRest (w .drive) → Live last pass premises (repliedWorld w opened)
+    opened-live rests =
+        let c = l .counted in
+        let same = ap (λ (x : Stage). totalOf x (length (w .accepted))) q in
+        let target = t .target-is in
+        record {
+          k = l .k;
+          edge = l .edge;
+          going = l .going;
+          counted = record { wide = c .wide; held = c .held; windowed = c .windowed; numbered = c .numbered ∙ same; marks = c .marks; room = c .room };
+          carried = subst (λ (n : ℕ). Carried last pass n (w .session .copies .header)) (ap spareOf q) (l .carried);
+          course = inv.writing refl (elements.to-locate refl again (t .relocates) (record {
+            none-out = t .none-out;
+            first-is = t .first-is;
+            rests = rests;
+            roof = omega (arith, t .roof);
+            zone = ⊎-elim (λ z. inl (omega arith)) (λ z. inr (omega arith)) (t .zone);
+            spread = omega (arith, t .spread);
+            edge-is = sym (t .target-is);
+          }));
+          reported = λ e. never (let z = l .reported e in cc);
+          content = λ p u.
+              let x = l .content p u in
+              record {
+                tape = x .tape;
+                seen = subst (λ (n : ℕ). Seen last pass (w .accepted) n (l .k) (l .edge) (w .drive .tape)) same (x .seen);
+                below = x .below;
+                stored = x .stored;
+                queue = λ _ free. nothing-queued rests free;
+                sent = λ _ _ _ z. none-sent z;
+              };
+        }
+
+    opening-next : {s : copying.Said} → Next (w .session .copies .header) (w .drive) s → Safe last (w .drive) → After (headerReplyBy s (w .session))
+    opening-next (next.at-place c e n p x) safe =
+        live wr (more-live (inl q) again asked (withCopies (answeredOf (w .session)) c) (l .going) refl refl refl e (inv.opening q t (record { counts = n; placed = p; copying = copies.at-place refl again x })))
+    opening-next (next.to-seek c e n p x) safe =
+        live wr (more-live (inl q) again asked (withCopies (answeredOf (w .session)) c) (l .going) refl refl refl e (inv.opening q t (record { counts = n; placed = p; copying = copies.to-seek refl again x })))
+    opening-next (next.through rests copy) safe =
+        subst (λ (x : Stage). Inv last pass premises (repliedWorld w (settledOf (completedBy x (answeredOf (w .session)))))) (sym q)
+        (settled-cases opened (λ (v : Recording). Inv last pass premises (repliedWorld w v)) (λ _. live wr (opened-live rests)) (λ a b c. live wr (eod-live (repliedWorld w opened) (opened-live rests) a b c)) (λ a _. never (cc)))
+    opening-next (next.ends n) safe = ends-so n (λ z. never (cc)) safe
+
+  -- ---- the closing headers
+
+  module _ (q : w .session .stage ≡ S.ClosingHeaders) (closed : w .session .closed ≡ true) (k0 : l .k ≡ length (w .accepted) + 1) (e0 : l .edge ≡ last + 1) (again : w .session .again ≡ false) (asked : w .session .awaiting ≡ true) where
+    abbrev done : Recording
+    done = withStage (answeredOf (w .session)) S.Done
+
+    done-live : AtRest (w .drive) → Copy (w .session .copies .header) (w .drive .tape) 2995 → Live last pass premises (repliedWorld w done)
+    done-live rests copy =
+        let c = l .counted in
+        let same = ap (λ (x : Stage). totalOf x (length (w .accepted))) q in
+        record {
+          k = l .k;
+          edge = l .edge;
+          going = l .going;
+          counted = record { wide = c .wide; held = c .held; windowed = c .windowed; numbered = c .numbered ∙ same; marks = c .marks; room = c .room };
+          carried = subst (λ (n : ℕ). Carried last pass n (w .session .copies .header)) (ap spareOf q) (l .carried);
+          course = inv.finished refl closed k0 e0 refl refl again rests (copy-higher (omega (arith, set .large)) copy);
+          reported = λ _. refl;
+          content = λ p u.
+              let x = l .content p u in
+              record {
+                tape = x .tape;
+                seen = subst (λ (n : ℕ). Seen last pass (w .accepted) n (l .k) (l .edge) (w .drive .tape)) same (x .seen);
+                below = x .below;
+                stored = x .stored;
+                queue = λ el _. ⊎-elim (λ z. never (cc)) (λ z. never (cc)) el;
+                sent = λ _ _ _ z. none-sent z;
+              };
+        }
+
+    closing-next : {s : copying.Said} → Next (w .session .copies .header) (w .drive) s → Safe last (w .drive) → After (headerReplyBy s (w .session))
+    closing-next (next.at-place c e n p x) safe =
+        live wr (more-live (inr q) again asked (withCopies (answeredOf (w .session)) c) (l .going) refl refl refl e (inv.closing q closed k0 e0 (record { counts = n; placed = p; copying = copies.at-place refl again x })))
+    closing-next (next.to-seek c e n p x) safe =
+        live wr (more-live (inr q) again asked (withCopies (answeredOf (w .session)) c) (l .going) refl refl refl e (inv.closing q closed k0 e0 (record { counts = n; placed = p; copying = copies.to-seek refl again x })))
+    closing-next (next.through rests copy) safe =
+        subst (λ (x : Stage). Inv last pass premises (repliedWorld w (settledOf (completedBy x (answeredOf (w .session)))))) (sym q)
+        (settled-cases done (λ (v : Recording). Inv last pass premises (repliedWorld w v)) (λ _. live wr (done-live rests copy)) (λ a _ _. never (cc)) (λ a _. never (cc)))
+    closing-next (next.ends n) safe = ends-so n (λ z. never (cc)) safe
+
+  -- ---- by what the drive gave
+
+  module _ (st : HeaderStage (w .session)) (again : w .session .again ≡ false) (asked : w .session .awaiting ≡ true) (agree : CopiesAgree (w .session) (w .drive) (w .flight))
+      (onward : (s : copying.Said) → Next (w .session .copies .header) (w .drive) s → Safe last (w .drive) → After (headerReplyBy s (w .session)))
+      (repeats : CopyAsks (w .session .copies) (w .drive) (w .session .command) → After (accepting (repeatedOf (w .session)))) where
+    in-stage : (n : ℕ) → stageReply (w .session) n r ≡ headerReplyBy (copying.answerOf (w .session .copies) n r) (w .session)
+    unfolding headerReply
+    in-stage n = ⊎-elim (λ q. ap (λ (x : Stage). stageReplyBy x (w .session) n r) q) (λ q. ap (λ (x : Stage). stageReplyBy x (w .session) n r) q) st
+
+    by : {s : copying.Said} (n : ℕ) → caseOf (w .session) r ≡ n → isBusy n ≡ false → copying.answerOf (w .session .copies) n r ≡ s → Next (w .session .copies .header) (w .drive) s → Safe last (w .drive) → After (replyOf (w .session) r)
+    by {s} n e b a x safe =
+        subst After (sym (reply-so (w .session) r (l .going) asked n e b ∙ in-stage n ∙ ap (λ y. headerReplyBy y (w .session)) a)) (onward s x safe)
+
+    repeated : {c : Command} (n : ℕ) → w .session .command ≡ c → caseOf (w .session) r ≡ n → isBusy n ≡ true → CopyAsks (w .session .copies) (w .drive) c → After (replyOf (w .session) r)
+    repeated n e z b y = subst After (sym (reply-busy (w .session) r (l .going) asked n z b)) (repeats (subst (λ (i : Command). CopyAsks (w .session .copies) (w .drive) i) (sym e) y))
+
+    busy-by : {c : Command} → Means r busy → w .session .command ≡ c → CopyAsks (w .session .copies) (w .drive) c → After (replyOf (w .session) r)
+    busy-by m e (copies.writes a p left y) = repeated 0x0A02 e (case-is (w .session) r (l .going) asked e m) refl (copies.writes a p left y)
+    busy-by m e (copies.asks y) = repeated 0x3402 e (case-is (w .session) r (l .going) asked e m) refl (copies.asks y)
+    busy-by m e (copies.seeks a p y) = repeated 0x2B02 e (case-is (w .session) r (l .going) asked e m) refl (copies.seeks a p y)
+
+    header-replies : (c : Command) → w .session .command ≡ c → CopyAnswered (w .session .copies) (w .drive) r c → After (replyOf (w .session) r)
+    unfolding copying.answerOf
+    header-replies c e (copies.taken a m x) = by 0x0A01 (case-is (w .session) r (l .going) asked e m) refl refl (taken-next (w .session .copies) (w .drive) (agree .counts) x) (answered-safe {r = r} (agree .counts) (copies.taken a m x))
+    header-replies c e (copies.counted m b x) = by 0x3401 (case-is (w .session) r (l .going) asked e m) refl refl (counted-next (w .session .copies) (w .drive) (agree .counts) (r .buffered) b x) (answered-safe {r = r} (agree .counts) (copies.counted m b x))
+    header-replies c e (copies.failed-write a m f p x) = by 0x0A03 (case-is (w .session) r (l .going) asked e m) refl refl (failed-next (w .session .copies) (w .drive) (agree .counts) (r .position .0) p f x) (inv.halted f)
+    header-replies c e (copies.failed-position m f p x) = by 0x3403 (case-is (w .session) r (l .going) asked e m) refl refl (failed-next (w .session .copies) (w .drive) (agree .counts) (r .position .0) p f x) (inv.halted f)
+    header-replies c e (copies.moved a m p none-left f at x) =
+        by 0x2B01 (case-is (w .session) r (l .going) asked e m) refl refl (located-next (w .session .copies) (w .drive) (agree .counts) (agree .placed) x none-left (at ∙ p)) (answered-safe {r = r} (agree .counts) (copies.moved a m p none-left f at x))
+    header-replies c e (copies.waits k m x) = busy-by m e x
+
+  pub opening-replies : (q : w .session .stage ≡ S.OpeningHeaders) → inv.Unstarted last (w .session .elements) (l .k) (l .edge) → CopiesAgree (w .session) (w .drive) (w .flight) → Copying (w .session) (w .drive) (recordings.answered r) → After (replyOf (w .session) r)
+  opening-replies q t agree (copies.replied _ a g x) =
+      header-replies (inl q) g a agree (λ _ y safe. opening-next q t g a y safe)
+      (λ y. live wr (more-live (inl q) g a (repeatedOf (w .session)) (l .going) refl refl refl refl (inv.opening q t (record { counts = agree .counts; placed = agree .placed; copying = copies.again refl refl y }))))
+      (w .session .command) refl x
+
+  pub closing-replies : (q : w .session .stage ≡ S.ClosingHeaders) → w .session .closed ≡ true → l .k ≡ length (w .accepted) + 1 → l .edge ≡ last + 1 → CopiesAgree (w .session) (w .drive) (w .flight) → Copying (w .session) (w .drive) (recordings.answered r) → After (replyOf (w .session) r)
+  closing-replies q c k0 e0 agree (copies.replied _ a g x) =
+      header-replies (inr q) g a agree (λ _ y safe. closing-next q c k0 e0 g a y safe)
+      (λ y. live wr (more-live (inr q) g a (repeatedOf (w .session)) (l .going) refl refl refl refl (inv.closing q c k0 e0 (record { counts = agree .counts; placed = agree .placed; copying = copies.again refl refl y }))))
+      (w .session .command) refl x

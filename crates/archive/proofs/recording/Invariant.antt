@@ -1,0 +1,136 @@
+-- What holds at every point of a recording's list. Assumes nothing.
+use Prim.Native.Nat.{ℕ, _+_, _≤_, _<_}
+use mathlib.Core.Path.{_≡_}
+use mathlib.Core.Bool.{Bool, true, false, _||_}
+use mathlib.Core.List.{List}
+use mathlib.Core.Logic.{_⊎_}
+use lib.ListN.{length}
+use Rattle.geometry.specs.Cartridge.{isUser, isHeader}
+use Rattle.geometry.specs.declared.address.Address.{Address}
+use Rattle.drive.specs.Listed.{Listed}
+use Rattle.archive.specs.Conduct.{Drive, AtRest}
+use Rattle.drive.specs.Senses.{meaningOf}
+use Rattle.archive.specs.Tape.{Cartridge}
+use Rattle.drive.specs.declared.command.Command.the-variants.{Write}
+use Rattle.drive.specs.declared.reply.Reply.{Reply}
+use Rattle.elements.specs.declared.state.Elements.{Elements}
+use Rattle.recording.specs.Session.{windowOf}
+use Rattle.recording.specs.declared.session.Recording.{Recording}
+use Rattle.recording.specs.declared.session.Stage.{Stage}
+use Rattle.recording.specs.declared.session.Stage.the-variants as S
+use Rattle.recording.proofs.ListedReplies.{OffHeaders}
+use Rattle.recording.proofs.Stages.{ElementStage}
+use Rattle.archive.specs.Recordings as recordings
+use Rattle.archive.specs.Recordings.{World}
+use Rattle.archive.specs.Demand.{Within}
+use Rattle.archive.proofs.tape.Scan.{Seen}
+use Rattle.archive.proofs.tape.Stands.{itemAt, Stands, Queue, StoredAs}
+use Rattle.archive.proofs.recording.HeaderCopies.{Carried, Copy, Below}
+use Rattle.archive.proofs.recording.CopiesLink.{CopiesAgree}
+use Rattle.archive.proofs.recording.ElementsLink.{Writing}
+
+-- what there is to write: the elements, and EOD once it is due
+abbrev pub totalOf : Stage → ℕ → ℕ
+totalOf S.OpeningHeaders n = n
+totalOf S.Elements n = n
+totalOf S.Eod n = n + 1
+totalOf S.ClosingHeaders n = n + 1
+totalOf S.Done n = n + 1
+
+-- the closing headers count one higher
+abbrev pub spareOf : Stage → ℕ
+spareOf S.OpeningHeaders = 1
+spareOf S.Elements = 1
+spareOf S.Eod = 1
+spareOf S.ClosingHeaders = 0
+spareOf S.Done = 0
+
+-- ---- the session alone
+
+pub record Counted (last n : ℕ) (s : Recording) : Type 0 where
+  pub wide : s .highest ≤ 63
+  pub held : s .elements .outstanding ≤ s .elements .pending
+  pub windowed : s .elements .pending ≤ s .highest + 1
+  pub numbered : s .elements .first .0 + s .elements .pending ≡ totalOf (s .stage) n
+  pub marks : length (s .elements .marks) ≡ 64
+  pub room : s .elements .limit .0 ≤ last + 1
+
+-- before the first LOCATE of the elements, which are to start from a number and an address: 0 and 10 in a fresh recording
+pub record StartsFrom (last : ℕ) (first outstanding : ℕ) (relocate : Bool) (target : ℕ) (k edge : ℕ) : Type 0 where
+  pub first-is : first ≡ k
+  pub none-out : outstanding ≡ 0
+  pub relocates : relocate ≡ true
+  pub target-is : target ≡ edge
+  pub roof : edge ≤ last
+  pub zone : (edge ≤ 2990) ⊎ (3000 ≤ edge)
+  pub spread : k + 10 ≤ edge
+
+abbrev pub Unstarted : ℕ → Elements → ℕ → ℕ → Type 0
+Unstarted last e k edge = StartsFrom last (e .first .0) (e .outstanding) (e .relocate) (e .target .0) k edge
+
+-- ---- the session and the drive, by stage
+
+pub data Course (last : ℕ) (w : World) (k edge : ℕ) : Type 0 where
+  opening : w .session .stage ≡ S.OpeningHeaders → Unstarted last (w .session .elements) k edge
+      → CopiesAgree (w .session) (w .drive) (w .flight) → Course last w k edge
+  writing : w .session .stage ≡ S.Elements → Writing last (w .session) (w .drive) k edge (w .flight) → Course last w k edge
+  ending : w .session .stage ≡ S.Eod → w .session .closed ≡ true → w .session .elements .pending ≡ 1
+      → Writing last (w .session) (w .drive) k edge (w .flight) → Course last w k edge
+  closing : w .session .stage ≡ S.ClosingHeaders → w .session .closed ≡ true → k ≡ length (w .accepted) + 1 → edge ≡ last + 1
+      → CopiesAgree (w .session) (w .drive) (w .flight) → Course last w k edge
+  finished : w .session .stage ≡ S.Done → w .session .closed ≡ true → k ≡ length (w .accepted) + 1 → edge ≡ last + 1
+      → w .flight ≡ recordings.none → w .session .awaiting ≡ false → w .session .again ≡ false → AtRest (w .drive)
+      → Copy (w .session .copies .header) (w .drive .tape) (last + 1) → Course last w k edge
+
+-- ---- tape and window, under the premises
+
+pub record Content (last pass : ℕ) (w : World) (k edge : ℕ) : Type 0 where
+  pub tape : Cartridge last (w .drive .tape)
+  pub seen : Seen last pass (w .accepted) (totalOf (w .session .stage) (length (w .accepted))) k edge (w .drive .tape)
+  pub below : Below last (w .session .copies .header) (w .drive .tape)
+  pub stored : (i : ℕ) → i < w .session .elements .pending
+      → StoredAs (itemAt (w .accepted) (w .session .elements .first .0 + i)) (w .window) (w .session .elements .marks) (windowOf (w .session)) (w .session .elements .first .0 + i)
+  -- frames behind a failed one are never written
+  pub queue : ElementStage (w .session) → w .drive .failed ≡ false → Queue last pass (w .accepted) k (w .drive .buffer)
+  pub sent : (a : Address) (f : List ℕ) → ElementStage (w .session) → w .flight ≡ recordings.sent (Write a) f
+      → Stands last pass (itemAt (w .accepted) (w .session .elements .first .0 + w .session .elements .outstanding)) (w .session .elements .first .0 + w .session .elements .outstanding) f
+
+-- ---- the whole
+
+pub record Live (last pass : ℕ) (premises : Type 0) (w : World) : Type 0 where
+  pub k : ℕ
+  pub edge : ℕ
+  pub going : w .session .ended ≡ false
+  pub counted : Counted last (length (w .accepted)) (w .session)
+  pub carried : Carried last pass (spareOf (w .session .stage)) (w .session .copies .header)
+  pub course : Course last w k edge
+  pub reported : w .reported ≡ true → w .session .stage ≡ S.Done
+  pub content : premises → w .unaltered ≡ true → Content last pass w k edge
+
+-- all that the drive may still write goes to addresses that are allowed
+pub data Safe (last : ℕ) (d : Drive) : Type 0 where
+  halted : d .failed ≡ true → Safe last d
+  allowed : ((i : ℕ) → i < length (d .buffer) → (isHeader (d .at + i) || isUser last (d .at + i)) ≡ true) → Safe last d
+
+-- a reply that is not listed is on the way, at which the session will end
+pub record Rejecting (last : ℕ) (w : World) : Type 0 where
+  pub reply : Reply
+  pub going : w .session .ended ≡ false
+  pub awaits : w .session .awaiting ≡ true
+  pub replied : w .flight ≡ recordings.answered reply
+  pub unlisted : Listed (w .session .command) (meaningOf (reply .key) (reply .asc) (reply .ascq)) → ⊥
+  pub off-headers : OffHeaders (w .session)
+  pub safe : Safe last (w .drive)
+  pub unreported : w .reported ≡ false
+
+-- the session has ended
+pub record Over (last : ℕ) (w : World) : Type 0 where
+  pub ended : w .session .ended ≡ true
+  pub none : w .flight ≡ recordings.none
+  pub safe : Safe last (w .drive)
+  pub unreported : w .reported ≡ false
+
+pub data Inv (last pass : ℕ) (premises : Type 0) (w : World) : Type 0 where
+  live : Within last (w .drive .written) → Live last pass premises w → Inv last pass premises w
+  rejecting : Within last (w .drive .written) → Rejecting last w → Inv last pass premises w
+  over : Within last (w .drive .written) → Over last w → Inv last pass premises w

@@ -1,0 +1,108 @@
+-- At every point of a recording's list where a command is with the drive, a reply to it is refused with 8 if and only if it is not listed,
+-- or brings a number that can't be. Assumes nothing.
+use Prim.Native.Nat.{ℕ}
+use mathlib.Core.Path.{_≡_, sym, subst, _∙_}
+use mathlib.Core.Bool.{true, false}
+use mathlib.Core.List.{List}
+use mathlib.Core.Logic.{_⊎_, inl, inr}
+use Rattle.geometry.specs.Cartridge.{isHeader}
+use Rattle.geometry.specs.declared.address.Address.{Address}
+use Rattle.geometry.proofs.Impossible.{never}
+use Rattle.drive.specs.Listed.{Listed}
+use Rattle.archive.specs.Conduct.{Drive}
+use Rattle.drive.specs.Senses.{meaningOf}
+use Rattle.drive.specs.declared.command.Command.{Command}
+use Rattle.drive.specs.declared.command.Command.the-variants.{Read, Write}
+use Rattle.drive.specs.declared.reply.Reply.{Reply}
+use Rattle.copies.specs.declared.state.Copies.{Copies}
+use Rattle.recording.specs.declared.session.Recording.{Recording}
+use Rattle.recording.proofs.Kept.{Held, heldOf}
+use Rattle.recording.proofs.ListedReplies.{OffHeaders, OnHeaders, Lawful, unlisted-refused, listed-taken}
+use Rattle.recording.proofs.Stages.{HeaderStage, ElementStage, header-not-element}
+use Rattle.archive.specs.Recordings as recordings
+use Rattle.archive.specs.Recordings.{World, refusal}
+use Rattle.archive.proofs.tape.Basics.{none-sent, answered-sent}
+use Rattle.archive.proofs.recording.CopiesLink as copies
+use Rattle.archive.proofs.recording.CopiesLink.{CopyAsks, Copying}
+use Rattle.archive.proofs.recording.CopiesMoves.{next-header}
+use Rattle.archive.proofs.recording.ElementsLink as elements
+use Rattle.archive.proofs.recording.ElementsLink.{Asks, Writing}
+use Rattle.archive.proofs.recording.ElementsMoves.{asks-off-header}
+use Rattle.archive.proofs.recording.Invariant as invariant
+use Rattle.archive.proofs.recording.Invariant.{Course, Live, Inv, live, rejecting, over}
+
+-- what a session has sent, and awaits the reply to
+pub record Issued (s : Recording) (c : Command) : Type 0 where
+  pub going : s .ended ≡ false
+  pub awaits : s .awaiting ≡ true
+  pub is : s .command ≡ c
+  pub stage : HeaderStage s ⊎ ElementStage s
+  pub no-read : (a : Address) → s .command ≡ Read a → ⊥
+  pub on-headers : OnHeaders s
+  pub off-headers : OffHeaders s
+
+copies-asked : {c : Copies} {d : Drive} {k : Command} → CopyAsks c d k → (a : Address) → k ≡ Write a → isHeader (a .0) ≡ true
+copies-asked {c} (copies.writes b p left l) a e = let same : b ≡ a = cc in subst (λ (x : Address). isHeader (x .0) ≡ true) same (subst (λ (x : ℕ). isHeader x ≡ true) (sym p) (next-header c left))
+copies-asked (copies.asks l) a e = never (cc)
+copies-asked (copies.seeks b p s) a e = never (cc)
+
+copies-read : {c : Copies} {d : Drive} {k : Command} → CopyAsks c d k → (a : Address) → k ≡ Read a → ⊥
+copies-read (copies.writes b p left l) a e = never (cc)
+copies-read (copies.asks l) a e = never (cc)
+copies-read (copies.seeks b p s) a e = never (cc)
+
+elements-read : {last : ℕ} {h : Held} {pending : ℕ} {d : Drive} {k edge : ℕ} {c : Command} → Asks last h pending d k edge c → (a : Address) → c ≡ Read a → ⊥
+elements-read (elements.writes b p due off low l) a e = never (cc)
+elements-read (elements.asks l) a e = never (cc)
+elements-read (elements.moves b m) a e = never (cc)
+
+module _ (w : World) (c : Command) (f : List ℕ) where
+  header-issued : w .session .ended ≡ false → HeaderStage (w .session) → Copying (w .session) (w .drive) (recordings.sent c f) → Issued (w .session) c
+  header-issued going st (copies.under-way _ _ awaits _ is _ asked) = record {
+    going = going;
+    awaits = awaits;
+    is = is;
+    stage = inl st;
+    no-read = λ a e. copies-read asked a (sym is ∙ e);
+    on-headers = λ _ a e. copies-asked asked a (sym is ∙ e);
+    off-headers = λ el. header-not-element (w .session) st el;
+  }
+
+  element-issued : {last k edge : ℕ} → w .session .ended ≡ false → ElementStage (w .session) → Writing last (w .session) (w .drive) k edge (recordings.sent c f) → Issued (w .session) c
+  element-issued {last} {k} {edge} going st (elements.under-way _ _ awaits _ is asked) = record {
+    going = going;
+    awaits = awaits;
+    is = is;
+    stage = inr st;
+    no-read = λ a e. elements-read asked a (sym is ∙ e);
+    on-headers = λ h. header-not-element (w .session) h st;
+    off-headers = λ _ a e. asks-off-header (subst (λ (x : Command). Asks last (heldOf (w .session)) (w .session .elements .pending) (w .drive) k edge x) (sym is ∙ e) asked);
+  }
+
+module _ {last pass : ℕ} {premises : Type 0} (w : World) (c : Command) (f : List ℕ) (q : w .flight ≡ recordings.sent c f) where
+  live-issued : (l : Live last pass premises w) → Course last w (l .k) (l .edge) → Issued (w .session) c
+  live-issued l (invariant.opening st _ agree) = header-issued w c f (l .going) (inl st) (subst (Copying (w .session) (w .drive)) q (agree .copying))
+  live-issued l (invariant.writing st a) = element-issued w c f (l .going) (inl st) (subst (Writing last (w .session) (w .drive) (l .k) (l .edge)) q a)
+  live-issued l (invariant.ending st _ _ a) = element-issued w c f (l .going) (inr st) (subst (Writing last (w .session) (w .drive) (l .k) (l .edge)) q a)
+  live-issued l (invariant.closing st _ _ _ agree) = header-issued w c f (l .going) (inr st) (subst (Copying (w .session) (w .drive)) q (agree .copying))
+  live-issued l (invariant.finished _ _ _ _ none _ _ _ _) = none-sent (sym none ∙ q)
+
+  pub issued : Inv last pass premises w → Issued (w .session) c
+  issued (live _ l) = live-issued l (l .course)
+  issued (rejecting _ d) = answered-sent (sym (d .replied) ∙ q)
+  issued (over _ o) = none-sent (sym (o .none) ∙ q)
+
+  module _ (i : Inv last pass premises w) (r : Reply) where
+    abbrev Meant : Type 0
+    Meant = Listed c (meaningOf (r .key) (r .asc) (r .ascq))
+
+    pub unlisted-8 : (Meant → ⊥) → refusal (w .session) (recordings.reply r) ≡ 8
+    unlisted-8 h =
+        let x = issued i in
+        unlisted-refused (w .session) r (x .going) (x .awaits) (x .off-headers) (λ y. h (subst (λ (k : Command). Listed k (meaningOf (r .key) (r .asc) (r .ascq))) (x .is) y))
+
+    pub listed-not-8 : Lawful (w .session) r → Meant → refusal (w .session) (recordings.reply r) ≡ 8 → ⊥
+    listed-not-8 p h =
+        let x = issued i in
+        listed-taken (w .session) r (x .stage) (x .no-read) (x .on-headers) p
+        (subst (λ (k : Command). Listed k (meaningOf (r .key) (r .asc) (r .ascq))) (sym (x .is)) h)

@@ -1,0 +1,85 @@
+-- The frame that a fetch builds stands for the element that is due. Assumes nothing.
+use Prim.Native.Nat.{ℕ, _+_, _%_, _^_, _≤_, _<_}
+use mathlib.Core.Path.{_≡_, sym, ap, subst, _∙_}
+use mathlib.Core.Bool.{Bool}
+use mathlib.Core.List.{List}
+use mathlib.Core.Logic.{_⊎_, inl, inr}
+use native.Mathlib.Nat.{mod-eq-of-lt}
+use native.Mathlib.Omega.{arith}
+use lib.ListN.{length, getD, take}
+use Rattle.geometry.specs.Pick.{pick}
+use Rattle.frame.specs.Frame.{dataBytes}
+use Rattle.frame.specs.declared.element.Kind.{Kind}
+use Rattle.frame.specs.declared.element.Kind.the-variants.{Data, Marker, Eod}
+use Rattle.judgement.specs.Judgement.{judgeFrame, foundSaid}
+use Rattle.elements.specs.Elements as elements
+use Rattle.recording.specs.Session.{windowOf, windowLength}
+use Rattle.recording.specs.Window.{blockAt}
+use Rattle.recording.specs.Fetch.{kindBy, kindOf, elementPlace, writtenElement, writtenBy, writtenFrame}
+use Rattle.recording.specs.declared.session.Recording.{Recording}
+use Rattle.recording.specs.declared.session.Stage.{Stage}
+use Rattle.recording.specs.declared.session.Stage.the-variants as S
+use Rattle.archive.specs.Recordings.{Element, block, filemark}
+use Rattle.archive.proofs.tape.Basics.{reads-itself}
+use Rattle.archive.proofs.tape.WrittenFrames.{written-judged, written-data}
+use Rattle.archive.proofs.tape.Stands.{Item, element, eod, itemAt, kindFor, Carries, Stands, StoredAs}
+use Rattle.archive.proofs.tape.StandsLaws.{item-in, item-past}
+
+module _ (last pass : ℕ) (s : Recording) (window : List ℕ) (xs : List Element) (last-is : s .copies .header .last .0 ≡ last) (pass-is : s .copies .header .pass ≡ pass) (low : pass ≤ 65534)
+    (long : length window ≡ windowLength s) (small : s .elements .first .0 + s .elements .outstanding < 2 ^ 32) where
+  abbrev number : ℕ
+  number = s .elements .first .0 + s .elements .outstanding
+
+  exact : elements.numberOf (s .elements) (s .elements .outstanding) ≡ s .elements .first .0 + s .elements .outstanding
+  exact = mod-eq-of-lt small
+
+  found : judgeFrame last pass (s .elements .first .0 + s .elements .outstanding) (writtenElement s window) ≡ foundSaid (kindOf s)
+  found =
+      sym (ap (λ (n : ℕ). judgeFrame n pass (s .elements .first .0 + s .elements .outstanding) (writtenElement s window)) last-is)
+      ∙ sym (ap (λ (n : ℕ). judgeFrame (s .copies .header .last .0) n (s .elements .first .0 + s .elements .outstanding) (writtenElement s window)) pass-is)
+      ∙ sym (ap (λ (n : ℕ). judgeFrame (s .copies .header .last .0) (s .copies .header .pass) n (writtenElement s window)) exact)
+      ∙ written-judged s window long (omega (arith, pass-is)) (reads-itself (writtenElement s window))
+
+  place-is : elementPlace s ≡ (s .elements .first .0 + s .elements .outstanding) % windowOf s
+  place-is = ap (λ (n : ℕ). n % windowOf s) exact
+
+  data-is : {k : Kind} → kindOf s ≡ k → take 32768 (writtenElement s window) ≡ dataBytes k (blockAt window ((s .elements .first .0 + s .elements .outstanding) % windowOf s))
+  data-is {k} e = written-data s window long ∙ ap (λ (x : Kind). dataBytes x (blockAt window (elementPlace s))) e ∙ ap (λ (n : ℕ). dataBytes k (blockAt window n)) place-is
+
+  stands-as : (x : Item) → kindOf s ≡ kindFor x → Carries x (writtenElement s window) → Stands last pass x (s .elements .first .0 + s .elements .outstanding) (writtenElement s window)
+  stands-as x kind carries = record { found = found ∙ ap foundSaid kind; carries = carries }
+
+  -- an element, as the window and the marks have it
+  element-stands : (x : Element) → s .stage ≡ S.Elements → StoredAs (element x) window (s .elements .marks) (windowOf s) (s .elements .first .0 + s .elements .outstanding)
+      → Stands last pass (element x) (s .elements .first .0 + s .elements .outstanding) (writtenElement s window)
+  element-stands (block b) st stored =
+      let kind : kindOf s ≡ Data = ap (λ (y : Stage). kindBy y (elements.isMark (s .elements))) st ∙ ap (λ (m : Bool). pick m Marker Data) (stored .1) in
+      stands-as (element (block b)) kind (data-is kind ∙ stored .0)
+  element-stands filemark st stored =
+      let kind : kindOf s ≡ Marker = ap (λ (y : Stage). kindBy y (elements.isMark (s .elements))) st ∙ ap (λ (m : Bool). pick m Marker Data) stored in
+      stands-as (element filemark) kind tt
+
+  eod-stands : s .stage ≡ S.Eod → Stands last pass eod (s .elements .first .0 + s .elements .outstanding) (writtenElement s window)
+  eod-stands st = stands-as eod (ap (λ (y : Stage). kindBy y (elements.isMark (s .elements))) st) tt
+
+  written-is : (s .stage ≡ S.Elements) ⊎ (s .stage ≡ S.Eod) → writtenFrame s window ≡ writtenElement s window
+  unfolding writtenFrame
+  written-is (inl st) = ap (λ (y : Stage). writtenBy y s window) st
+  written-is (inr st) = ap (λ (y : Stage). writtenBy y s window) st
+
+  pub sent-element : s .stage ≡ S.Elements → s .elements .first .0 + s .elements .outstanding < length xs
+      → StoredAs (itemAt xs (s .elements .first .0 + s .elements .outstanding)) window (s .elements .marks) (windowOf s) (s .elements .first .0 + s .elements .outstanding)
+      → Stands last pass (itemAt xs (s .elements .first .0 + s .elements .outstanding)) (s .elements .first .0 + s .elements .outstanding) (writtenFrame s window)
+  sent-element st inside stored =
+      let n = s .elements .first .0 + s .elements .outstanding in
+      let is = item-in xs n inside in
+      subst (λ (f : List ℕ). Stands last pass (itemAt xs n) n f) (sym (written-is (inl st)))
+      (subst (λ (x : Item). Stands last pass x n (writtenElement s window)) (sym is)
+      (element-stands (getD xs n filemark) st (subst (λ (x : Item). StoredAs x window (s .elements .marks) (windowOf s) n) is stored)))
+
+  pub sent-eod : s .stage ≡ S.Eod → s .elements .first .0 + s .elements .outstanding ≡ length xs
+      → Stands last pass (itemAt xs (s .elements .first .0 + s .elements .outstanding)) (s .elements .first .0 + s .elements .outstanding) (writtenFrame s window)
+  sent-eod st all =
+      let n = s .elements .first .0 + s .elements .outstanding in
+      subst (λ (f : List ℕ). Stands last pass (itemAt xs n) n f) (sym (written-is (inr st)))
+      (subst (λ (x : Item). Stands last pass x n (writtenElement s window)) (sym (item-past xs n (omega (arith, all)))) (eod-stands st))

@@ -1,0 +1,258 @@
+-- What the geometry and an opening fix, and that the invariant holds at the start. Assumes nothing.
+use Prim.Native.Nat.{ℕ, _+_, _-_, _*_, _%_, _^_, _≤_, _<_}
+use mathlib.Core.Path.{_≡_, refl, sym, ap, subst, _∙_}
+use mathlib.Core.Bool.{Bool, true, false, _||_, true≢false}
+use mathlib.Core.List.{List, []}
+use mathlib.Core.Logic.{_⊎_, inl, inr, ⊎-elim}
+use native.Mathlib.Nat.{le-refl, mod-eq-of-lt, mul-le-mul}
+use native.Mathlib.Omega.{arith}
+use borrow.Author.Tests.{ltb-false, leb-false}
+use lib.Dec.{eqb, ltb, leb}
+use lib.ListN.{length, length-replicate}
+use Rattle.geometry.specs.Said.{Said, address, refused}
+use Rattle.geometry.specs.Cartridge.{trackFrames, framesOf, lastOf, isUser}
+use Rattle.geometry.specs.declared.cartridge.Geometry.{Geometry}
+use Rattle.geometry.specs.declared.cartridge.LoadPoint.{LoadPoint}
+use Rattle.geometry.specs.declared.cartridge.LoadPoint.the-variants.{Beginning, Centre}
+use Rattle.geometry.proofs.PickLaws.{pick-by}
+use Rattle.geometry.proofs.TestLaws.{or-false}
+use Rattle.geometry.proofs.Impossible.{never}
+use Rattle.frame.specs.declared.header.Header.{Header}
+use Rattle.header.specs.Valid.{validHeader, headerOf}
+use Rattle.header.proofs.Facts.{valid-last}
+use Rattle.archive.specs.Conduct.{Drive, AtRest}
+use Rattle.archive.specs.Tape.{Tape, Cartridge}
+use Rattle.copies.proofs.Counts.{start-counts}
+use Rattle.copies.proofs.DueAddress.{start-placed}
+use Rattle.recording.specs.Session.{Result, accepting}
+use Rattle.recording.specs.Open.{fresh, openRefused, openWith, isExhausted, renewed, openingHeader, openOn, openFor, openOf, openBlankFor, openBlankOf}
+use Rattle.recording.specs.declared.session.Recording.{Recording}
+use Rattle.recording.specs.declared.session.Stage.the-variants as S
+use Rattle.archive.specs.Recordings as recordings
+use Rattle.archive.specs.Demand as demand
+use Rattle.archive.specs.Demand.{newPass, Opening, on-header, on-none, opened, OnNewest, NoneBears}
+use Rattle.archive.proofs.tape.Scan.{going, scan, Seen}
+use Rattle.archive.proofs.tape.ScanLaws.{seen-part, scan-over}
+use Rattle.archive.proofs.tape.UserPlaces.{User, user-ranges}
+use Rattle.archive.proofs.recording.HeaderCopies.{Carried, Below}
+use Rattle.archive.proofs.recording.CopiesLink.{to-seek}
+use Rattle.archive.proofs.recording.Invariant as inv
+use Rattle.archive.proofs.recording.Invariant.{Inv, live}
+use Rattle.archive.proofs.recording.Setting.{Setting, Premises}
+
+-- ---- the geometry
+
+pub record Frames (g : Geometry) (last : ℕ) : Type 0 where
+  pub large : 3000 ≤ last
+  pub most : last + 1 ≡ framesOf g
+
+address-same : {a b : ℕ} → _≡_ {A = Said} (address a) (address b) → a ≡ b
+address-same e = cc
+
+refused-address : {X : Type 0} {a b : ℕ} → _≡_ {A = Said} (refused a) (address b) → X
+refused-address e = never (cc)
+
+frames-of : (g : Geometry) (last : ℕ) → lastOf g ≡ address last → Frames g last
+frames-of g last =
+    pick-by (λ (s : Said). s ≡ address last → Frames g last) (ltb (framesOf g) 3001) (λ _ e. refused-address e)
+    (λ few e. let n = ltb-false (framesOf g) 3001 few in let same : framesOf g - 1 ≡ last = address-same e in record { large = omega arith; most = omega arith })
+
+track-low : (l : LoadPoint) (n : ℕ) → trackFrames l n ≤ n
+track-low Beginning n = le-refl n
+track-low Centre n = omega arith
+
+last-small : (g : Geometry) (last : ℕ) → g .segtrk < 2 ^ 16 → g .trks < 2 ^ 16 → Frames g last → last + 65 < 2 ^ 32
+last-small g last seg trk f =
+    let tracks : trackFrames (g .load) (g .segtrk) ≤ 65535 = omega (arith, track-low (g .load) (g .segtrk)) in
+    let rows : g .trks ≤ 65535 = omega arith in
+    let all : framesOf g ≤ 65535 * 65535 = mul-le-mul tracks rows in
+    omega (arith, f .most, all)
+
+-- ---- an opening that was accepted
+
+pub record Started (last : ℕ) (s : Recording) : Type 0 where
+  pub depth : ℕ
+  pub highest : ℕ
+  pub header : Header
+  pub is : fresh depth highest header ≡ s
+  pub narrow : highest ≤ 63
+  pub last-is : header .last .0 ≡ last
+  pub pass-low : header .pass ≤ 65534
+  pub eod-zero : header .eod .0 ≡ 0
+  pub count-fits : header .update + 1 < 2 ^ 32
+
+refused-accepting : {X : Type 0} {s : Recording} (n : ℕ) → 1 ≤ n → openRefused n ≡ accepting s → X
+refused-accepting n l e = let z : n ≡ 0 = ap (λ (r : Result). r .number) e in absurd (omega arith)
+
+opened-with : (depth blocks : ℕ) (exhausted : Bool) (h : Header) (s : Recording) → openWith depth blocks exhausted h ≡ accepting s → (fresh depth (blocks - 1) h ≡ s) × (blocks ≤ 64) × (exhausted ≡ false)
+unfolding openWith
+opened-with depth blocks exhausted h s =
+    pick-by (λ (r : Result). r ≡ accepting s → (fresh depth (blocks - 1) h ≡ s) × (blocks ≤ 64) × (exhausted ≡ false)) (eqb depth 0 || (eqb blocks 0 || ltb 64 blocks)) (λ _ e. refused-accepting 4 (omega arith) e)
+    (λ sizes. pick-by (λ (r : Result). r ≡ accepting s → (fresh depth (blocks - 1) h ≡ s) × (blocks ≤ 64) × (exhausted ≡ false)) exhausted (λ _ e. refused-accepting 5 (omega arith) e)
+    (λ x e.
+    let widths = or-false (eqb blocks 0) (ltb 64 blocks) (or-false (eqb depth 0) (eqb blocks 0 || ltb 64 blocks) sizes .1) in
+    (ap (λ (r : Result). r .session) e, ltb-false 64 blocks (widths .1), x)))
+
+module _ (g : Geometry) (last depth blocks : ℕ) (s : Recording) (e : lastOf g ≡ address last) where
+  pub record OnHeader (h : List ℕ) : Type 0 where
+    pub valid : validHeader last h ≡ true
+    pub with : (fresh depth (blocks - 1) (renewed (headerOf h)) ≡ s) × (blocks ≤ 64) × (isExhausted (headerOf h) ≡ false)
+
+  on-header-view : (h : List ℕ) → openOf g depth blocks h ≡ accepting s → OnHeader h
+  unfolding openOf openOn
+  on-header-view h =
+      pick-by (λ (r : Result). r ≡ accepting s → OnHeader h) (eqb (length h) 33280)
+      (λ _ q. pick-by (λ (r : Result). r ≡ accepting s → OnHeader h) (validHeader last h) (λ v x. record { valid = v; with = opened-with depth blocks (isExhausted (headerOf h)) (renewed (headerOf h)) s x }) (λ _ x. refused-accepting 3 (omega arith) x) (sym (ap (λ (y : Said). openFor y depth blocks h) e) ∙ q))
+      (λ _ q. refused-accepting 1 (omega arith) q)
+
+  fresh-counts : (h : List ℕ) → OnHeader h → (headerOf h .pass < 65534) × (headerOf h .update ≤ 4294967293)
+  fresh-counts h o =
+      let x = or-false (leb 65534 (headerOf h .pass)) (ltb 4294967293 (headerOf h .update)) (o .with .2) in
+      (leb-false 65534 (headerOf h .pass) (x .0), ltb-false 4294967293 (headerOf h .update) (x .1))
+
+  started-header : (h : List ℕ) → OnHeader h → Started last s
+  started-header h o =
+      let x = fresh-counts h o in
+      let small : (headerOf h .pass + 1) % 2 ^ 16 ≡ headerOf h .pass + 1 = mod-eq-of-lt (let y = x .0 in omega arith) in
+      let few : (headerOf h .update + 1) % 2 ^ 32 ≡ headerOf h .update + 1 = mod-eq-of-lt (let y = x .1 in omega arith) in
+      record {
+        depth = depth;
+        highest = blocks - 1;
+        header = renewed (headerOf h);
+        is = o .with .0;
+        narrow = let y = o .with .1 in omega arith;
+        last-is = valid-last last h (o .valid);
+        pass-low = let y = x .0 in omega (arith, small);
+        eod-zero = refl;
+        count-fits = let y = x .1 in omega (arith, few);
+      }
+
+  blank-with : openBlankOf g depth blocks ≡ accepting s → (fresh depth (blocks - 1) (openingHeader last 1 0) ≡ s) × (blocks ≤ 64) × (false ≡ false)
+  unfolding openBlankOf
+  blank-with q = opened-with depth blocks false (openingHeader last 1 0) s (sym (ap (λ (y : Said). openBlankFor y depth blocks) e) ∙ q)
+
+  started-none : openBlankOf g depth blocks ≡ accepting s → Started last s
+  started-none q =
+      let o = blank-with q in
+      record {
+        depth = depth;
+        highest = blocks - 1;
+        header = openingHeader last 1 0;
+        is = o .0;
+        narrow = let y = o .1 in omega arith;
+        last-is = refl;
+        pass-low = omega arith;
+        eod-zero = refl;
+        count-fits = omega arith;
+      }
+
+  pub started-as : (o : Opening) → opened g depth blocks o ≡ accepting s → Started last s
+  started-as (on-header h) q = started-header h (on-header-view h q)
+  started-as on-none q = started-none q
+
+  pub pass-is : (o : Opening) → opened g depth blocks o ≡ accepting s → s .copies .header .pass ≡ newPass o
+  pass-is (on-header h) q =
+      let o = on-header-view h q in
+      let small : (headerOf h .pass + 1) % 2 ^ 16 ≡ headerOf h .pass + 1 = mod-eq-of-lt (let y = fresh-counts h o .0 in omega arith) in
+      sym (ap (λ (r : Recording). r .copies .header .pass) (o .with .0)) ∙ small
+  pass-is on-none q = sym (ap (λ (r : Recording). r .copies .header .pass) (blank-with q .0))
+
+  -- every valid header that the cartridge holds counts less
+  pub starts-below : (t : Tape) (o : Opening) → opened g depth blocks o ≡ accepting s → OnNewest last t o → Below last (s .copies .header) t
+  starts-below t (on-header h) q n a f at =
+      let o = on-header-view h q in
+      let x = fresh-counts h o in
+      let few : (headerOf h .update + 1) % 2 ^ 32 ≡ headerOf h .update + 1 = mod-eq-of-lt (let y = x .1 in omega arith) in
+      let is : renewed (headerOf h) .update ≡ s .copies .header .update = ap (λ (r : Recording). r .copies .header .update) (o .with .0) in
+      inl (omega (arith, n .highest a f at, few, is))
+  starts-below t on-none q n a f at = absurd (n a f at)
+
+pub sets : (g : Geometry) (last depth blocks : ℕ) (o : Opening) (s : Recording) → g .segtrk < 2 ^ 16 → g .trks < 2 ^ 16 → lastOf g ≡ address last
+    → opened g depth blocks o ≡ accepting s → Setting last (s .copies .header .pass)
+sets g last depth blocks o s seg trk e q =
+    let f = frames-of g last e in
+    let x = started-as g last depth blocks s e o q in
+    record {
+      large = f .large;
+      small = last-small g last seg trk f;
+      low = subst (λ (r : Recording). r .copies .header .pass ≤ 65534) (x .is) (x .pass-low);
+    }
+
+-- ---- the start
+
+nothing-seen : (last pass : ℕ) (t : Tape) → Cartridge last t → NoneBears last t pass → Seen last pass [] 0 0 10 t
+unfolding scan
+nothing-seen last pass t cart none = record {
+  m = 0;
+  low = le-refl 0;
+  high = omega arith;
+  top = le-refl 0;
+  seen = scan-over last pass t (cart .long) 0 10 (omega arith) (λ c f l u w _ _. low c u (user-ranges last c w)) ∙ sym (seen-part [] 0 (le-refl 0));
+  clean = λ a f l u q. none a f u q;
+}
+  where
+    low : (c : ℕ) → c < 10 → User last c → ⊥
+    low c u (inl h) = let x = h .0 in omega arith
+    low c u (inr h) = let x = h .0 in omega arith
+
+not-element : (S.OpeningHeaders ≡ S.Elements) ⊎ (S.OpeningHeaders ≡ S.Eod) → ⊥
+not-element (inl a) = never (cc)
+not-element (inr a) = never (cc)
+
+begins-fresh : (last : ℕ) (d : Drive) (window : List ℕ) (s : Recording) (x : Started last s) (premises : Type 0) → Setting last (s .copies .header .pass) → d .written ≡ [] → AtRest d
+    → (premises → Cartridge last (d .tape) × NoneBears last (d .tape) (s .copies .header .pass) × Below last (s .copies .header) (d .tape)) → Inv last (s .copies .header .pass) premises (recordings.started s window d)
+begins-fresh last d window s x premises set unwritten rest pre =
+    live (subst (demand.Within last) (sym unwritten) demand.none) (record {
+      k = 0;
+      edge = 10;
+      going = ap (λ (r : Recording). r .ended) (sym (x .is));
+      counted = subst (λ (r : Recording). inv.Counted last 0 r) (x .is) (record {
+        wide = x .narrow;
+        held = le-refl 0;
+        windowed = omega arith;
+        numbered = refl;
+        marks = length-replicate {A = Bool} 64 false;
+        room = room;
+      });
+      carried = subst (λ (r : Recording). Carried last (r .copies .header .pass) (inv.spareOf (r .stage)) (r .copies .header)) (x .is) (record {
+        last-is = x .last-is;
+        pass-is = refl;
+        eod-fits = ap (λ (n : ℕ). eqb n 0 || isUser last n) (x .eod-zero);
+        count-fits = x .count-fits;
+      });
+      course = subst (λ (r : Recording). inv.Course last (recordings.started r window d) 0 10) (x .is)
+          (inv.opening refl (record { first-is = refl; none-out = refl; relocates = refl; target-is = refl; roof = omega (arith, set .large); zone = inl (omega arith); spread = le-refl 10 }) (record {
+            counts = start-counts (x .header);
+            placed = start-placed (x .header);
+            copying = to-seek refl refl (record { due = refl; rests = rest; kept = inl refl });
+          }));
+      reported = λ e. absurd (true≢false (sym e));
+      content = λ p _.
+          let c = pre p in
+          record {
+            tape = c .0;
+            seen = subst (λ (n : ℕ). Seen last (s .copies .header .pass) [] n 0 10 (d .tape)) (ap (λ (r : Recording). inv.totalOf (r .stage) 0) (x .is)) (nothing-seen last (s .copies .header .pass) (d .tape) (c .0) (c .1));
+            below = c .2;
+            stored = λ i h. absurd (none-pending i h);
+            queue = λ st _. absurd (opening-stage st);
+            sent = λ _ _ st _. absurd (opening-stage st);
+          };
+    })
+  where
+    room : (x .header .last .0 + 1) % 2 ^ 32 ≤ last + 1
+    room = let e : (x .header .last .0 + 1) % 2 ^ 32 ≡ x .header .last .0 + 1 = mod-eq-of-lt (omega (arith, x .last-is, set .small)) in omega (arith, x .last-is)
+
+    none-pending : (i : ℕ) → i < s .elements .pending → ⊥
+    none-pending i h = let e : 0 ≡ s .elements .pending = ap (λ (r : Recording). r .elements .pending) (x .is) in omega arith
+
+    opening-stage : (s .stage ≡ S.Elements) ⊎ (s .stage ≡ S.Eod) → ⊥
+    opening-stage st =
+        let e : S.OpeningHeaders ≡ s .stage = ap (λ (r : Recording). r .stage) (x .is) in
+        not-element (⊎-elim (λ q. inl (e ∙ q)) (λ q. inr (e ∙ q)) st)
+
+pub begins : (g : Geometry) (last depth blocks : ℕ) (d : Drive) (o : Opening) (s : Recording) (window : List ℕ) → lastOf g ≡ address last
+    → Setting last (s .copies .header .pass) → Cartridge last (d .tape) → d .written ≡ [] → AtRest d → opened g depth blocks o ≡ accepting s
+    → Inv last (s .copies .header .pass) (Premises last (s .copies .header .pass) (d .tape) o) (recordings.started s window d)
+begins g last depth blocks d o s window e set cart unwritten rest q =
+    begins-fresh last d window s (started-as g last depth blocks s e o q) (Premises last (s .copies .header .pass) (d .tape) o) set unwritten rest
+    (λ p. (cart, p .1, starts-below g last depth blocks s e (d .tape) o q (p .0)))

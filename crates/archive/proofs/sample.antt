@@ -1,0 +1,10 @@
+pub mod Exchange
+pub mod Flush
+pub mod Headers
+pub mod Tapes
+pub mod Elements
+pub mod FirstRecording
+pub mod ReadingExchange
+pub mod FirstReading
+pub mod SecondRecording
+pub mod SecondReading

@@ -1,0 +1,119 @@
+-- One call of a sample recording, and one exchange: a fetch that gives a command, the drive's answer, and its reply. Assumes nothing.
+use Prim.Native.Nat.{ℕ, _≤_}
+use mathlib.Core.Path.{_≡_, refl, sym, ap, subst, _∙_}
+use mathlib.Core.Bool.{Bool, true, false, _&&_, _||_}
+use mathlib.Core.List.{List, [], _∷_, _++_}
+use mathlib.Core.Logic.{inl}
+use native.Mathlib.Omega.{arith}
+use lib.ListN.{length}
+use Rattle.buffer.proofs.Agreement.{agree-same}
+use Rattle.buffer.specs.Bytes.{agree}
+use Rattle.frame.proofs.Frames.{header-length}
+use Rattle.archive.specs.Conduct.{Drive, Acts, Answers}
+use Rattle.drive.specs.declared.command.Command.{Command}
+use Rattle.drive.specs.declared.reply.Reply.{Reply}
+use Rattle.drive.proofs.Cases.{command-by}
+use Rattle.recording.specs.Session.{Result, windowLength, accepting, refusing}
+use Rattle.recording.specs.Accept.{Stored, blockOf, filemarkOf, closeOf}
+use Rattle.recording.specs.Fetch as decision
+use Rattle.recording.specs.Fetch.{Fetching, decisionOf, send, awaits, frameFor, sending, answering, fetchOf}
+use Rattle.recording.specs.Reply.{replyOf}
+use Rattle.recording.specs.declared.session.Recording.{Recording}
+use Rattle.recording.proofs.FetchView.{fetch-decided}
+use Rattle.archive.specs.Recordings.{Element, block, filemark, Flight, none, sent, answered, World, Call, accept-block, accept-filemark, close, fetch, reply, refusal, returned, windowAfter, fetchNumber, flightAfter, reportedAfter, Calls, refuses, accepts-block, accepts-filemark, closes, fetches, replies, acts, answers, Runs, stop, call, drive}
+use Rattle.archive.specs.Sample.{firstOpening, frame}
+
+pub framed : length frame ≡ 33280
+framed = header-length firstOpening
+
+-- a command that is due in a session with W 1, and the session after its reply
+pub record Step (s : Recording) (c : Command) (r : Reply) (next : Recording) : Type 0 where
+  pub free : s .ended || s .awaiting ≡ false
+  pub sized : windowLength s ≡ 32768
+  pub decided : decisionOf s ≡ send c
+  pub replied : replyOf (awaits s c) r ≡ accepting next
+
+module _ (window : List ℕ) (accepted : List Element) where
+  abbrev pub world : Recording → Drive → Flight → World
+  world s d f = record { session = s; window = window; unaltered = true; drive = d; flight = f; accepted = accepted; reported = false }
+
+  -- between two commands
+  abbrev pub between : Recording → Drive → World
+  between s d = world s d none
+
+  -- the close has reported done
+  abbrev pub reported : Recording → Drive → World
+  reported s d = record { session = s; window = window; unaltered = true; drive = d; flight = none; accepted = accepted; reported = true }
+
+  abbrev fetchedWorld : Drive → Bool → Fetching → World
+  fetchedWorld d same x = record {
+    session = x .session;
+    window = window;
+    unaltered = same;
+    drive = d;
+    flight = flightAfter (x .said) none (x .frame);
+    accepted = accepted;
+    reported = reportedAfter (x .said) false;
+  }
+
+module _ (window : List ℕ) (accepted : List Element) (s : Recording) (d : Drive) where
+  fetched : length window ≡ windowLength s → s .ended || s .awaiting ≡ false → (x : decision.Decision) → decisionOf s ≡ x → fetchNumber (answering x s window frame .said) ≡ 0
+      → Calls (between window accepted s d) (fetch window frame) (fetchedWorld window accepted d true (answering x s window frame))
+  fetched long free x decided small =
+      let e : fetchOf s window frame ≡ answering x s window frame = fetch-decided s window frame free long framed decided in
+      let p : fetchedWorld window accepted d (true && agree window window) (fetchOf s window frame) ≡ fetchedWorld window accepted d true (answering x s window frame) = ap (λ b. fetchedWorld window accepted d b (fetchOf s window frame)) (agree-same window) ∙ ap (λ y. fetchedWorld window accepted d true y) e in
+      subst (λ v. Calls (between window accepted s d) (fetch window frame) v) p (fetches window frame (inl (ap (λ y. fetchNumber (y .said)) e ∙ small)))
+
+  -- a last fetch answers done
+  pub done : length window ≡ windowLength s → s .ended || s .awaiting ≡ false → decisionOf s ≡ decision.done
+      → Runs (between window accepted s d) (fetch window frame ∷ []) (reported window accepted s d)
+  done long free decided = call (fetched long free decision.done decided refl) stop
+
+  -- the world after a block is stored
+  abbrev storedWorld : List ℕ → Bool → Stored → World
+  storedWorld b same x = record { session = x .result .session; window = x .window; unaltered = same; drive = d; flight = none; accepted = accepted ++ block b ∷ []; reported = false }
+
+module _ (window : List ℕ) (accepted : List Element) (s : Recording) (d : Drive) {cs : List Call} {u : World} where
+  -- what the drive does by itself
+  pub acting : {e : Drive} → Acts d e → Runs (between window accepted s e) cs u → Runs (between window accepted s d) cs u
+  acting a rest = drive (acts _ a) rest
+
+  pub exchange : {next : Recording} {e : Drive} {c : Command} {r : Reply} → length window ≡ 32768 → Step s c r next → Answers d (frameFor c s window frame) c r e
+      → Runs (between window accepted next e) cs u → Runs (between window accepted s d) (fetch window frame ∷ reply r ∷ cs) u
+  unfolding sending
+  exchange {next} {e} {c} {r} long step answer rest =
+      let w : World = world window accepted (awaits s c) e (answered r) in
+      let p : between window accepted (replyOf (awaits s c) r .session) e ≡ between window accepted next e = ap (λ (x : Result). between window accepted (x .session) e) (step .replied) in
+      let t : Calls w (reply r) (between window accepted next e) = subst (λ v. Calls w (reply r) v) p (replies r refl (inl (ap (λ (x : Result). x .number) (step .replied)))) in
+      call (fetched window accepted s d (long ∙ sym (step .sized)) (step .free) (send c) (step .decided) refl) (drive (answers c (frameFor c s window frame) r e (ap (λ (x : Command). sent x (frameFor c s window frame)) (command-by c)) answer) (call t rest))
+
+  pub filemark-accepted : {next : Recording} → filemarkOf s ≡ accepting next → Runs (between window (accepted ++ filemark ∷ []) next d) cs u → Runs (between window accepted s d) (accept-filemark ∷ cs) u
+  filemark-accepted {next} e rest =
+      call
+      (subst (λ v. Calls (between window accepted s d) accept-filemark v) (ap (λ (x : Result). between window (accepted ++ filemark ∷ []) (x .session) d) e)
+      (accepts-filemark (inl (ap (λ (x : Result). x .number) e)))) rest
+
+  pub block-accepted : {next : Recording} (b after : List ℕ) → blockOf s b window ≡ record { result = accepting next; window = after }
+      → Runs (between after (accepted ++ block b ∷ []) next d) cs u → Runs (between window accepted s d) (accept-block b window ∷ cs) u
+  block-accepted {next} b after e rest =
+      let p : storedWorld window accepted s d b (true && agree window window) (blockOf s b window) ≡ between after (accepted ++ block b ∷ []) next d = ap (λ t. storedWorld window accepted s d b t (blockOf s b window)) (agree-same window) ∙ ap (λ x. storedWorld window accepted s d b true x) e in
+      call (subst (λ v. Calls (between window accepted s d) (accept-block b window) v) p (accepts-block b window (inl (ap (λ (x : Stored). x .result .number) e)))) rest
+
+  pub closed : {next : Recording} → closeOf s ≡ accepting next → Runs (between window accepted next d) cs u → Runs (between window accepted s d) (close ∷ cs) u
+  closed {next} e rest =
+      call
+      (subst (λ v. Calls (between window accepted s d) close v) (ap (λ (x : Result). between window accepted (x .session) d) e) (closes (inl (ap (λ (x : Result). x .number) e)))) rest
+
+  -- a call refused with 1 to 7 counts for nothing
+  refused : (c : Call) (n : ℕ) → 1 ≤ n → n ≤ 7 → refusal s c ≡ n → returned s c ≡ s → windowAfter (between window accepted s d) c ≡ window
+      → Runs (between window accepted s d) cs u → Runs (between window accepted s d) (c ∷ cs) u
+  refused c n low high number same kept rest =
+      call
+      (subst (λ x. Calls (between window accepted s d) c (between x accepted s d)) kept
+      (subst (λ x. Calls (between window accepted s d) c (between (windowAfter (between window accepted s d) c) accepted x d)) same (refuses c (omega (arith, number)) (omega (arith, number))))) rest
+
+  pub filemark-refused : filemarkOf s ≡ refusing s 6 → Runs (between window accepted s d) cs u → Runs (between window accepted s d) (accept-filemark ∷ cs) u
+  filemark-refused e rest = refused accept-filemark 6 (omega arith) (omega arith) (ap (λ (x : Result). x .number) e) (ap (λ (x : Result). x .session) e) refl rest
+
+  pub close-refused : closeOf s ≡ refusing s 7 → Runs (between window accepted s d) cs u → Runs (between window accepted s d) (close ∷ cs) u
+  close-refused e rest = refused close 7 (omega arith) (omega arith) (ap (λ (x : Result). x .number) e) (ap (λ (x : Result). x .session) e) refl rest

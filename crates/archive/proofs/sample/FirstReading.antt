@@ -1,0 +1,112 @@
+-- The reading of what the first sample recording left, to its end. Assumes nothing.
+use Prim.Native.Nat.{ℕ, _<_, _≤_}
+use mathlib.Core.Path.{_≡_, refl, sym, subst, _∙_}
+use mathlib.Core.Bool.{true, false}
+use mathlib.Core.List.{List, [], _∷_}
+use mathlib.Core.Logic.{inl}
+use mathlib.Core.Option.{none, some}
+use native.Mathlib.Omega.{arith}
+use lib.Dec.{lit<, lit≤}
+use lib.ListN.{length, take}
+use Rattle.frame.specs.Frame.{blank, elementFrame}
+use Rattle.frame.specs.Header.{headerFrame}
+use Rattle.frame.proofs.Frames.{element-length, element-data}
+use Rattle.archive.specs.Tape.{Tape, put}
+use Rattle.drive.specs.declared.command.Command.the-variants.{Read, Locate, ReadPosition}
+use Rattle.judgement.specs.Judgement as judgement
+use Rattle.judgement.proofs.Written.{judged-written, judged-other-pass}
+use Rattle.reading.specs.Open as opening-of
+use Rattle.reading.specs.Open.{openOf}
+use Rattle.archive.specs.Recordings.{Element, block, filemark}
+use Rattle.archive.specs.Readings.{World, Runs, started}
+use Rattle.archive.specs.Demand.{Faithful}
+use Rattle.archive.specs.Sample.{geometry, older, stopped, firstOpening, firstElements, firstBlock, firstFilemark, firstEod, firstClosing, firstReading}
+use Rattle.archive.proofs.tape.Basics.{reads-itself}
+use Rattle.archive.proofs.tape.ScanLaws.{put-other}
+use Rattle.archive.proofs.sample.Headers.{at}
+use Rattle.archive.proofs.sample.Tapes.{empty, same-reads, headers-elsewhere}
+use Rattle.archive.proofs.sample.FirstRecording.{older-fits, block-fits, opening, afterFailure, afterBlock, afterFilemark, elementsWritten, firstLeft, first-readable, first-valid, first-newest}
+use Rattle.archive.proofs.sample.ReadingExchange.{between, before, address-located, address-located-again, frame-read, unreadable-skipped, blank-jumped, end-said, reading-opened}
+
+pub first-reading-opened : openOf geometry (headerFrame firstClosing) ≡ record { session = opening-of.fresh 11999 1 false; number = 0 }
+first-reading-opened = reading-opened firstClosing refl (lit< tt) first-valid
+
+-- ---- the frames, as a reading of pass 1 judges them
+
+older-passed-over : judgement.judgeFrame 11999 1 0 (elementFrame older blank) ≡ judgement.skipped
+older-passed-over = judged-other-pass older (lit< tt) (lit< tt) blank older-fits (reads-itself (elementFrame older blank)) 11999 0 1 (λ q. omega arith)
+
+filemark-found : judgement.judgeFrame 11999 1 1 (elementFrame firstFilemark blank) ≡ judgement.filemark
+filemark-found = judged-written firstFilemark (lit< tt) (lit< tt) blank refl (reads-itself (elementFrame firstFilemark blank))
+
+eod-found : judgement.judgeFrame 11999 1 2 (elementFrame firstEod blank) ≡ judgement.end
+eod-found = judged-written firstEod (lit< tt) (lit< tt) blank refl (reads-itself (elementFrame firstEod blank))
+
+module _ (b : List ℕ) (full : length b ≡ 32768) where
+  block-found : judgement.judgeFrame 11999 1 0 (elementFrame firstBlock b) ≡ judgement.block
+  block-found = judged-written firstBlock (lit< tt) (lit< tt) b (block-fits b full) (reads-itself (elementFrame firstBlock b))
+
+  -- ---- the tape
+
+  abbrev left : Tape
+  left = firstLeft b full .tape
+
+  ten-reads : left 10 ≡ some (elementFrame older blank)
+  unfolding put
+  ten-reads = refl
+
+  block-reads : left 44 ≡ some (elementFrame firstBlock b)
+  unfolding put
+  block-reads = refl
+
+  filemark-reads : left 45 ≡ some (elementFrame firstFilemark blank)
+  unfolding put
+  filemark-reads = refl
+
+  eod-reads : left 46 ≡ some (elementFrame firstEod blank)
+  unfolding put
+  eod-reads = refl
+
+  -- nothing between the older frame and the block
+  pub gap-empty : (a : ℕ) → 11 ≤ a → a < 44 → left a ≡ none
+  gap-empty a low high =
+      let t : Tape = opening b full .tape in
+      let past : List ℕ = opening b full .written in
+      headers-elsewhere firstClosing (elementsWritten b full t past) a (inl (omega arith, omega arith))
+      ∙ put-other (afterFilemark b full t past) 46 (some (elementFrame firstEod blank)) a (λ e. omega arith)
+      ∙ put-other (afterBlock b full t past) 45 (some (elementFrame firstFilemark blank)) a (λ e. omega arith)
+      ∙ put-other (afterFailure b full t past) 44 (some (elementFrame firstBlock b)) a (λ e. omega arith)
+      ∙ same-reads t 10 a
+      ∙ headers-elsewhere firstOpening stopped a (inl (omega arith, omega arith))
+      ∙ put-other empty 10 (some (elementFrame older blank)) a (λ e. omega arith)
+
+  -- ---- the reading
+
+  -- the end, with eight replies taken in
+  abbrev pub firstRead : World
+  firstRead = between 47 (firstElements b) 8 (before 1 (Read (at 46)) 47 false 2 true)
+
+  from-fresh : (place : ℕ) → Runs left (started (opening-of.fresh 11999 1 false) place) (firstReading b) (between 47 (block (take 32768 (elementFrame firstBlock b)) ∷ filemark ∷ []) 8 (before 1 (Read (at 46)) 47 false 2 true))
+  from-fresh place =
+      let delivered : List Element = block (take 32768 (elementFrame firstBlock b)) ∷ [] in
+      let both : List Element = block (take 32768 (elementFrame firstBlock b)) ∷ filemark ∷ [] in
+      address-located-again left 1 [] 0 ReadPosition 10 0 refl place
+      (frame-read left 1 [] 1 (Locate (at 10)) 10 0 refl refl true (elementFrame older blank) judgement.skipped ten-reads (element-length older blank older-fits) older-passed-over refl
+      (unreadable-skipped left 1 [] 2 (Read (at 10)) 11 0 refl refl (gap-empty 11 (lit≤ tt) (lit< tt))
+      (blank-jumped left 1 [] 3 (Read (at 11)) 12 0 refl refl (λ a low high. gap-empty a (omega arith) high)
+      (address-located left 1 [] 4 (Read (at 12)) 44 0 refl 12
+      (frame-read left 1 [] 5 (Locate (at 44)) 44 0 refl refl true (elementFrame firstBlock b) judgement.block block-reads (element-length firstBlock b (block-fits b full)) block-found refl
+      (frame-read left 1 delivered 6 (Read (at 44)) 45 1 refl refl true (elementFrame firstFilemark blank) judgement.filemark filemark-reads (element-length firstFilemark blank refl) filemark-found refl
+      (frame-read left 1 both 7 (Read (at 45)) 46 2 refl refl true (elementFrame firstEod blank) judgement.end eod-reads (element-length firstEod blank refl) eod-found refl
+      (end-said left 47 both 8 1 (Read (at 46)) 47 2))))))))
+
+  -- from the newest header that the cartridge holds: what was accepted comes back byte for byte, and the end
+  pub first-read : (place : ℕ) → Runs left (started (openOf geometry (headerFrame firstClosing) .session) place) (firstReading b) firstRead
+  first-read place =
+      subst (λ (x : opening-of.Result). Runs left (started (x .session) place) (firstReading b) firstRead) (sym first-reading-opened)
+      (subst (λ (d : List ℕ). Runs left (started (opening-of.fresh 11999 1 false) place) (firstReading b) (between 47 (block d ∷ filemark ∷ []) 8 (before 1 (Read (at 46)) 47 false 2 true)))
+      (element-data firstBlock b (block-fits b full)) (from-fresh place))
+
+  -- and demand 3 says so of this list
+  pub first-faithful : Faithful 11999 (firstElements b) firstRead
+  first-faithful = first-readable b full .reads (headerFrame firstClosing) 0 (firstReading b) firstRead (first-newest b full) (first-read 0)

@@ -1,0 +1,164 @@
+-- The header copies of a sample recording, opening or closing, all written without an error, and the tape that they leave. Assumes nothing.
+use Prim.Native.Nat.{ℕ, zero, suc, _+_, _%_, _^_, _<_}
+use mathlib.Core.Path.{_≡_, refl, ap, sym, subst}
+use mathlib.Core.Bool.{Bool, true, false, _&&_}
+use mathlib.Core.List.{List, [], _∷_, _++_}
+use native.Mathlib.Nat.{mod-eq-of-lt}
+use native.Mathlib.Omega.{arith}
+use borrow.Author.Tests.{lt-ltb}
+use lib.Dec.{ltb}
+use lib.ListN.{length, replicate}
+use Rattle.geometry.specs.Cartridge.{headerAddress}
+use Rattle.geometry.specs.declared.address.Address.{Address}
+use Rattle.frame.specs.Header.{headerFrame}
+use Rattle.frame.specs.declared.header.Header.{Header}
+use Rattle.archive.specs.Conduct.{Drive, Answers, takes, counts, locates}
+use Rattle.drive.specs.Senses.{meaningIn}
+use Rattle.archive.specs.Tape.{Tape}
+use Rattle.drive.specs.declared.command.Command.{Command}
+use Rattle.drive.specs.declared.command.Command.the-variants.{Write, Locate, ReadPosition}
+use Rattle.copies.specs.Copies as copies
+use Rattle.copies.specs.declared.state.Copies.{Copies}
+use Rattle.elements.specs.declared.state.Elements.{Elements}
+use Rattle.recording.specs.Session.{accepting, settledOf}
+use Rattle.recording.specs.Fetch.{decisionOf, writtenFrame}
+use Rattle.recording.specs.Reply.{headerReply, replyOf}
+use Rattle.recording.specs.declared.session.Recording.{Recording}
+use Rattle.recording.specs.declared.session.Stage.{Stage}
+use Rattle.recording.specs.declared.session.Stage.the-variants as S
+use Rattle.archive.specs.Recordings.{Element, World, Call, fetch, reply, Runs}
+use Rattle.archive.specs.Sample.{depth, frame, good, exchanges, headerExchanges}
+use Rattle.archive.proofs.sample.Exchange.{Step, between, exchange}
+use Rattle.archive.proofs.sample.Flush.{buffered, flushed, flush}
+
+abbrev pub at : ℕ → Address
+at n = record { 0 = n }
+
+-- a session with W 1 between two commands
+abbrev pub session : Stage → Bool → Elements → Command → Copies → Recording
+session stage closed e c copies = record {
+  depth = depth;
+  highest = 0;
+  stage = stage;
+  command = c;
+  awaiting = false;
+  again = false;
+  closed = closed;
+  ended = false;
+  copies = copies;
+  elements = e;
+}
+
+-- the two stages that write headers, the opening's and the closing's, and the stage behind each
+abbrev pub headerStage : Bool → Stage
+headerStage true = S.OpeningHeaders
+headerStage false = S.ClosingHeaders
+
+abbrev pub stageBehind : Bool → Stage
+stageBehind true = S.Elements
+stageBehind false = S.Done
+
+-- copies of a group, all of them outstanding
+abbrev pub copiesAt : Header → ℕ → ℕ → ℕ → Bool → Copies
+copiesAt h group copy confirmed locate = record { header = h; group = group; copy = copy; outstanding = copy; confirmed = confirmed; locate = locate }
+
+-- a buffer with n frames more
+abbrev pub appended : List ℕ → ℕ → List (List ℕ) → List (List ℕ)
+appended f zero fs = fs
+appended f (suc n) fs = appended f n (fs ++ f ∷ [])
+
+-- the drive after a group, and after both
+abbrev pub groupWritten : Header → ℕ → Drive → Drive
+groupWritten h group d = flushed (d .tape) (headerAddress group 0) (d .written) (replicate 5 (headerFrame h))
+
+abbrev pub headersWritten : Header → Drive → Drive
+headersWritten h d = groupWritten h 1 (groupWritten h 0 d)
+
+-- the session among the copies of a group, and behind all of them
+abbrev among : Bool → Bool → Elements → Header → ℕ → ℕ → Command → ℕ → Bool → Recording
+among opening closed e h group confirmed c copy locate = session (headerStage opening) closed e c (copiesAt h group copy confirmed locate)
+
+abbrev pub behind : Bool → Bool → Elements → Header → Recording
+behind opening closed e h = session (stageBehind opening) closed e ReadPosition (copiesAt h 1 5 5 false)
+
+module _ (closed : Bool) (e : Elements) (h : Header) (group confirmed : ℕ) (c : Command) where
+  abbrev toLocate : Command
+  toLocate = Locate (at (headerAddress group 0))
+
+  abbrev toWrite : ℕ → Command
+  toWrite copy = Write (at (headerAddress group copy))
+
+  group-located : (opening : Bool) → Step (among opening closed e h group confirmed c 0 true) toLocate good (among opening closed e h group confirmed toLocate 0 false)
+  unfolding decisionOf copies.commandOf replyOf headerReply copies.answerOf meaningIn
+  group-located true = record { free = refl; sized = refl; decided = refl; replied = refl }
+  group-located false = record { free = refl; sized = refl; decided = refl; replied = refl }
+
+  module _ (copy : ℕ) (low : copy < 5) where
+    room : (ltb copy 5 && ltb copy 16) ≡ true
+    room = let p : copy < 16 = omega arith in rw (lt-ltb copy 5 low, lt-ltb copy 16 p)
+
+    one-more : (copy + 1) % 2 ^ 8 ≡ copy + 1
+    one-more = mod-eq-of-lt (omega arith)
+
+    copy-taken : (opening : Bool) → Step (among opening closed e h group confirmed c copy false) (toWrite copy) good (among opening closed e h group confirmed (toWrite copy) (copy + 1) false)
+    unfolding decisionOf copies.commandOf replyOf headerReply copies.answerOf meaningIn
+    copy-taken true = record { free = refl; sized = refl; decided = rw room; replied = ap (λ n. accepting (among true closed e h group confirmed (toWrite copy) n false)) one-more }
+    copy-taken false = record { free = refl; sized = refl; decided = rw room; replied = ap (λ n. accepting (among false closed e h group confirmed (toWrite copy) n false)) one-more }
+
+    copy-frame : (opening : Bool) (window : List ℕ) → writtenFrame (among opening closed e h group confirmed c copy false) window ≡ headerFrame h
+    unfolding writtenFrame
+    copy-frame true window = refl
+    copy-frame false window = refl
+
+module _ (closed : Bool) (e : Elements) (h : Header) where
+  -- READ POSITION finds nothing buffered: the second group follows the first, the next stage the second
+  first-group-through : (b : Bool) (c : Command) → Step (among b closed e h 0 0 c 5 false) ReadPosition good (among b closed e h 1 5 ReadPosition 0 true)
+  unfolding decisionOf copies.commandOf replyOf headerReply copies.answerOf copies.positionedOf copies.onwardOf meaningIn
+  first-group-through true c = record { free = refl; sized = refl; decided = refl; replied = refl }
+  first-group-through false c = record { free = refl; sized = refl; decided = refl; replied = refl }
+
+  second-group-through : (b : Bool) (c : Command) → Step (among b closed e h 1 5 c 5 false) ReadPosition good (settledOf (behind b closed e h))
+  unfolding decisionOf copies.commandOf replyOf headerReply copies.answerOf copies.positionedOf copies.onwardOf meaningIn
+  second-group-through true c = record { free = refl; sized = refl; decided = refl; replied = refl }
+  second-group-through false c = record { free = refl; sized = refl; decided = refl; replied = refl }
+
+module _ (window : List ℕ) (long : length window ≡ 32768) (accepted : List Element) (opening closed : Bool) (e : Elements) (h : Header) where
+  module _ (group confirmed : ℕ) where
+    copy-written : {cs : List Call} {u : World} (c : Command) (copy : ℕ) → copy < 5 → (t : Tape) (a : ℕ) (written : List ℕ) (fs : List (List ℕ))
+        → Runs (between window accepted (among opening closed e h group confirmed (Write (at (headerAddress group copy))) (copy + 1) false) (buffered t a written (fs ++ headerFrame h ∷ []))) cs u
+        → Runs (between window accepted (among opening closed e h group confirmed c copy false) (buffered t a written fs)) (fetch window frame ∷ reply good ∷ cs) u
+    unfolding meaningIn
+    copy-written c copy low t a written fs rest =
+        let s : Recording = among opening closed e h group confirmed c copy false in
+        let d : Drive = buffered t a written fs in
+        let w : Command = Write (at (headerAddress group copy)) in
+        exchange window accepted s d long (copy-taken closed e h group confirmed c copy low opening)
+        (subst (λ x. Answers d (writtenFrame s window) w good (buffered t a written (fs ++ x ∷ []))) (copy-frame closed e h group confirmed c copy low opening window) (takes (at (headerAddress group copy)) good refl)) rest
+
+    copies-written : {cs : List Call} {u : World} (n copy : ℕ) → copy + n ≡ 5 → (c : Command) (t : Tape) (a : ℕ) (written : List ℕ) (fs : List (List ℕ))
+        → ((last : Command) → Runs (between window accepted (among opening closed e h group confirmed last 5 false) (buffered t a written (appended (headerFrame h) n fs))) cs u)
+        → Runs (between window accepted (among opening closed e h group confirmed c copy false) (buffered t a written fs)) (exchanges window n cs) u
+    copies-written zero copy low c t a written fs rest = let five : copy ≡ 5 = omega arith in rw five (rest c)
+    copies-written (suc n) copy low c t a written fs rest =
+        copy-written c copy (omega arith) t a written fs (copies-written n (copy + 1) (omega arith) (Write (at (headerAddress group copy))) t a written (fs ++ headerFrame h ∷ []) rest)
+
+    -- LOCATE and five writes, all of which the drive then has on tape
+    group-written : {cs : List Call} {u : World} (c : Command) (d : Drive)
+        → ((last : Command) → Runs (between window accepted (among opening closed e h group confirmed last 5 false) (groupWritten h group d)) cs u)
+        → Runs (between window accepted (among opening closed e h group confirmed c 0 true) d) (exchanges window 6 cs) u
+    unfolding meaningIn
+    group-written c d rest =
+        exchange window accepted (among opening closed e h group confirmed c 0 true) d long (group-located closed e h group confirmed c opening) (locates (at (headerAddress group 0)) good refl)
+        (copies-written 5 0 refl (Locate (at (headerAddress group 0))) (d .tape) (headerAddress group 0) (d .written) []
+        (λ last. flush window accepted (among opening closed e h group confirmed last 5 false) (replicate 5 (headerFrame h)) (d .tape) (headerAddress group 0) (d .written) (rest last)))
+
+  pub headers-written : {cs : List Call} {u : World} (d : Drive) → settledOf (behind opening closed e h) ≡ behind opening closed e h
+      → Runs (between window accepted (behind opening closed e h) (headersWritten h d)) cs u
+      → Runs (between window accepted (session (headerStage opening) closed e ReadPosition (copies.startOf h)) d) (headerExchanges window cs) u
+  unfolding meaningIn
+  headers-written {cs} {u} d settled rest =
+      group-written 0 0 ReadPosition d (λ c.
+      exchange window accepted (among opening closed e h 0 0 c 5 false) (groupWritten h 0 d) long (first-group-through closed e h opening c) (counts good refl refl)
+      (group-written 1 5 ReadPosition (groupWritten h 0 d) (λ f.
+      exchange window accepted (among opening closed e h 1 5 f 5 false) (headersWritten h d) long (second-group-through closed e h opening f) (counts good refl refl)
+      (subst (λ s. Runs (between window accepted s (headersWritten h d)) cs u) (sym settled) rest))))

@@ -1,0 +1,264 @@
+-- The calls of a sample reading, and the reading of what the first sample recording left, to its end. Assumes nothing.
+use Prim.Native.Nat.{ℕ, _+_, _^_, _<_, _≤_}
+use mathlib.Core.Path.{_≡_, refl, ap, sym, subst, _∙_}
+use mathlib.Core.Bool.{Bool, true, false}
+use mathlib.Core.List.{List, [], _∷_, _++_}
+use mathlib.Core.Logic.{_⊎_, inl, inr}
+use mathlib.Core.Option.{Option, none, some}
+use native.Mathlib.Omega.{arith}
+use borrow.Author.Tests.{eq-eqb}
+use lib.Dec.{eqb, ltb, leb}
+use lib.ListN.{length}
+use Rattle.geometry.specs.Pick.{pick}
+use Rattle.frame.specs.Header.{headerFrame}
+use Rattle.frame.specs.declared.header.Header.{Header}
+use Rattle.frame.proofs.Frames.{header-length}
+use Rattle.frame.proofs.HeaderFields.{header-pass}
+use Rattle.header.specs.Valid.{validHeader}
+use Rattle.archive.specs.Conduct.{Serves, locates, brings, misses, blanks}
+use Rattle.drive.specs.Command.{commandCode, commandAddress, commandBy}
+use Rattle.drive.specs.Listed.{Means}
+use Rattle.drive.specs.Senses as senses
+use Rattle.drive.specs.Senses.{meaningIn, meaningOf}
+use Rattle.archive.specs.Tape.{Tape}
+use Rattle.drive.specs.declared.command.Command.{Command}
+use Rattle.drive.specs.declared.command.Command.the-variants.{Read, Locate}
+use Rattle.drive.specs.declared.reply.Reply.{Reply}
+use Rattle.drive.proofs.Cases.{command-by}
+use Rattle.judgement.specs.Judgement as judgement
+use Rattle.reading.specs.Open.{fresh, openOn, openOf}
+use Rattle.reading.specs.Fetch as fetch
+use Rattle.reading.specs.Reply as reply
+use Rattle.reading.specs.declared.session.Reading.{Reading}
+use Rattle.archive.specs.Recordings.{Element, block, filemark}
+use Rattle.archive.specs.Readings.{Flight, sent, answered, World, Call, fetching, replying, LentWith, withSession, fetchNumber, replyNumber, flightAfter, delivered, endAfter, Calls, refuses, fetches, replies, serves, Runs, stop, call, drive}
+use Rattle.archive.specs.Readings as readings
+use Rattle.archive.specs.Sample.{geometry, frame, good, recovered, unreadable, endOfData}
+use Rattle.archive.proofs.sample.Exchange.{framed}
+use Rattle.archive.proofs.sample.Headers.{at}
+
+-- ---- one call, or one exchange
+
+-- replies taken in, busy ones aside
+abbrev afterCount : Reply → ℕ → ℕ
+afterCount r n = pick (eqb (meaningOf (r .key) (r .asc) (r .ascq)) senses.busy) n (n + 1)
+
+-- a command that is due, what its reply is answered, and the session after it
+pub record Step (s : Reading) (c : Command) (r : Reply) (lent : List ℕ) (said : reply.Said) (next : Reading) : Type 0 where
+  pub fetched : fetch.fetchOf s ≡ fetch.sending s c
+  pub replied : reply.replyOf (fetch.awaits s c) r lent ≡ record { session = next; said = said }
+  pub taken : replyNumber said ≡ 0
+  pub ends : endAfter said (s .finished) ≡ next .finished
+
+module _ (place : ℕ) (deliveries : List Element) (n : ℕ) where
+  -- the end was answered where the session has finished
+  abbrev pub world : Reading → Flight → World
+  world s f = record { session = s; at = place; flight = f; deliveries = deliveries; replies = n; refused = false; end = s .finished }
+
+  -- between two commands
+  abbrev pub between : Reading → World
+  between s = world s readings.none
+
+  abbrev fetchedWorld : Bool → fetch.Fetching → World
+  fetchedWorld end x = record {
+    session = x .session;
+    at = place;
+    flight = flightAfter (x .said) readings.none;
+    deliveries = deliveries;
+    replies = n;
+    refused = pick (leb 8 (fetchNumber (x .said))) true false;
+    end = end;
+  }
+
+  abbrev repliedWorld : List ℕ → Bool → reply.Taking → World
+  repliedWorld lent end x = record {
+    session = x .session;
+    at = place;
+    flight = readings.none;
+    deliveries = deliveries ++ delivered (x .said) lent;
+    replies = n;
+    refused = pick (leb 8 (replyNumber (x .said))) true false;
+    end = endAfter (x .said) end;
+  }
+
+module _ (t : Tape) (deliveries : List Element) (n : ℕ) {cs : List Call} {u : World} where
+  command-served : {place to : ℕ} {c : Command} {r : Reply} {given : Option (List ℕ)} (s : Reading) → fetch.fetchOf s ≡ fetch.sending s c → Serves t place c r given to
+      → Runs t (world to deliveries n (fetch.awaits s c) (answered r given)) cs u
+      → Runs t (between place deliveries n s) (fetching ∷ cs) u
+  command-served {place} {to} {c} {r} {given} s fetched serve rest =
+      let w : World = between place deliveries n s in
+      let p : fetchedWorld place deliveries n (s .finished) (fetch.fetchOf s) ≡ world place deliveries n (fetch.awaits s c) (sent (commandBy (commandCode c) (commandAddress c))) = ap (λ (x : fetch.Fetching). fetchedWorld place deliveries n (s .finished) x) fetched in
+      call (subst (λ (x : World). Calls w fetching x) p (fetches (inl (ap (λ (x : fetch.Fetching). fetchNumber (x .said)) fetched)))) (drive (serves c r given to (ap sent (command-by c)) serve) rest)
+
+  reply-taken : {place : ℕ} {r : Reply} {given : Option (List ℕ)} {lent : List ℕ} {said : reply.Said} {next : Reading} (s : Reading)
+      → LentWith given lent → reply.replyOf s r lent ≡ record { session = next; said = said } → replyNumber said ≡ 0 → endAfter said (s .finished) ≡ next .finished
+      → Runs t (between place (deliveries ++ delivered said lent) (afterCount r n) next) cs u
+      → Runs t (world place deliveries n s (answered r given)) (replying r lent ∷ cs) u
+  reply-taken {place} {r} {given} {lent} {said} {next} s given-is replied small ends rest =
+      let v : World = world place deliveries n s (answered r given) in
+      let after : ℕ → Bool → World = λ k end. record { session = next; at = place; flight = readings.none; deliveries = deliveries ++ delivered said lent; replies = afterCount r n; refused = pick (leb 8 k) true false; end = end } in
+      let p : repliedWorld place deliveries (afterCount r n) lent (s .finished) (reply.replyOf s r lent) ≡ after (replyNumber said) (endAfter said (s .finished)) = ap (λ (x : reply.Taking). repliedWorld place deliveries (afterCount r n) lent (s .finished) x) replied in
+      let q : after (replyNumber said) (endAfter said (s .finished)) ≡ between place (deliveries ++ delivered said lent) (afterCount r n) next = ap (λ (k : ℕ). after k (endAfter said (s .finished))) small ∙ ap (λ (end : Bool). after 0 end) ends in
+      call (subst (λ (x : World). Calls v (replying r lent) x) (p ∙ q) (replies r given lent refl given-is (inl (ap (λ (x : reply.Taking). replyNumber (x .said)) replied ∙ small)))) rest
+
+  -- with a frame of another length the reply is refused with 1, and is brought again
+  pub reply-refused : {place : ℕ} {r : Reply} {given : Option (List ℕ)} {lent : List ℕ} (s : Reading) → reply.replyOf s r lent ≡ reply.refusing s 1
+      → Runs t (world place deliveries n s (answered r given)) cs u
+      → Runs t (world place deliveries n s (answered r given)) (replying r lent ∷ cs) u
+  reply-refused {place} {r} {given} {lent} s refused rest =
+      let v : World = world place deliveries n s (answered r given) in
+      let one : replyNumber (reply.replyOf s r lent .said) ≡ 1 = ap (λ (x : reply.Taking). replyNumber (x .said)) refused in
+      call (subst (λ (x : Reading). Calls v (replying r lent) (withSession v x)) (ap (λ (x : reply.Taking). x .session) refused) (refuses (replying r lent) (omega (arith, one)) (omega (arith, one)))) rest
+
+module _ (t : Tape) (deliveries : List Element) (n : ℕ) {cs : List Call} {u : World} where
+  exchange : {place to : ℕ} {c : Command} {r : Reply} {given : Option (List ℕ)} {lent : List ℕ} {said : reply.Said} {next : Reading} (s : Reading)
+      → Step s c r lent said next → Serves t place c r given to → LentWith given lent
+      → Runs t (between to (deliveries ++ delivered said lent) (afterCount r n) next) cs u
+      → Runs t (between place deliveries n s) (fetching ∷ replying r lent ∷ cs) u
+  exchange {c = c} s step serve given-is rest = command-served t deliveries n s (step .fetched) serve (reply-taken t deliveries n (fetch.awaits s c) given-is (step .replied) (step .taken) (step .ends) rest)
+
+-- ---- the session, and each kind of exchange
+
+-- a reading of a pass before a command
+abbrev pub before : ℕ → Command → ℕ → Bool → ℕ → Bool → Reading
+before pass c next locate expected finished = record {
+  last = at 11999;
+  pass = pass;
+  next = at next;
+  locate = locate;
+  expected = record { 0 = expected };
+  command = c;
+  awaiting = false;
+  again = false;
+  finished = finished;
+  ended = false;
+}
+
+-- a frame comes with good, or with 01/17/01
+abbrev pub bringing : Bool → Reply
+bringing true = good
+bringing false = recovered
+
+module _ (pass : ℕ) (c : Command) (a expected : ℕ) (low : ltb 11999 a ≡ false) where
+  abbrev locating : Reading
+  locating = fetch.awaits (before pass c a true expected false) (Locate (at a))
+
+  abbrev reading : Reading
+  reading = fetch.awaits (before pass c a false expected false) (Read (at a))
+
+  locate-fetched : fetch.fetchOf (before pass c a true expected false) ≡ fetch.sending (before pass c a true expected false) (Locate (at a))
+  unfolding fetch.fetchOf fetch.commandOf
+  locate-fetched = rw low
+
+  locate-replied : reply.replyOf locating good frame ≡ reply.locatedOf locating
+  unfolding reply.replyOf reply.answerOf meaningIn
+  locate-replied = rw (eq-eqb (length frame) 33280 framed)
+
+  none-lent : reply.replyOf locating good [] ≡ reply.refusing locating 1
+  unfolding reply.replyOf
+  none-lent = refl
+
+  read-fetched : eqb a 2990 ≡ false → fetch.fetchOf (before pass c a false expected false) ≡ fetch.sending (before pass c a false expected false) (Read (at a))
+  unfolding fetch.fetchOf fetch.commandOf
+  read-fetched user = rw (low, user)
+
+  frame-replied : (clean : Bool) (f : List ℕ) → length f ≡ 33280 → (j : judgement.Judged) → judgement.judgeFrame 11999 pass expected f ≡ j → reply.replyOf reading (bringing clean) f ≡ reply.judgedBy j reading
+  unfolding reply.replyOf reply.answerOf reply.judgedOf meaningIn
+  frame-replied true f long j judged = rw (eq-eqb (length f) 33280 long, judged)
+  frame-replied false f long j judged = rw (eq-eqb (length f) 33280 long, judged)
+
+  unreadable-replied : reply.replyOf reading unreadable frame ≡ reply.skippedOf reading
+  unfolding reply.replyOf reply.answerOf meaningIn
+  unreadable-replied = rw (eq-eqb (length frame) 33280 framed)
+
+  blank-replied : reply.replyOf reading endOfData frame ≡ reply.jumpedOf reading
+  unfolding reply.replyOf reply.answerOf meaningIn
+  blank-replied = rw (eq-eqb (length frame) 33280 framed)
+
+brought : (clean : Bool) → Means (bringing clean) senses.good ⊎ Means (bringing clean) senses.recovered
+unfolding meaningIn
+brought true = inl refl
+brought false = inr refl
+
+judged-ends : (j : judgement.Judged) (s : Reading) → endAfter (reply.judgedBy j s .said) (s .finished) ≡ reply.judgedBy j s .session .finished
+judged-ends judgement.skipped s = refl
+judged-ends (judgement.refused m) s = refl
+judged-ends judgement.block s = refl
+judged-ends judgement.filemark s = refl
+judged-ends judgement.end s = refl
+
+counted : (clean : Bool) (n : ℕ) → afterCount (bringing clean) n ≡ n + 1
+unfolding meaningIn
+counted true n = refl
+counted false n = refl
+
+module _ (t : Tape) (pass : ℕ) (deliveries : List Element) (n : ℕ) (c : Command) (a expected : ℕ) (low : ltb 11999 a ≡ false) {cs : List Call} {u : World} where
+  pub address-located : (place : ℕ)
+      → Runs t (between a (deliveries ++ []) (n + 1) (reply.locatedOf (locating pass c a expected low) .session)) cs u
+      → Runs t (between place deliveries n (before pass c a true expected false)) (fetching ∷ replying good frame ∷ cs) u
+  unfolding meaningIn
+  address-located place rest =
+      exchange t deliveries n (before pass c a true expected false) (record { fetched = locate-fetched pass c a expected low; replied = locate-replied pass c a expected low; taken = refl; ends = refl })
+      (locates (at a) good refl) (inl refl) rest
+
+  -- the reply is brought with no frame, which is refused, and again
+  pub address-located-again : (place : ℕ)
+      → Runs t (between a (deliveries ++ []) (n + 1) (reply.locatedOf (locating pass c a expected low) .session)) cs u
+      → Runs t (between place deliveries n (before pass c a true expected false)) (fetching ∷ replying good [] ∷ replying good frame ∷ cs) u
+  unfolding meaningIn
+  address-located-again place rest =
+      command-served t deliveries n (before pass c a true expected false) (locate-fetched pass c a expected low) (locates (at a) good refl)
+      (reply-refused t deliveries n (locating pass c a expected low) (none-lent pass c a expected low)
+      (reply-taken t deliveries n (locating pass c a expected low) (inl refl) (locate-replied pass c a expected low) refl refl rest))
+
+  module _ (user : eqb a 2990 ≡ false) where
+    -- a frame, by its judgement
+    pub frame-read : (clean : Bool) (f : List ℕ) (j : judgement.Judged) → t a ≡ some f → length f ≡ 33280 → judgement.judgeFrame 11999 pass expected f ≡ j
+        → replyNumber (reply.judgedBy j (reading pass c a expected low) .said) ≡ 0
+        → Runs t (between (a + 1) (deliveries ++ delivered (reply.judgedBy j (reading pass c a expected low) .said) f) (n + 1) (reply.judgedBy j (reading pass c a expected low) .session)) cs u
+        → Runs t (between a deliveries n (before pass c a false expected false)) (fetching ∷ replying (bringing clean) f ∷ cs) u
+    frame-read clean f j reads long judged taken rest =
+        exchange t deliveries n (before pass c a false expected false) (record { fetched = read-fetched pass c a expected low user; replied = frame-replied pass c a expected low clean f long j judged; taken = taken; ends = judged-ends j (reading pass c a expected low) })
+        (brings (at a) (bringing clean) f (brought clean) reads) (inr refl)
+        (subst (λ (k : ℕ). Runs t (between (a + 1) (deliveries ++ delivered (reply.judgedBy j (reading pass c a expected low) .said) f) k (reply.judgedBy j (reading pass c a expected low) .session)) cs u) (sym (counted clean n)) rest)
+
+    -- 03/11/00
+    pub unreadable-skipped : t a ≡ none
+        → Runs t (between (a + 1) (deliveries ++ []) (n + 1) (reply.skippedOf (reading pass c a expected low) .session)) cs u
+        → Runs t (between a deliveries n (before pass c a false expected false)) (fetching ∷ replying unreadable frame ∷ cs) u
+    unfolding meaningIn
+    unreadable-skipped reads rest =
+        exchange t deliveries n (before pass c a false expected false) (record { fetched = read-fetched pass c a expected low user; replied = unreadable-replied pass c a expected low; taken = refl; ends = refl })
+        (misses (at a) unreadable refl reads) (inl refl) rest
+
+    -- 08/00/05
+    pub blank-jumped : ((b : ℕ) → a ≤ b → b < a + 32 → t b ≡ none)
+        → Runs t (between a (deliveries ++ []) (n + 1) (reply.jumpedOf (reading pass c a expected low) .session)) cs u
+        → Runs t (between a deliveries n (before pass c a false expected false)) (fetching ∷ replying endOfData frame ∷ cs) u
+    unfolding meaningIn
+    blank-jumped nothing rest =
+        exchange t deliveries n (before pass c a false expected false) (record { fetched = read-fetched pass c a expected low user; replied = blank-replied pass c a expected low; taken = refl; ends = refl })
+        (blanks (at a) endOfData a refl nothing) (inl refl) rest
+
+-- the end, said again at each fetch
+module _ (t : Tape) (place : ℕ) (deliveries : List Element) (n : ℕ) (pass : ℕ) (c : Command) (next expected : ℕ) where
+  abbrev pub ended : Reading
+  ended = before pass c next false expected true
+
+  end-fetched : fetch.fetchOf ended ≡ record { session = ended; said = fetch.end }
+  unfolding fetch.fetchOf
+  end-fetched = refl
+
+  pub end-said : Runs t (between place deliveries n ended) (fetching ∷ []) (between place deliveries n ended)
+  end-said =
+      call
+      (subst (λ (x : World). Calls (between place deliveries n ended) fetching x) (ap (λ (x : fetch.Fetching). fetchedWorld place deliveries n true x) end-fetched)
+      (fetches (inl (ap (λ (x : fetch.Fetching). fetchNumber (x .said)) end-fetched)))) stop
+
+-- ---- the opening
+
+-- whatever AUX 4 to 11 hold
+pub reading-opened : (h : Header) → h .last .0 ≡ 11999 → h .pass < 2 ^ 16 → validHeader 11999 (headerFrame h) ≡ true
+    → openOf geometry (headerFrame h) ≡ record { session = fresh 11999 (h .pass) false; number = 0 }
+unfolding openOf openOn
+reading-opened h last small valid = rw (eq-eqb (length (headerFrame h)) 33280 (header-length h), valid, header-pass h small)

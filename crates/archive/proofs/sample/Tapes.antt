@@ -1,0 +1,165 @@
+-- The tape that the header copies of a sample recording leave, and the frames of its elements. Assumes nothing.
+use Prim.Native.Nat.{ℕ, zero, suc, _+_, _^_, _≤_, _<_}
+use mathlib.Core.Path.{_≡_, refl, sym, ap, subst, _∙_}
+use mathlib.Core.Bool.{true, _&&_}
+use mathlib.Core.List.{List, _∷_}
+use mathlib.Core.Logic.{_⊎_, inl, inr, ⊎-elim}
+use mathlib.Core.Option.{Option, none, some}
+use native.Mathlib.Decide.{ℕ-discrete}
+use native.Mathlib.Nat.{le-refl}
+use native.Mathlib.Omega.{arith}
+use borrow.Author.Tests.{leb-true}
+use lib.Dec.{leb}
+use lib.ListN.{length, drop, replicate}
+use Rattle.geometry.specs.Cartridge.{isHeader}
+use Rattle.geometry.proofs.TestLaws.{or-true, and-true}
+use Rattle.buffer.specs.Bytes.{get16}
+use Rattle.frame.specs.Aux.{elementAux}
+use Rattle.frame.specs.Frame.{elementFrame, elementFits}
+use Rattle.frame.specs.Header.{headerFrame}
+use Rattle.frame.specs.declared.element.Element.{Element}
+use Rattle.frame.specs.declared.header.Header.{Header}
+use Rattle.frame.proofs.AuxFields.{aux-pass}
+use Rattle.frame.proofs.Frames.{element-aux, element-length, header-length}
+use Rattle.header.specs.Valid.{validHeader, updateOf}
+use Rattle.archive.specs.Conduct.{Drive}
+use Rattle.archive.specs.Tape.{Tape, put, Cartridge}
+use Rattle.archive.specs.Headers.{Newest}
+use Rattle.archive.specs.Demand.{NoneBears}
+use Rattle.archive.proofs.tape.ScanLaws.{put-same, put-other}
+use Rattle.archive.proofs.tape.SeenLaws.{cartridge-put}
+use Rattle.archive.proofs.tape.UserPlaces.{User, user-ranges}
+use Rattle.archive.proofs.sample.Flush.{flushed}
+use Rattle.archive.proofs.sample.Headers.{groupWritten, headersWritten}
+
+some-same : {f g : List ℕ} → _≡_ {A = Option (List ℕ)} (some f) (some g) → f ≡ g
+some-same e = cc
+
+pub none-some : {X : Type 0} {f : List ℕ} → _≡_ {A = Option (List ℕ)} none (some f) → X
+none-some e = let z : _≡_ {A = ℕ} 0 1 = cc in absurd (omega arith)
+
+-- ---- n frames f from an address on
+
+module _ (f : List ℕ) where
+  abbrev run : Tape → ℕ → List ℕ → ℕ → Tape
+  run t at written n = flushed t at written (replicate n f) .tape
+
+  run-elsewhere : (n : ℕ) (t : Tape) (at : ℕ) (written : List ℕ) (a : ℕ) → (a < at) ⊎ (at + n ≤ a) → run t at written n a ≡ t a
+  run-elsewhere zero t at written a outside = refl
+  run-elsewhere (suc n) t at written a (inl low) =
+      run-elsewhere n (put t at (some f)) (at + 1) (at ∷ written) a (inl (omega arith)) ∙ put-other t at (some f) a (λ e. omega arith)
+  run-elsewhere (suc n) t at written a (inr high) =
+      run-elsewhere n (put t at (some f)) (at + 1) (at ∷ written) a (inr (omega arith)) ∙ put-other t at (some f) a (λ e. omega arith)
+
+  run-reads : (n : ℕ) (t : Tape) (at : ℕ) (written : List ℕ) (a : ℕ) → at ≤ a → a < at + n → run t at written n a ≡ some f
+  run-reads zero t at written a low high = absurd (omega arith)
+  run-reads (suc n) t at written a low high = go (ℕ-discrete a at) (λ differ. run-reads n (put t at (some f)) (at + 1) (at ∷ written) a (omega (arith, differ)) (omega arith))
+    where
+      go : Dec (a ≡ at) → ((a ≡ at → ⊥) → run t at written (suc n) a ≡ some f) → run t at written (suc n) a ≡ some f
+      go (yes e) later =
+          run-elsewhere n (put t at (some f)) (at + 1) (at ∷ written) a (inl (omega arith))
+          ∙ ap (put t at (some f)) e ∙ put-same t at (some f)
+      go (no differ) later = later differ
+
+  run-cartridge : (last n : ℕ) (t : Tape) (at : ℕ) (written : List ℕ) → length f ≡ 33280 → at + n ≤ last + 1 → Cartridge last t → Cartridge last (run t at written n)
+  run-cartridge last zero t at written long low c = c
+  run-cartridge last (suc n) t at written long low c =
+      run-cartridge last n (put t at (some f)) (at + 1) (at ∷ written) long (omega arith)
+      (cartridge-put last t at (some f) (omega arith) (λ g e. ap length (sym (some-same e)) ∙ long) c)
+
+-- ---- the header copies
+
+header-ranges : (a : ℕ) → isHeader a ≡ true → ((5 ≤ a) × (a ≤ 9)) ⊎ ((2990 ≤ a) × (a ≤ 2994))
+header-ranges a h =
+    ⊎-elim
+    (λ t. let s = and-true (leb 5 a) (leb a 9) t in inl (leb-true 5 a (s .0), leb-true a 9 (s .1)))
+    (λ t. let s = and-true (leb 2990 a) (leb a 2994) t in inr (leb-true 2990 a (s .0), leb-true a 2994 (s .1)))
+    (or-true (leb 5 a && leb a 9) (leb 2990 a && leb a 2994) h)
+
+module _ (h : Header) (d : Drive) where
+  abbrev firstGroup : Drive
+  firstGroup = groupWritten h 0 d
+
+  -- a copy at each address of the groups
+  pub headers-read : (a : ℕ) → isHeader a ≡ true → headersWritten h d .tape a ≡ some (headerFrame h)
+  headers-read a group = go (header-ranges a group)
+    where
+      go : ((5 ≤ a) × (a ≤ 9)) ⊎ ((2990 ≤ a) × (a ≤ 2994)) → headersWritten h d .tape a ≡ some (headerFrame h)
+      go (inl r) =
+          run-elsewhere (headerFrame h) 5 (firstGroup .tape) 2990 (firstGroup .written) a (inl (omega (arith, r .1)))
+          ∙ run-reads (headerFrame h) 5 (d .tape) 5 (d .written) a (r .0) (omega (arith, r .1))
+      go (inr r) = run-reads (headerFrame h) 5 (firstGroup .tape) 2990 (firstGroup .written) a (r .0) (omega (arith, r .1))
+
+  -- nothing else has changed
+  pub headers-elsewhere : (a : ℕ) → ((10 ≤ a) × (a ≤ 2989)) ⊎ (2995 ≤ a) → headersWritten h d .tape a ≡ d .tape a
+  headers-elsewhere a (inl r) =
+      run-elsewhere (headerFrame h) 5 (firstGroup .tape) 2990 (firstGroup .written) a (inl (omega (arith, r .1)))
+      ∙ run-elsewhere (headerFrame h) 5 (d .tape) 5 (d .written) a (inr (omega (arith, r .0)))
+  headers-elsewhere a (inr r) =
+      run-elsewhere (headerFrame h) 5 (firstGroup .tape) 2990 (firstGroup .written) a (inr (omega arith))
+      ∙ run-elsewhere (headerFrame h) 5 (d .tape) 5 (d .written) a (inr (omega arith))
+
+  pub headers-cartridge : (last : ℕ) → 2994 ≤ last → Cartridge last (d .tape) → Cartridge last (headersWritten h d .tape)
+  headers-cartridge last large c =
+      run-cartridge (headerFrame h) last 5 (firstGroup .tape) 2990 (firstGroup .written) (header-length h) (omega arith)
+      (run-cartridge (headerFrame h) last 5 (d .tape) 5 (d .written) (header-length h) (omega arith) c)
+
+  -- the copies are newest headers, the one at 5 for instance
+  pub headers-newest : (last : ℕ) → validHeader last (headerFrame h) ≡ true → Newest last (headersWritten h d .tape) (headerFrame h)
+  headers-newest last valid = record {
+    address = 5;
+    here = record { group = refl; reads = headers-read 5 refl; valid = valid };
+    highest = λ a other at.
+        let e : headerFrame h ≡ other = some-same (sym (headers-read a (at .group)) ∙ at .reads) in
+        subst (λ (f : List ℕ). updateOf f ≤ updateOf (headerFrame h)) e (le-refl (updateOf (headerFrame h)));
+  }
+
+  pub headers-bear-none : (last pass : ℕ) → NoneBears last (d .tape) pass → NoneBears last (headersWritten h d .tape) pass
+  headers-bear-none last pass clean a f user reads = clean a f user (sym (headers-elsewhere a (outside (user-ranges last a user))) ∙ reads)
+    where
+      outside : User last a → ((10 ≤ a) × (a ≤ 2989)) ⊎ (2995 ≤ a)
+      outside (inl r) = inl r
+      outside (inr r) = inr (omega (arith, r .0))
+
+-- ---- the frames of elements and EOD
+
+abbrev pub empty : Tape
+empty = λ a. none
+
+pub empty-cartridge : (last : ℕ) → Cartridge last empty
+empty-cartridge last = record { long = λ a f e. none-some e; bounded = λ a h. refl }
+
+pub empty-bears-none : (last pass : ℕ) → NoneBears last empty pass
+empty-bears-none last pass a f user reads bears = none-some reads
+
+module _ (e : Element) (block : List ℕ) (fits : elementFits (e .kind) 33280 (length block) ≡ true) (t : Tape) (a : ℕ) where
+  pub frame-cartridge : (last : ℕ) → a ≤ last → Cartridge last t → Cartridge last (put t a (some (elementFrame e block)))
+  frame-cartridge last low c = cartridge-put last t a (some (elementFrame e block)) low (λ f same. ap length (sym (some-same same)) ∙ element-length e block fits) c
+
+  -- over frames of another pass
+  pub frame-bears-none : (last pass : ℕ) → e .pass < 2 ^ 16 → (e .pass ≡ pass → ⊥) → NoneBears last t pass → NoneBears last (put t a (some (elementFrame e block))) pass
+  frame-bears-none last pass small differ clean b f user reads bears = go (ℕ-discrete b a)
+    where
+      own : get16 (drop 32768 (elementFrame e block)) 22 ≡ e .pass
+      own = ap (λ (x : List ℕ). get16 x 22) (element-aux e block fits) ∙ aux-pass (elementAux e) small
+
+      go : Dec (b ≡ a) → ⊥
+      go (yes q) =
+          let same : elementFrame e block ≡ f = some-same (sym (put-same t a (some (elementFrame e block))) ∙ ap (put t a (some (elementFrame e block))) (sym q) ∙ reads) in
+          differ (sym own ∙ ap (λ (x : List ℕ). get16 (drop 32768 x) 22) same ∙ bears)
+      go (no other) = clean b f user (sym (put-other t a (some (elementFrame e block)) b other) ∙ reads) bears
+
+-- a failed address that reads as before
+module _ (t : Tape) (a : ℕ) where
+  pub same-reads : (b : ℕ) → put t a (t a) b ≡ t b
+  same-reads b = go (ℕ-discrete b a)
+    where
+      go : Dec (b ≡ a) → put t a (t a) b ≡ t b
+      go (yes e) = ap (put t a (t a)) e ∙ put-same t a (t a) ∙ ap t (sym e)
+      go (no differ) = put-other t a (t a) b differ
+
+  pub same-cartridge : (last : ℕ) → Cartridge last t → Cartridge last (put t a (t a))
+  same-cartridge last c = record { long = λ b f e. c .long b f (sym (same-reads b) ∙ e); bounded = λ b h. same-reads b ∙ c .bounded b h }
+
+  pub same-bears-none : (last pass : ℕ) → NoneBears last t pass → NoneBears last (put t a (t a)) pass
+  same-bears-none last pass clean b f user reads = clean b f user (sym (same-reads b) ∙ reads)

@@ -1,0 +1,10 @@
+pub mod Basics
+pub mod Places
+pub mod UserPlaces
+pub mod WindowLaws
+pub mod WrittenFrames
+pub mod Stands
+pub mod StandsLaws
+pub mod Scan
+pub mod ScanLaws
+pub mod SeenLaws
