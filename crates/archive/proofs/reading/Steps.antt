@@ -90,7 +90,7 @@ few-ended large h (rear l few) = omega arith
 -- ---- a refused call
 
 -- the session that a call refused with 1 to 7 returned is the one that it got
-same-session : (s : Reading) (c : readings.Call) → 1 ≤ readings.refusal s c → readings.refusal s c ≤ 7 → readings.returned s c ≡ s
+pub same-session : (s : Reading) (c : readings.Call) → 1 ≤ readings.refusal s c → readings.refusal s c ≤ 7 → readings.returned s c ≡ s
 same-session s readings.fetching l h = go (fetch.fetchOf s .said) refl l h
   where
     go : (x : fetch.Said) → fetch.fetchOf s .said ≡ x → 1 ≤ fetchNumber x → fetchNumber x ≤ 7 → fetch.fetchOf s .session ≡ s

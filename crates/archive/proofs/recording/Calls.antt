@@ -56,7 +56,7 @@ keeps-reply w r set (over wr o) q te = none-answered (sym (o .none) ∙ q)
 -- ---- a refused call
 
 -- the session that a call refused with 1 to 7 returned is the one that it got
-same-session : (s : Recording) (c : recordings.Call) → 1 ≤ recordings.refusal s c → recordings.refusal s c ≤ 7 → recordings.returned s c ≡ s
+pub same-session : (s : Recording) (c : recordings.Call) → 1 ≤ recordings.refusal s c → recordings.refusal s c ≤ 7 → recordings.returned s c ≡ s
 same-session s (recordings.accept-block b window) l h = refused-block s b window .unchanged l h
 same-session s recordings.accept-filemark l h = refused-filemark s .unchanged l h
 same-session s recordings.close l h = refused-close s .unchanged l h

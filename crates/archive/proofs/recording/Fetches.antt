@@ -1,7 +1,7 @@
 -- A fetch keeps the invariant. Assumes nothing.
 use Prim.Native.Nat.{ℕ, _+_, _≤_, _<_}
 use mathlib.Core.Path.{_≡_, refl, sym, ap, subst, _∙_}
-use mathlib.Core.Bool.{Bool, true, false, _&&_}
+use mathlib.Core.Bool.{Bool, true, false, _&&_, _||_}
 use mathlib.Core.List.{List}
 use mathlib.Core.Logic.{_⊎_, inl, inr, ⊎-elim}
 use native.Mathlib.Nat.{le-refl}
@@ -9,8 +9,9 @@ use native.Mathlib.Omega.{arith}
 use lib.ListN.{length}
 use Rattle.geometry.specs.declared.address.Address.{Address}
 use Rattle.geometry.specs.declared.address.Seq.{Seq}
-use Rattle.geometry.proofs.TestLaws.{and-true}
+use Rattle.geometry.proofs.TestLaws.{and-true, either-left, either-right}
 use Rattle.geometry.proofs.Impossible.{never, clash}
+use Rattle.geometry.proofs.PickLaws.{pick-t}
 use Rattle.buffer.specs.Bytes.{agree}
 use Rattle.buffer.proofs.Agreement.{agree-is}
 use Rattle.frame.specs.Header.{headerFrame}
@@ -371,27 +372,12 @@ module _ {last pass : ℕ} {premises : Type 0} (w : World) (lent frame : List �
   live-fetch (inv.closing q c a b g) v te = fetch-header (inr q) g (λ _ y. inv.closing q c a b y) v te
   live-fetch (inv.finished q c a b f g h r y) v te = fetch-done q h v te
 
+-- refused with 7
+wrong-phase : {X : Type 0} (s : Recording) (lent frame : List ℕ) → s .ended || s .awaiting ≡ true → TakesEffect (fetchNumber (fetchOf s lent frame .said)) → X
+unfolding fetchOf
+wrong-phase s lent frame e te = no-effect (omega arith) (omega arith) (subst (λ (x : Fetching). TakesEffect (fetchNumber (x .said))) (pick-t _ e) te)
+
 pub keeps-fetch : {last pass : ℕ} {premises : Type 0} (w : World) (lent frame : List ℕ) → Setting last pass → Inv last pass premises w → TakesEffect (fetchNumber (fetchOf (w .session) lent frame .said)) → Inv last pass premises (afterFetch w lent frame)
 keeps-fetch w lent frame set (live wr l) te = live-fetch w lent frame set wr l (l .course) (fetch-view (w .session) lent frame) te
-keeps-fetch {last} {pass} {premises} w lent frame set (rejecting wr d) te = go (fetch-view (w .session) lent frame) te
-  where
-    go : {x : Fetching} → FetchView (w .session) lent frame x → TakesEffect (fetchNumber (x .said)) → Inv last pass premises (fetchedWorld w lent x)
-    go (view.wrongPhase _) t = no-effect (omega arith) (omega arith) t
-    go (view.wrongLength _ _ _) t = no-effect (omega arith) (omega arith) t
-    go (view.repeating r _) t = clash (d .awaits) (r .free)
-    go (view.copying r _ _) t = clash (d .awaits) (r .free)
-    go (view.stepping r _ _ _ _) t = clash (d .awaits) (r .free)
-    go (view.resting r _ _ _) t = clash (d .awaits) (r .free)
-    go (view.stopping r _ _ _ _) t = clash (d .awaits) (r .free)
-    go (view.finished r _ _) t = clash (d .awaits) (r .free)
-keeps-fetch {last} {pass} {premises} w lent frame set (over wr o) te = go (fetch-view (w .session) lent frame) te
-  where
-    go : {x : Fetching} → FetchView (w .session) lent frame x → TakesEffect (fetchNumber (x .said)) → Inv last pass premises (fetchedWorld w lent x)
-    go (view.wrongPhase _) t = no-effect (omega arith) (omega arith) t
-    go (view.wrongLength _ _ _) t = no-effect (omega arith) (omega arith) t
-    go (view.repeating r _) t = clash (o .ended) (r .going)
-    go (view.copying r _ _) t = clash (o .ended) (r .going)
-    go (view.stepping r _ _ _ _) t = clash (o .ended) (r .going)
-    go (view.resting r _ _ _) t = clash (o .ended) (r .going)
-    go (view.stopping r _ _ _ _) t = clash (o .ended) (r .going)
-    go (view.finished r _ _) t = clash (o .ended) (r .going)
+keeps-fetch w lent frame set (rejecting wr d) te = wrong-phase (w .session) lent frame (either-right (w .session .ended) (w .session .awaiting) (d .awaits)) te
+keeps-fetch w lent frame set (over wr o) te = wrong-phase (w .session) lent frame (either-left (w .session .ended) (w .session .awaiting) (o .ended)) te
