@@ -1,12 +1,9 @@
 -- A drive that writes all that it has buffered, each frame as it was sent. Assumes nothing.
-use Prim.Native.Nat.{ℕ, _+_, _≤_, _<_}
-use mathlib.Core.Path.{_≡_, refl, sym, ap, _∙_}
+use Prim.Native.Nat.{ℕ, _+_}
+use mathlib.Core.Path.{refl}
 use mathlib.Core.Bool.{false}
 use mathlib.Core.List.{List, [], _∷_}
-use mathlib.Core.Logic.{_⊎_, inl, inr}
 use mathlib.Core.Option.{some}
-use native.Mathlib.Omega.{arith}
-use lib.ListN.{length}
 use Rattle.frame.specs.Sent.{ReadsAs}
 use Rattle.drive.specs.Conduct.{Drive, reads, writes}
 use Rattle.drive.specs.Tape.{Tape, put}

@@ -1,30 +1,31 @@
 -- The tape that the header copies of a sample recording leave, and the frames of its elements. Assumes nothing.
 use Prim.Native.Nat.{ℕ, zero, suc, _+_, _^_, _≤_, _<_}
 use mathlib.Core.Path.{_≡_, refl, sym, ap, subst, _∙_}
-use mathlib.Core.Bool.{Bool, true, _&&_, _||_}
+use mathlib.Core.Bool.{true, false, true≢false, _&&_}
 use mathlib.Core.List.{List, _∷_}
 use mathlib.Core.Logic.{_⊎_, inl, inr, ⊎-elim}
 use mathlib.Core.Option.{Option, none, some}
 use native.Mathlib.Decide.{ℕ-discrete}
 use native.Mathlib.Nat.{le-refl}
 use native.Mathlib.Omega.{arith}
-use borrow.Author.Tests.{leb-true}
+use borrow.Author.Tests.{eq-eqb, leb-true}
 use lib.Dec.{leb}
 use lib.ListN.{length, drop, replicate}
-use Rattle.geometry.specs.Cartridge.{isUser, isHeader}
+use Rattle.geometry.specs.Cartridge.{isHeader}
 use Rattle.geometry.proofs.TestLaws.{or-true, and-true}
 use Rattle.buffer.specs.Bytes.{get16}
 use Rattle.frame.specs.Aux.{elementAux}
 use Rattle.frame.specs.Frame.{elementFrame, elementFits}
 use Rattle.frame.specs.Header.{headerFrame}
 use Rattle.frame.specs.declared.element.Element.{Element}
+use Rattle.frame.specs.declared.element.Kind.the-variants.{Data}
 use Rattle.frame.specs.declared.header.Header.{Header}
 use Rattle.frame.proofs.AuxFields.{aux-pass}
 use Rattle.frame.proofs.Frames.{element-aux, element-length, header-length}
 use Rattle.header.specs.Valid.{validHeader, updateOf}
 use Rattle.drive.specs.Conduct.{Drive}
-use Rattle.drive.specs.Tape.{Tape, put, Cartridge, Bears}
-use Rattle.archive.specs.Headers.{HeaderAt, Newest}
+use Rattle.drive.specs.Tape.{Tape, put, Cartridge}
+use Rattle.archive.specs.Headers.{Newest, NoHeader}
 use Rattle.archive.specs.Demand.{NoneBears}
 use Rattle.archive.proofs.ScanLaws.{put-same, put-other}
 use Rattle.archive.proofs.SeenLaws.{cartridge-put}
@@ -35,7 +36,7 @@ use Rattle.archive.proofs.SampleHeaders.{groupWritten, headersWritten}
 some-same : {f g : List ℕ} → _≡_ {A = Option (List ℕ)} (some f) (some g) → f ≡ g
 some-same e = cc
 
-pub none-some : {X : Type 0} {f : List ℕ} → _≡_ {A = Option (List ℕ)} none (some f) → X
+none-some : {X : Type 0} {f : List ℕ} → _≡_ {A = Option (List ℕ)} none (some f) → X
 none-some e = let z : _≡_ {A = ℕ} 0 1 = cc in absurd (omega arith)
 
 -- ---- n frames f from an address on
@@ -131,6 +132,14 @@ empty-cartridge last = record { long = λ a f e. none-some e; bounded = λ a h. 
 
 pub empty-bears-none : (last pass : ℕ) → NoneBears last empty pass
 empty-bears-none last pass a f user reads bears = none-some reads
+
+-- one frame, and no header
+pub frame-on-none : (last a : ℕ) (v : Option (List ℕ)) → isHeader a ≡ false → NoHeader last (put empty a v)
+frame-on-none last a v off b h there =
+    none-some (sym (put-other empty a v b (λ e. true≢false (sym (there .group) ∙ ap isHeader e ∙ off))) ∙ there .reads)
+
+pub block-fits : (b : List ℕ) → length b ≡ 32768 → elementFits Data 33280 (length b) ≡ true
+block-fits b full = eq-eqb (length b) 32768 full
 
 module _ (e : Element) (block : List ℕ) (fits : elementFits (e .kind) 33280 (length block) ≡ true) (t : Tape) (a : ℕ) where
   pub frame-cartridge : (last : ℕ) → a ≤ last → Cartridge last t → Cartridge last (put t a (some (elementFrame e block)))
