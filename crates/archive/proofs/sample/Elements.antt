@@ -1,44 +1,34 @@
 -- An element of a sample recording, or EOD: written, or failed and relocated. Assumes nothing.
 use Prim.Native.Nat.{ℕ, _+_}
 use mathlib.Core.Path.{_≡_, refl, subst}
-use mathlib.Core.Bool.{true, false}
+use mathlib.Core.Bool.{true}
 use mathlib.Core.List.{List, [], _∷_}
 use mathlib.Core.Option.{some}
 use lib.ListN.{length}
 use Rattle.archive.specs.Conduct.{Drive, writes, fails, as-before, reads, Answers, takes, counts, position-fails, locates}
 use Rattle.drive.specs.Senses.{meaningIn}
 use Rattle.archive.specs.Tape.{Tape, put}
-use Rattle.drive.specs.declared.command.Command.{Command}
 use Rattle.drive.specs.declared.command.Command.the-variants.{Write, Locate, ReadPosition}
 use Rattle.elements.specs.Elements as elements
 use Rattle.elements.specs.declared.state.Elements.{Elements}
-use Rattle.frame.specs.declared.header.Header.{Header}
 use Rattle.recording.specs.Fetch.{writtenFrame}
 use Rattle.recording.specs.declared.session.Recording.{Recording}
-use Rattle.recording.specs.declared.session.Stage.the-variants as S
 use Rattle.archive.specs.Recordings.{Element, World, Call, fetch, reply, Runs}
-use Rattle.archive.specs.Sample.{frame, good, writeError}
+use Rattle.archive.specs.Sample.{frame, good, writeError, exchanges}
 use Rattle.archive.proofs.sample.Exchange.{Step, between, acting, exchange}
 use Rattle.archive.proofs.tape.Basics.{reads-itself}
 use Rattle.archive.proofs.sample.Flush.{buffered}
-use Rattle.archive.proofs.sample.Headers.{at, session, copiesAt}
+use Rattle.archive.proofs.sample.Headers.{at}
 
 -- no element yet: LOCATE 10 comes first
-abbrev pub none-accepted : Elements
-none-accepted = elements.startOf 11999
-
--- the session in the elements' stage, and in EOD's
-abbrev pub writing : Header → Elements → Command → Recording
-writing h e c = session S.Elements false e c (copiesAt h 1 5 5 false)
-
-abbrev pub ending : Header → Elements → Command → Recording
-ending h e c = session S.Eod true e c (copiesAt h 1 5 5 false)
+abbrev pub noneAccepted : Elements
+noneAccepted = elements.startOf 11999
 
 module _ (window : List ℕ) (long : length window ≡ 32768) (accepted : List Element) (t : Tape) (past : List ℕ) {cs : List Call} {u : World} where
   -- WRITE, the drive writes the frame as sent, READ POSITION finds nothing buffered
   pub element-written : (a : ℕ) (f : List ℕ) {s taken next : Recording} → writtenFrame s window ≡ f → Step s (Write (at a)) good taken → Step taken ReadPosition good next
       → Runs (between window accepted next (buffered (put t a (some f)) (a + 1) (a ∷ past) [])) cs u
-      → Runs (between window accepted s (buffered t a past [])) (fetch window frame ∷ reply good ∷ fetch window frame ∷ reply good ∷ cs) u
+      → Runs (between window accepted s (buffered t a past [])) (exchanges window 2 cs) u
   unfolding meaningIn
   element-written a f {s} {taken} {next} frame-is write confirm rest =
       let start : Drive = buffered t a past [] in
@@ -52,7 +42,7 @@ module _ (window : List ℕ) (long : length window ≡ 32768) (accepted : List E
   -- WRITE, the drive fails and leaves what was there, READ POSITION reports it, LOCATE the target
   pub element-failed : (a skip target : ℕ) {s taken failed next : Recording} → Step s (Write (at a)) good taken → Step taken ReadPosition (writeError a skip) failed → Step failed (Locate (at target)) good next
       → Runs (between window accepted next (buffered (put t a (t a)) target (a ∷ past) [])) cs u
-      → Runs (between window accepted s (buffered t a past [])) (fetch window frame ∷ reply good ∷ fetch window frame ∷ reply (writeError a skip) ∷ fetch window frame ∷ reply good ∷ cs) u
+      → Runs (between window accepted s (buffered t a past [])) (exchanges window 1 (fetch window frame ∷ reply (writeError a skip) ∷ exchanges window 1 cs)) u
   unfolding meaningIn
   element-failed a skip target {s} {taken} {failed} {next} write report relocate rest =
       let f : List ℕ = writtenFrame s window in

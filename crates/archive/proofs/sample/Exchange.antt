@@ -20,7 +20,7 @@ use Rattle.recording.specs.Fetch.{Fetching, decisionOf, send, awaits, frameFor,
 use Rattle.recording.specs.Reply.{replyOf}
 use Rattle.recording.specs.declared.session.Recording.{Recording}
 use Rattle.recording.proofs.FetchView.{fetch-decided}
-use Rattle.archive.specs.Recordings.{Element, block, filemark, Flight, none, sent, answered, World, Call, accept-block, accept-filemark, close, fetch, reply, refusal, returned, windowAfter, fetchNumber, flightAfter, reportedAfter, Calls, refuses, accepts-block, accepts-filemark, closes, fetches, replies, acts, answers, Runs, stop, call, drive}
+use Rattle.archive.specs.Recordings.{Element, block, filemark, Flight, none, answered, World, Call, accept-block, accept-filemark, close, fetch, reply, refusal, returned, fetchNumber, flightAfter, reportedAfter, Calls, refuses, accepts-block, accepts-filemark, closes, fetches, replies, acts, answers, Runs, stop, call, drive, windowAfter, sent}
 use Rattle.archive.specs.Sample.{firstOpening, frame}
 
 pub framed : length frame ≡ 33280
@@ -99,8 +99,8 @@ module _ (window : List ℕ) (accepted : List Element) (s : Recording) (d : Driv
       let p : storedWorld window accepted s d b (true && agree window window) (blockOf s b window) ≡ between after (accepted ++ block b ∷ []) next d = ap (λ t. storedWorld window accepted s d b t (blockOf s b window)) (agree-same window) ∙ ap (λ x. storedWorld window accepted s d b true x) e in
       call (subst (λ v. Calls (between window accepted s d) (accept-block b window) v) p (accepts-block b window (inl (ap (λ (x : Stored). x .result .number) e)))) rest
 
-  pub closed : {next : Recording} → closeOf s ≡ accepting next → Runs (between window accepted next d) cs u → Runs (between window accepted s d) (close ∷ cs) u
-  closed {next} e rest =
+  pub close-accepted : {next : Recording} → closeOf s ≡ accepting next → Runs (between window accepted next d) cs u → Runs (between window accepted s d) (close ∷ cs) u
+  close-accepted {next} e rest =
       call
       (subst (λ v. Calls (between window accepted s d) close v) (ap (λ (x : Result). between window accepted (x .session) d) e) (closes (inl (ap (λ (x : Result). x .number) e)))) rest
 

@@ -1,4 +1,4 @@
--- The header copies of a sample recording, opening or closing, all written without an error, and the tape that they leave. Assumes nothing.
+-- The header copies of a sample recording, opening or closing, all written without an error. Assumes nothing.
 use Prim.Native.Nat.{ℕ, zero, suc, _+_, _%_, _^_, _<_}
 use mathlib.Core.Path.{_≡_, refl, ap, sym, subst}
 use mathlib.Core.Bool.{Bool, true, false, _&&_}
@@ -10,6 +10,7 @@ use lib.Dec.{ltb}
 use lib.ListN.{length, replicate}
 use Rattle.geometry.specs.Cartridge.{headerAddress}
 use Rattle.geometry.specs.declared.address.Address.{Address}
+use Rattle.geometry.proofs.PickLaws.{pick-by}
 use Rattle.frame.specs.Header.{headerFrame}
 use Rattle.frame.specs.declared.header.Header.{Header}
 use Rattle.archive.specs.Conduct.{Drive, Answers, takes, counts, locates}
@@ -19,23 +20,28 @@ use Rattle.drive.specs.declared.command.Command.{Command}
 use Rattle.drive.specs.declared.command.Command.the-variants.{Write, Locate, ReadPosition}
 use Rattle.copies.specs.Copies as copies
 use Rattle.copies.specs.declared.state.Copies.{Copies}
+use Rattle.elements.specs.Elements as elements
 use Rattle.elements.specs.declared.state.Elements.{Elements}
+use Rattle.recording.specs.Open.{fresh}
 use Rattle.recording.specs.Session.{accepting, settledOf}
+use Rattle.recording.specs.Fetch as decision
 use Rattle.recording.specs.Fetch.{decisionOf, writtenFrame}
 use Rattle.recording.specs.Reply.{headerReply, replyOf}
 use Rattle.recording.specs.declared.session.Recording.{Recording}
 use Rattle.recording.specs.declared.session.Stage.{Stage}
 use Rattle.recording.specs.declared.session.Stage.the-variants as S
-use Rattle.archive.specs.Recordings.{Element, World, Call, fetch, reply, Runs}
+use Rattle.archive.specs.Recordings.{Element, World, Call, fetch, reply, Runs, started}
 use Rattle.archive.specs.Sample.{depth, frame, good, exchanges, headerExchanges}
-use Rattle.archive.proofs.sample.Exchange.{Step, between, exchange}
+use Rattle.archive.proofs.sample.Exchange.{Step, between, reported, exchange, done}
 use Rattle.archive.proofs.sample.Flush.{buffered, flushed, flush}
 
 abbrev pub at : ℕ → Address
 at n = record { 0 = n }
 
+-- ---- the sessions, and the drive
+
 -- a session with W 1 between two commands
-abbrev pub session : Stage → Bool → Elements → Command → Copies → Recording
+abbrev session : Stage → Bool → Elements → Command → Copies → Recording
 session stage closed e c copies = record {
   depth = depth;
   highest = 0;
@@ -49,23 +55,37 @@ session stage closed e c copies = record {
   elements = e;
 }
 
--- the two stages that write headers, the opening's and the closing's, and the stage behind each
-abbrev pub headerStage : Bool → Stage
+-- copies of a group, all of them outstanding
+abbrev copiesAt : Header → ℕ → ℕ → ℕ → Bool → Copies
+copiesAt h group copy confirmed locate = record { header = h; group = group; copy = copy; outstanding = copy; confirmed = confirmed; locate = locate }
+
+-- in the elements' stage, in EOD's, before the closing headers, and done
+abbrev pub writing : Header → Elements → Command → Recording
+writing h e c = session S.Elements false e c (copiesAt h 1 5 5 false)
+
+abbrev pub ending : Header → Elements → Command → Recording
+ending h e c = session S.Eod true e c (copiesAt h 1 5 5 false)
+
+abbrev pub closing : Header → Elements → Recording
+closing h e = session S.ClosingHeaders true e ReadPosition (copies.startOf h)
+
+abbrev pub finished : Header → Elements → Recording
+finished h e = session S.Done true e ReadPosition (copiesAt h 1 5 5 false)
+
+-- among the copies of a group, of the opening or the closing headers, and behind all of them
+abbrev headerStage : Bool → Stage
 headerStage true = S.OpeningHeaders
 headerStage false = S.ClosingHeaders
 
-abbrev pub stageBehind : Bool → Stage
+abbrev among : Bool → Bool → Elements → Header → ℕ → ℕ → Command → ℕ → Bool → Recording
+among opening closed e h group confirmed c copy locate = session (headerStage opening) closed e c (copiesAt h group copy confirmed locate)
+
+abbrev stageBehind : Bool → Stage
 stageBehind true = S.Elements
 stageBehind false = S.Done
 
--- copies of a group, all of them outstanding
-abbrev pub copiesAt : Header → ℕ → ℕ → ℕ → Bool → Copies
-copiesAt h group copy confirmed locate = record { header = h; group = group; copy = copy; outstanding = copy; confirmed = confirmed; locate = locate }
-
--- a buffer with n frames more
-abbrev pub appended : List ℕ → ℕ → List (List ℕ) → List (List ℕ)
-appended f zero fs = fs
-appended f (suc n) fs = appended f n (fs ++ f ∷ [])
+abbrev behind : Bool → Bool → Elements → Header → Recording
+behind opening closed e h = session (stageBehind opening) closed e ReadPosition (copiesAt h 1 5 5 false)
 
 -- the drive after a group, and after both
 abbrev pub groupWritten : Header → ℕ → Drive → Drive
@@ -74,12 +94,12 @@ groupWritten h group d = flushed (d .tape) (headerAddress group 0) (d .written) 
 abbrev pub headersWritten : Header → Drive → Drive
 headersWritten h d = groupWritten h 1 (groupWritten h 0 d)
 
--- the session among the copies of a group, and behind all of them
-abbrev among : Bool → Bool → Elements → Header → ℕ → ℕ → Command → ℕ → Bool → Recording
-among opening closed e h group confirmed c copy locate = session (headerStage opening) closed e c (copiesAt h group copy confirmed locate)
+-- its buffer with n frames more
+abbrev appended : List ℕ → ℕ → List (List ℕ) → List (List ℕ)
+appended f zero fs = fs
+appended f (suc n) fs = appended f n (fs ++ f ∷ [])
 
-abbrev pub behind : Bool → Bool → Elements → Header → Recording
-behind opening closed e h = session (stageBehind opening) closed e ReadPosition (copiesAt h 1 5 5 false)
+-- ---- the commands, by what happens
 
 module _ (closed : Bool) (e : Elements) (h : Header) (group confirmed : ℕ) (c : Command) where
   abbrev toLocate : Command
@@ -122,6 +142,20 @@ module _ (closed : Bool) (e : Elements) (h : Header) where
   second-group-through true c = record { free = refl; sized = refl; decided = refl; replied = refl }
   second-group-through false c = record { free = refl; sized = refl; decided = refl; replied = refl }
 
+opening-settled : (h : Header) → settledOf (behind true false (elements.startOf (h .last .0)) h) ≡ behind true false (elements.startOf (h .last .0)) h
+unfolding settledOf
+opening-settled h = refl
+
+closing-settled : (e : Elements) (h : Header) → settledOf (finished h e) ≡ finished h e
+unfolding settledOf
+closing-settled e h = pick-by (λ (s : Recording). s ≡ finished h e) (ltb 0 (e .pending)) (λ q. refl) (λ q. refl)
+
+done-decided : (e : Elements) (h : Header) → decisionOf (finished h e) ≡ decision.done
+unfolding decisionOf
+done-decided e h = refl
+
+-- ---- the stages
+
 module _ (window : List ℕ) (long : length window ≡ 32768) (accepted : List Element) (opening closed : Bool) (e : Elements) (h : Header) where
   module _ (group confirmed : ℕ) where
     copy-written : {cs : List Call} {u : World} (c : Command) (copy : ℕ) → copy < 5 → (t : Tape) (a : ℕ) (written : List ℕ) (fs : List (List ℕ))
@@ -152,7 +186,7 @@ module _ (window : List ℕ) (long : length window ≡ 32768) (accepted : List E
         (copies-written 5 0 refl (Locate (at (headerAddress group 0))) (d .tape) (headerAddress group 0) (d .written) []
         (λ last. flush window accepted (among opening closed e h group confirmed last 5 false) (replicate 5 (headerFrame h)) (d .tape) (headerAddress group 0) (d .written) (rest last)))
 
-  pub headers-written : {cs : List Call} {u : World} (d : Drive) → settledOf (behind opening closed e h) ≡ behind opening closed e h
+  headers-written : {cs : List Call} {u : World} (d : Drive) → settledOf (behind opening closed e h) ≡ behind opening closed e h
       → Runs (between window accepted (behind opening closed e h) (headersWritten h d)) cs u
       → Runs (between window accepted (session (headerStage opening) closed e ReadPosition (copies.startOf h)) d) (headerExchanges window cs) u
   unfolding meaningIn
@@ -162,3 +196,15 @@ module _ (window : List ℕ) (long : length window ≡ 32768) (accepted : List E
       (group-written 1 5 ReadPosition (groupWritten h 0 d) (λ f.
       exchange window accepted (among opening closed e h 1 5 f 5 false) (headersWritten h d) long (second-group-through closed e h opening f) (counts good refl refl)
       (subst (λ s. Runs (between window accepted s (headersWritten h d)) cs u) (sym settled) rest))))
+
+-- a session just opened writes its headers
+pub opening-written : (window : List ℕ) → length window ≡ 32768 → (h : Header) (d : Drive) {cs : List Call} {u : World}
+    → Runs (between window [] (writing h (elements.startOf (h .last .0)) ReadPosition) (headersWritten h d)) cs u
+    → Runs (started (fresh depth 0 h) window d) (headerExchanges window cs) u
+opening-written window long h d rest = headers-written window long [] true false (elements.startOf (h .last .0)) h d (opening-settled h) rest
+
+-- the closing headers, and a last fetch, which answers done
+pub closing-written : (window : List ℕ) → length window ≡ 32768 → (accepted : List Element) (e : Elements) (h : Header) (d : Drive)
+    → Runs (between window accepted (closing h e) d) (headerExchanges window (fetch window frame ∷ [])) (reported window accepted (finished h e) (headersWritten h d))
+closing-written window long accepted e h d =
+    headers-written window long accepted false true e h d (closing-settled e h) (done window accepted (finished h e) (headersWritten h d) long refl (done-decided e h))

@@ -1,4 +1,4 @@
--- The calls of a sample reading, and the reading of what the first sample recording left, to its end. Assumes nothing.
+-- The calls of a sample reading: one exchange of each kind, and its opening. Assumes nothing.
 use Prim.Native.Nat.{ℕ, _+_, _^_, _<_, _≤_}
 use mathlib.Core.Path.{_≡_, refl, ap, sym, subst, _∙_}
 use mathlib.Core.Bool.{Bool, true, false}
@@ -30,8 +30,8 @@ use Rattle.reading.specs.Open.{fresh, openOn, openOf}
 use Rattle.reading.specs.Fetch as fetch
 use Rattle.reading.specs.Reply as reply
 use Rattle.reading.specs.declared.session.Reading.{Reading}
-use Rattle.archive.specs.Recordings.{Element, block, filemark}
-use Rattle.archive.specs.Readings.{Flight, sent, answered, World, Call, fetching, replying, LentWith, withSession, fetchNumber, replyNumber, flightAfter, delivered, endAfter, Calls, refuses, fetches, replies, serves, Runs, stop, call, drive}
+use Rattle.archive.specs.Recordings.{Element}
+use Rattle.archive.specs.Readings.{Flight, sent, answered, World, Call, fetching, replying, LentWith, withSession, fetchNumber, replyNumber, flightAfter, delivered, Calls, refuses, fetches, replies, serves, Runs, stop, call, drive, endAfter}
 use Rattle.archive.specs.Readings as readings
 use Rattle.archive.specs.Sample.{geometry, frame, good, recovered, unreadable, endOfData}
 use Rattle.archive.proofs.sample.Exchange.{framed}

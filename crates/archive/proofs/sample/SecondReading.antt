@@ -8,6 +8,7 @@ use mathlib.Core.Option.{none, some}
 use native.Mathlib.Omega.{arith}
 use lib.Dec.{lit<, lit≤}
 use lib.ListN.{length}
+use Rattle.frame.specs.declared.element.Kind.the-variants.{Data}
 use Rattle.frame.specs.Frame.{blank, elementFrame}
 use Rattle.frame.specs.Header.{headerFrame}
 use Rattle.frame.proofs.Frames.{element-length}
@@ -15,21 +16,20 @@ use Rattle.archive.specs.Tape.{Tape, put}
 use Rattle.drive.specs.declared.command.Command.the-variants.{Read, Locate, ReadPosition}
 use Rattle.judgement.specs.Judgement as judgement
 use Rattle.judgement.proofs.Written.{judged-written, judged-other-pass}
-use Rattle.reading.specs.Open as opening-of
-use Rattle.reading.specs.Open.{openOf}
+use Rattle.reading.specs.Open.{Result, fresh, openOf}
 use Rattle.archive.specs.Readings.{World, Runs, started}
 use Rattle.archive.specs.Demand.{Faithful}
 use Rattle.archive.specs.Sample.{geometry, firstBlock, secondOpening, secondElements, secondFilemark, secondEod, secondClosing, secondReading}
 use Rattle.archive.proofs.tape.Basics.{reads-itself}
 use Rattle.archive.proofs.tape.ScanLaws.{put-other}
 use Rattle.archive.proofs.sample.Headers.{at}
+use Rattle.archive.proofs.tape.WrittenFrames.{block-fits}
 use Rattle.archive.proofs.sample.Tapes.{same-reads, headers-elsewhere}
 use Rattle.archive.proofs.sample.ReadingExchange.{between, before, address-located, frame-read, unreadable-skipped, blank-jumped, end-said, reading-opened}
-use Rattle.archive.proofs.sample.FirstRecording.{block-fits}
 use Rattle.archive.proofs.sample.FirstReading.{gap-empty}
-use Rattle.archive.proofs.sample.SecondRecording.{second-valid, afterMark, afterError, secondWritten, secondStart, reopening, secondLeft, second-readable, second-newest}
+use Rattle.archive.proofs.sample.SecondRecording.{afterMark, afterError, secondStart, secondOpened, secondWritten, secondLeft, second-valid, second-newest, second-readable}
 
-pub second-reading-opened : openOf geometry (headerFrame secondClosing) ≡ record { session = opening-of.fresh 11999 2 false; number = 0 }
+pub second-reading-opened : openOf geometry (headerFrame secondClosing) ≡ record { session = fresh 11999 2 false; number = 0 }
 second-reading-opened = reading-opened secondClosing refl (lit< tt) second-valid
 
 -- ---- the frames, as a reading of pass 2 judges them
@@ -40,14 +40,11 @@ filemark-found = judged-written secondFilemark (lit< tt) (lit< tt) blank refl (r
 eod-found : judgement.judgeFrame 11999 2 1 (elementFrame secondEod blank) ≡ judgement.end
 eod-found = judged-written secondEod (lit< tt) (lit< tt) blank refl (reads-itself (elementFrame secondEod blank))
 
-module _ (b : List ℕ) (full : length b ≡ 32768) where
-  block-passed-over : judgement.judgeFrame 11999 2 1 (elementFrame firstBlock b) ≡ judgement.skipped
-  block-passed-over = judged-other-pass firstBlock (lit< tt) (lit< tt) b (block-fits b full) (reads-itself (elementFrame firstBlock b)) 11999 1 2 (λ q. omega arith)
+-- ---- the tape
 
-  -- ---- the tape
-
-  abbrev left : Tape
-  left = secondLeft b full .tape
+module _ (b : List ℕ) where
+  abbrev pub left : Tape
+  left = secondLeft b .tape
 
   filemark-reads : left 10 ≡ some (elementFrame secondFilemark blank)
   unfolding put
@@ -63,36 +60,39 @@ module _ (b : List ℕ) (full : length b ≡ 32768) where
 
   still-empty : (a : ℕ) → 11 ≤ a → a < 44 → left a ≡ none
   still-empty a low high =
-      let t : Tape = reopening b full .tape in
-      let past : List ℕ = reopening b full .written in
-      headers-elsewhere secondClosing (secondWritten t past) a (inl (omega arith, omega arith))
-      ∙ put-other (afterError t past) 45 (some (elementFrame secondEod blank)) a (λ e. omega arith)
-      ∙ same-reads (afterMark t past) 11 a
+      let t : Tape = secondOpened b .tape in
+      headers-elsewhere secondClosing (secondWritten b) a (inl (omega arith, omega arith))
+      ∙ put-other (afterError t) 45 (some (elementFrame secondEod blank)) a (λ e. omega arith)
+      ∙ same-reads (afterMark t) 11 a
       ∙ put-other t 10 (some (elementFrame secondFilemark blank)) a (λ e. omega arith)
-      ∙ headers-elsewhere secondOpening (secondStart b full) a (inl (omega arith, omega arith))
-      ∙ gap-empty b full a low high
+      ∙ headers-elsewhere secondOpening (secondStart b) a (inl (omega arith, omega arith))
+      ∙ gap-empty b a low high
 
-  -- ---- the reading
+-- ---- the list
 
-  -- the end, with seven replies taken in
-  abbrev pub secondRead : World
-  secondRead = between 46 secondElements 7 (before 2 (Read (at 45)) 46 false 1 true)
+-- the end, with seven replies taken in
+abbrev pub secondRead : World
+secondRead = between 46 secondElements 7 (before 2 (Read (at 45)) 46 false 1 true)
 
-  from-fresh : (place : ℕ) → Runs left (started (opening-of.fresh 11999 2 false) place) (secondReading b) secondRead
+module _ (b : List ℕ) (full : length b ≡ 32768) where
+  block-passed-over : judgement.judgeFrame 11999 2 1 (elementFrame firstBlock b) ≡ judgement.skipped
+  block-passed-over = judged-other-pass firstBlock (lit< tt) (lit< tt) b (block-fits Data b full) (reads-itself (elementFrame firstBlock b)) 11999 1 2 (λ q. omega arith)
+
+  from-fresh : (place : ℕ) → Runs (left b) (started (fresh 11999 2 false) place) (secondReading b) secondRead
   from-fresh place =
-      address-located left 2 [] 0 ReadPosition 10 0 refl place
-      (frame-read left 2 [] 1 (Locate (at 10)) 10 0 refl refl false (elementFrame secondFilemark blank) judgement.filemark filemark-reads (element-length secondFilemark blank refl) filemark-found refl
-      (blank-jumped left 2 secondElements 2 (Read (at 10)) 11 1 refl refl (λ a low high. still-empty a low (omega arith))
-      (address-located left 2 secondElements 3 (Read (at 11)) 43 1 refl 11
-      (unreadable-skipped left 2 secondElements 4 (Locate (at 43)) 43 1 refl refl (still-empty 43 (lit≤ tt) (lit< tt))
-      (frame-read left 2 secondElements 5 (Read (at 43)) 44 1 refl refl true (elementFrame firstBlock b) judgement.skipped block-reads (element-length firstBlock b (block-fits b full)) block-passed-over refl
-      (frame-read left 2 secondElements 6 (Read (at 44)) 45 1 refl refl true (elementFrame secondEod blank) judgement.end eod-reads (element-length secondEod blank refl) eod-found refl
-      (end-said left 46 secondElements 7 2 (Read (at 45)) 46 1)))))))
+      address-located (left b) 2 [] 0 ReadPosition 10 0 refl place
+      (frame-read (left b) 2 [] 1 (Locate (at 10)) 10 0 refl refl false (elementFrame secondFilemark blank) judgement.filemark (filemark-reads b) (element-length secondFilemark blank refl) filemark-found refl
+      (blank-jumped (left b) 2 secondElements 2 (Read (at 10)) 11 1 refl refl (λ a low high. still-empty b a low (omega arith))
+      (address-located (left b) 2 secondElements 3 (Read (at 11)) 43 1 refl 11
+      (unreadable-skipped (left b) 2 secondElements 4 (Locate (at 43)) 43 1 refl refl (still-empty b 43 (lit≤ tt) (lit< tt))
+      (frame-read (left b) 2 secondElements 5 (Read (at 43)) 44 1 refl refl true (elementFrame firstBlock b) judgement.skipped (block-reads b) (element-length firstBlock b (block-fits Data b full)) block-passed-over refl
+      (frame-read (left b) 2 secondElements 6 (Read (at 44)) 45 1 refl refl true (elementFrame secondEod blank) judgement.end (eod-reads b) (element-length secondEod blank refl) eod-found refl
+      (end-said (left b) 46 secondElements 7 2 (Read (at 45)) 46 1)))))))
 
-  -- from the newest header that the cartridge holds: what the second accepted comes back, and the end
-  pub second-read : (place : ℕ) → Runs left (started (openOf geometry (headerFrame secondClosing) .session) place) (secondReading b) secondRead
-  second-read place = subst (λ (x : opening-of.Result). Runs left (started (x .session) place) (secondReading b) secondRead) (sym second-reading-opened) (from-fresh place)
+  -- from the newest header of the cartridge: what the second recording accepted comes back, and the end
+  pub second-read : (place : ℕ) → Runs (left b) (started (openOf geometry (headerFrame secondClosing) .session) place) (secondReading b) secondRead
+  second-read place = subst (λ (x : Result). Runs (left b) (started (x .session) place) (secondReading b) secondRead) (sym second-reading-opened) (from-fresh place)
 
-  -- and demand 3 says so of this list
+  -- and demand 3 speaks of this list
   pub second-faithful : Faithful 11999 secondElements secondRead
-  second-faithful = second-readable b full .reads (headerFrame secondClosing) 0 (secondReading b) secondRead (second-newest b full) (second-read 0)
+  second-faithful = second-readable b full .reads (headerFrame secondClosing) 0 (secondReading b) secondRead (second-newest b) (second-read 0)

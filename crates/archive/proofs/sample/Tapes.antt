@@ -1,18 +1,15 @@
 -- The tape that the header copies of a sample recording leave, and the frames of its elements. Assumes nothing.
 use Prim.Native.Nat.{ℕ, zero, suc, _+_, _^_, _≤_, _<_}
 use mathlib.Core.Path.{_≡_, refl, sym, ap, subst, _∙_}
-use mathlib.Core.Bool.{true, _&&_}
+use mathlib.Core.Bool.{true, false, true≢false}
 use mathlib.Core.List.{List, _∷_}
-use mathlib.Core.Logic.{_⊎_, inl, inr, ⊎-elim}
+use mathlib.Core.Logic.{_⊎_, inl, inr}
 use mathlib.Core.Option.{Option, none, some}
 use native.Mathlib.Decide.{ℕ-discrete}
 use native.Mathlib.Nat.{le-refl}
 use native.Mathlib.Omega.{arith}
-use borrow.Author.Tests.{leb-true}
-use lib.Dec.{leb}
 use lib.ListN.{length, drop, replicate}
 use Rattle.geometry.specs.Cartridge.{isHeader}
-use Rattle.geometry.proofs.TestLaws.{or-true, and-true}
 use Rattle.buffer.specs.Bytes.{get16}
 use Rattle.frame.specs.Aux.{elementAux}
 use Rattle.frame.specs.Frame.{elementFrame, elementFits}
@@ -24,8 +21,9 @@ use Rattle.frame.proofs.Frames.{element-aux, element-length, header-length}
 use Rattle.header.specs.Valid.{validHeader, updateOf}
 use Rattle.archive.specs.Conduct.{Drive}
 use Rattle.archive.specs.Tape.{Tape, put, Cartridge}
-use Rattle.archive.specs.Headers.{Newest}
+use Rattle.archive.specs.Headers.{Newest, NoHeader}
 use Rattle.archive.specs.Demand.{NoneBears}
+use Rattle.archive.proofs.tape.Places.{ranges}
 use Rattle.archive.proofs.tape.ScanLaws.{put-same, put-other}
 use Rattle.archive.proofs.tape.SeenLaws.{cartridge-put}
 use Rattle.archive.proofs.tape.UserPlaces.{User, user-ranges}
@@ -35,7 +33,7 @@ use Rattle.archive.proofs.sample.Headers.{groupWritten, headersWritten}
 some-same : {f g : List ℕ} → _≡_ {A = Option (List ℕ)} (some f) (some g) → f ≡ g
 some-same e = cc
 
-pub none-some : {X : Type 0} {f : List ℕ} → _≡_ {A = Option (List ℕ)} none (some f) → X
+none-some : {X : Type 0} {f : List ℕ} → _≡_ {A = Option (List ℕ)} none (some f) → X
 none-some e = let z : _≡_ {A = ℕ} 0 1 = cc in absurd (omega arith)
 
 -- ---- n frames f from an address on
@@ -69,20 +67,13 @@ module _ (f : List ℕ) where
 
 -- ---- the header copies
 
-header-ranges : (a : ℕ) → isHeader a ≡ true → ((5 ≤ a) × (a ≤ 9)) ⊎ ((2990 ≤ a) × (a ≤ 2994))
-header-ranges a h =
-    ⊎-elim
-    (λ t. let s = and-true (leb 5 a) (leb a 9) t in inl (leb-true 5 a (s .0), leb-true a 9 (s .1)))
-    (λ t. let s = and-true (leb 2990 a) (leb a 2994) t in inr (leb-true 2990 a (s .0), leb-true a 2994 (s .1)))
-    (or-true (leb 5 a && leb a 9) (leb 2990 a && leb a 2994) h)
-
 module _ (h : Header) (d : Drive) where
   abbrev firstGroup : Drive
   firstGroup = groupWritten h 0 d
 
   -- a copy at each address of the groups
   pub headers-read : (a : ℕ) → isHeader a ≡ true → headersWritten h d .tape a ≡ some (headerFrame h)
-  headers-read a group = go (header-ranges a group)
+  headers-read a group = go (ranges 5 9 2990 2994 a group)
     where
       go : ((5 ≤ a) × (a ≤ 9)) ⊎ ((2990 ≤ a) × (a ≤ 2994)) → headersWritten h d .tape a ≡ some (headerFrame h)
       go (inl r) =
@@ -131,6 +122,11 @@ empty-cartridge last = record { long = λ a f e. none-some e; bounded = λ a h. 
 
 pub empty-bears-none : (last pass : ℕ) → NoneBears last empty pass
 empty-bears-none last pass a f user reads bears = none-some reads
+
+-- one frame, and no header
+pub frame-on-none : (last a : ℕ) (v : Option (List ℕ)) → isHeader a ≡ false → NoHeader last (put empty a v)
+frame-on-none last a v off b h there =
+    none-some (sym (put-other empty a v b (λ e. true≢false (sym (there .group) ∙ ap isHeader e ∙ off))) ∙ there .reads)
 
 module _ (e : Element) (block : List ℕ) (fits : elementFits (e .kind) 33280 (length block) ≡ true) (t : Tape) (a : ℕ) where
   pub frame-cartridge : (last : ℕ) → a ≤ last → Cartridge last t → Cartridge last (put t a (some (elementFrame e block)))

@@ -10,7 +10,7 @@ use Rattle.geometry.specs.Cartridge.{isUser, isHeader}
 use Rattle.geometry.proofs.TestLaws.{or-true, and-true}
 
 -- an address of one of two ranges
-ranges : (a b c d e : ℕ) → ((leb a e && leb e b) || (leb c e && leb e d)) ≡ true → ((a ≤ e) × (e ≤ b)) ⊎ ((c ≤ e) × (e ≤ d))
+pub ranges : (a b c d e : ℕ) → ((leb a e && leb e b) || (leb c e && leb e d)) ≡ true → ((a ≤ e) × (e ≤ b)) ⊎ ((c ≤ e) × (e ≤ d))
 ranges a b c d e h =
     ⊎-elim
     (λ t. let s = and-true (leb a e) (leb e b) t in inl (leb-true a e (s .0), leb-true e b (s .1)))

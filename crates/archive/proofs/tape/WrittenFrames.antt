@@ -21,7 +21,7 @@ use Rattle.recording.specs.Fetch.{kindOf, elementOf, elementPlace, writtenEleme
 use Rattle.recording.proofs.BlockPlace.{place-inside, block-length}
 use Rattle.recording.specs.declared.session.Recording.{Recording}
 
-block-fits : (k : Kind) (b : List ℕ) → length b ≡ 32768 → elementFits k 33280 (length b) ≡ true
+pub block-fits : (k : Kind) (b : List ℕ) → length b ≡ 32768 → elementFits k 33280 (length b) ≡ true
 block-fits Data b h = eq-eqb (length b) 32768 h
 block-fits Marker b h = refl
 block-fits Eod b h = refl
