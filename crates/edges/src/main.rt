@@ -8,7 +8,7 @@ mod replies;
 fn main() {
     recordings::example();
     recordings::crossing();
-    recordings::sample();
+    recordings::one_block();
     readings::example();
     readings::passed_over();
     readings::jump_over();

@@ -1,7 +1,7 @@
 // Three recordings; each command is printed, a WRITE with the AUX fields of an element's frame.
 // The first is the example of 01, "Edges": block, filemark, block sent to 10, 11, 12, with an error at 11, skip 3.
 // The second goes by write errors to 2,985, over the second header group and to the end of a tape of 3,001 frames.
-// The third is the list that the archive crate proves to meet the premises of demand 3.
+// The third is a single block, with a busy WRITE and an error with skip 2.
 use crate::printing::print;
 use crate::printing::print_command;
 use crate::printing::print_number;
@@ -176,8 +176,8 @@ pub(crate) fn crossing() {
     play_crossing(s, &window);
 }
 
-// The list of the archive crate's sample, from LOCATE 10 on: busy at 10, an error there with skip 2, close, done.
-fn play_sample(session: Recording, window: &[u8]) {
+// From LOCATE 10 on: busy at 10, an error there with skip 2, close, done.
+fn play_one_block(session: Recording, window: &[u8]) {
     let mut s = play_good(session, window, 1);
     s = play(s, window, busy());
     s = play_good(s, window, 1);
@@ -189,7 +189,7 @@ fn play_sample(session: Recording, window: &[u8]) {
 }
 
 // One block of zeros, accepted behind the opening headers.
-pub(crate) fn sample() {
+pub(crate) fn one_block() {
     let block = [0u8; 32768];
     let mut window = [0u8; 32768];
     print(b"busy, then an error, at 10\n");
@@ -197,5 +197,5 @@ pub(crate) fn sample() {
     let mut s = session_of(Recording::open_blank(g, 16, 1));
     s = play_good(s, &window, 14);
     s = accept_blocks(s, &block, &mut window, 1);
-    play_sample(s, &window);
+    play_one_block(s, &window);
 }
