@@ -1,3 +1,4 @@
 pub mod Command
 pub mod Senses
 pub mod Listed
+pub mod Exchange
