@@ -15,6 +15,7 @@ use Rattle.archive.specs.Demand.{NoneBears, Readable, Within, Demand3}
 use Rattle.archive.proofs.recording.Setting.{Setting, Leaves}
 use Rattle.archive.proofs.recording.Invariant.{Inv, live, rejecting, over}
 use Rattle.archive.proofs.reading.Invariant.{RecordedTape, ReadInv}
+use Rattle.archive.proofs.recording.InvariantLaws.{flight-awaits, fetch-awaited}
 use Rattle.archive.proofs.recording.Start.{sets, pass-is, begins}
 use Rattle.archive.proofs.recording.DriveMoves.{keeps-move}
 use Rattle.archive.proofs.recording.Calls.{keeps-call}
@@ -56,6 +57,7 @@ demand-3 g last depth blocks d o s window calls w seg trk e cart unwritten rest 
     let i = runs-keep set (begins g last depth blocks d o s window e set cart unwritten rest op) r in
     record {
       written = within i;
+      alone = λ lent frame busy. fetch-awaited (w .session) lent frame (flight-awaits i busy);
       readable = λ newest none unaltered reported.
           readable g last pass (w .drive .tape) (w .accepted) e
           (completes w set i (newest, subst (NoneBears last (d .tape)) (sym (pass-is g last depth blocks s e o op)) none) unaltered reported);

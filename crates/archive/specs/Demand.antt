@@ -71,6 +71,8 @@ pub record Faithful (last : ℕ) (accepted : List Element) (w : readings.World) 
       → length lent ≡ 33280 → readings.refusal (w .session) (readings.replying r lent) ≡ 0
   -- as every frame is that the drive gave
   pub full : (r : Reply) (frame : List ℕ) → w .flight ≡ readings.answered r (some frame) → length frame ≡ 33280
+  -- no second command before the reply
+  pub alone : (w .flight ≡ readings.none → ⊥) → readings.refusal (w .session) readings.fetching ≡ 7
   -- the replies taken in are bounded, busy ones aside
   pub bounded : w .replies ≤ replyBound last
   -- at the end all of them are delivered, and a fetch says so again
@@ -94,6 +96,8 @@ pub data Within (last : ℕ) : List ℕ → Type 0 where
 pub record Promised (g : Geometry) (last : ℕ) (t : Tape) (o : Opening) (w : recordings.World) : Type 0 where
   -- under the conduct alone, closed or not
   pub written : Within last (w .drive .written)
+  -- no second command before the reply
+  pub alone : (lent frame : List ℕ) → (w .flight ≡ recordings.none → ⊥) → recordings.refusal (w .session) (recordings.fetch lent frame) ≡ 7
   -- where the session was opened as it should be, the window was lent back unaltered, and the close reported done
   pub readable : OnNewest last t o → NoneBears last t (newPass o) → w .unaltered ≡ true → w .reported ≡ true
       → Readable g last (w .drive .tape) (w .accepted)

@@ -4,6 +4,7 @@ use mathlib.Core.Path.{_≡_}
 use mathlib.Core.Bool.{Bool, true, false, _&&_}
 use mathlib.Core.List.{List, [], _∷_, _++_}
 use mathlib.Core.Logic.{_⊎_}
+use lib.Dec.{eqb}
 use Rattle.geometry.specs.Pick.{pick}
 use Rattle.buffer.specs.Bytes.{agree}
 use Rattle.archive.specs.Conduct.{Drive, Acts, Answers}
@@ -95,6 +96,9 @@ abbrev pub withSession : World → Recording → World
 withSession w s = record { session = s; window = w .window; unaltered = w .unaltered; drive = w .drive; flight = w .flight; accepted = w .accepted; reported = w .reported }
 
 -- an accept that is not refused adds its element
+abbrev pub acceptedAfter : ℕ → List Element → Element → List Element
+acceptedAfter n xs x = pick (eqb n 0) (xs ++ x ∷ []) xs
+
 abbrev pub afterBlock : World → List ℕ → List ℕ → World
 afterBlock w b lent = record {
   session = blockOf (w .session) b lent .result .session;
@@ -102,7 +106,7 @@ afterBlock w b lent = record {
   unaltered = w .unaltered && agree lent (w .window);
   drive = w .drive;
   flight = w .flight;
-  accepted = w .accepted ++ block b ∷ [];
+  accepted = acceptedAfter (blockOf (w .session) b lent .result .number) (w .accepted) (block b);
   reported = w .reported;
 }
 
@@ -113,7 +117,7 @@ afterFilemark w = record {
   unaltered = w .unaltered;
   drive = w .drive;
   flight = w .flight;
-  accepted = w .accepted ++ filemark ∷ [];
+  accepted = acceptedAfter (filemarkOf (w .session) .number) (w .accepted) filemark;
   reported = w .reported;
 }
 

@@ -507,6 +507,14 @@ module _ {last pass : ℕ} {t : Tape} {xs : List Element} (k : RecordedTape last
   agreed-long : {s : Reading} {at replies : ℕ} {r : Reply} {frame : List ℕ} → Agreed t s at replies (readings.answered r (some frame)) → length frame ≡ 33280
   agreed-long (served r given a g v) = given-long v
 
+  -- a command in flight is awaited
+  agreed-awaits : {s : Reading} {at replies : ℕ} {g : Flight} → Agreed t s at replies g → (g ≡ readings.none → ⊥) → s .awaiting ≡ true
+  agreed-awaits (to-seek _ _ _ _) h = absurd (h refl)
+  agreed-awaits (to-read _ _ _ _ _) h = absurd (h refl)
+  agreed-awaits (again _ _ _ _) h = absurd (h refl)
+  agreed-awaits (under-way _ a _ _ _ _) h = a
+  agreed-awaits (served _ _ a _ _) h = a
+
   ended-again : (w : World) → w .session .ended ≡ false → w .session .awaiting ≡ false → w .session .again ≡ false → w .session .finished ≡ true → w .flight ≡ readings.none → ReadInv last pass t xs w → ReadInv last pass t xs (afterFetch w)
   ended-again w e a g f q i = subst (λ x. ReadInv last pass t xs (afterFetching w x)) (sym (end-again (w .session) e a g f)) i
 
@@ -577,6 +585,7 @@ module _ {last pass : ℕ} {t : Tape} {xs : List Element} (k : RecordedTape last
         never-refused = n;
         goes-on = λ g q. command-given w f u (subst (Agreed t (w .session) (w .at) (w .replies)) q a);
         taken = λ r given lent q along long. reply-number w r given lent n m f u (subst (Agreed t (w .session) (w .at) (w .replies)) q a) along long;
+        alone = λ busy. ap (λ (x : fetch.Fetching). fetchNumber (x .said)) (refused-seven w n m f u (agreed-awaits a busy));
         full = λ r frame q. agreed-long (subst (Agreed t (w .session) (w .at) (w .replies)) q a);
         bounded = few-enough (stands-within (u .here)) a;
         complete = λ g. clash g m;
@@ -589,6 +598,7 @@ module _ {last pass : ℕ} {t : Tape} {xs : List Element} (k : RecordedTape last
     goes-on = λ g _. clash m g;
     taken = λ r given lent q2 _ _. none-answered (sym q ∙ q2);
     full = λ r frame q2. none-answered (sym q ∙ q2);
+    alone = λ busy. absurd (busy q);
     bounded = b;
     complete = λ _. d;
     says-again = λ _. ap (λ (x : fetch.Fetching). x .said) (end-again (w .session) e a g f);

@@ -29,7 +29,7 @@ use Rattle.recording.specs.declared.session.Stage.{Stage}
 use Rattle.recording.specs.declared.session.Stage.the-variants as S
 use Rattle.recording.proofs.BlockPlace.{place-inside}
 use Rattle.recording.proofs.Stages.{HeaderStage, ElementStage}
-use Rattle.archive.specs.Recordings.{World, Element, block, filemark, TakesEffect, afterBlock, afterFilemark}
+use Rattle.archive.specs.Recordings.{World, Element, block, filemark, TakesEffect, afterBlock, afterFilemark, acceptedAfter}
 use Rattle.archive.proofs.tape.Basics.{no-effect}
 use Rattle.archive.proofs.tape.WindowLaws.{put-same-block, put-other-block}
 use Rattle.archive.proofs.tape.Scan.{Seen}
@@ -98,16 +98,19 @@ mod-apart n i j l u e = go (decLe (suc (i / n)) (j / n))
     go (yes h) = omega (arith, a, b, mul-le-mul-right n h)
     go (no h) = let g : j / n ≤ i / n = omega arith in omega (arith, a, b, mul-le-mul-right n g)
 
-abbrev acceptedWorld : World → Recording → List ℕ → Bool → Element → World
-acceptedWorld w s window unaltered x = record {
+abbrev withAccepted : World → Recording → List ℕ → Bool → List Element → World
+withAccepted w s window unaltered xs = record {
   session = s;
   window = window;
   unaltered = unaltered;
   drive = w .drive;
   flight = w .flight;
-  accepted = w .accepted ++ x ∷ [];
+  accepted = xs;
   reported = w .reported;
 }
+
+abbrev acceptedWorld : World → Recording → List ℕ → Bool → Element → World
+acceptedWorld w s window unaltered x = withAccepted w s window unaltered (w .accepted ++ x ∷ [])
 
 -- what the window must keep and gain
 pub record Gains (s : Recording) (before after : List ℕ) (x : Element) (marks : List Bool) : Type 0 where
@@ -260,7 +263,7 @@ rejecting-more w s window unaltered x d ended awaiting command stage = record {
 pub keeps-filemark : {last pass : ℕ} {premises : Type 0} (w : World) → Setting last pass → Inv last pass premises w → TakesEffect (filemarkOf (w .session) .number) → Inv last pass premises (afterFilemark w)
 keeps-filemark {last} {pass} {premises} w set i te =
     let v = filemark-view (w .session) te in
-    subst (λ (r : Result). Inv last pass premises (acceptedWorld w (r .session) (w .window) (w .unaltered) filemark)) (sym (v .0)) (go (v .1) i)
+    subst (λ (r : Result). Inv last pass premises (withAccepted w (r .session) (w .window) (w .unaltered) (acceptedAfter (r .number) (w .accepted) filemark))) (sym (v .0)) (go (v .1) i)
   where
     go : Accepting (w .session) → Inv last pass premises w → Inv last pass premises (acceptedWorld w (withElement (w .session) true) (w .window) (w .unaltered) filemark)
     go acc (live wr l) =
@@ -271,7 +274,7 @@ keeps-filemark {last} {pass} {premises} w set i te =
 pub keeps-block : {last pass : ℕ} {premises : Type 0} (w : World) (b lent : List ℕ) → Setting last pass → Inv last pass premises w → TakesEffect (blockOf (w .session) b lent .result .number) → Inv last pass premises (afterBlock w b lent)
 keeps-block {last} {pass} {premises} w b lent set i te =
     let v = block-view (w .session) b lent te in
-    subst (λ (r : Stored). Inv last pass premises (acceptedWorld w (r .result .session) (r .window) (w .unaltered && agree lent (w .window)) (block b))) (sym (v .is)) (go v i)
+    subst (λ (r : Stored). Inv last pass premises (withAccepted w (r .result .session) (r .window) (w .unaltered && agree lent (w .window)) (acceptedAfter (r .result .number) (w .accepted) (block b)))) (sym (v .is)) (go v i)
   where
     go : Storing (w .session) b lent (blockOf (w .session) b lent) → Inv last pass premises w
         → Inv last pass premises (acceptedWorld w (withElement (w .session) false) (putBlock lent (placeOf (w .session)) b) (w .unaltered && agree lent (w .window)) (block b))

@@ -1,10 +1,22 @@
--- What the invariant tells of a recording that has not reported done. Assumes nothing.
+-- What the invariant tells of a recording that has not reported done, and of one with a command in flight. Assumes nothing.
 use Prim.Native.Nat.{ℕ}
-use mathlib.Core.Path.{_≡_, refl}
+use mathlib.Core.Path.{_≡_, refl, ap}
 use mathlib.Core.Bool.{Bool, true, false}
+use mathlib.Core.List.{List}
+use Rattle.geometry.proofs.PickLaws.{pick-t}
+use Rattle.geometry.proofs.TestLaws.{either-right}
+use Rattle.recording.specs.Fetch.{Fetching, fetchOf}
+use Rattle.recording.specs.declared.session.Recording.{Recording}
 use Rattle.recording.specs.declared.session.Stage.the-variants as S
-use Rattle.archive.specs.Recordings.{World}
-use Rattle.archive.proofs.recording.Invariant.{Live}
+use Rattle.archive.specs.Recordings as recordings
+use Rattle.archive.specs.Recordings.{World, Flight, fetchNumber}
+use Rattle.archive.specs.Conduct.{Drive}
+use Rattle.archive.proofs.recording.CopiesLink as copies
+use Rattle.archive.proofs.recording.CopiesLink.{Copying}
+use Rattle.archive.proofs.recording.ElementsLink as elements
+use Rattle.archive.proofs.recording.ElementsLink.{Writing}
+use Rattle.archive.proofs.recording.Invariant as invariant
+use Rattle.archive.proofs.recording.Invariant.{Course, Live, Inv, live, rejecting, over}
 
 pub unreported : {last pass : ℕ} {premises : Type 0} {w : World} → Live last pass premises w → (w .session .stage ≡ S.Done → ⊥) → w .reported ≡ false
 unreported {w = w} l n = go (w .reported) refl
@@ -12,3 +24,36 @@ unreported {w = w} l n = go (w .reported) refl
     go : (b : Bool) → w .reported ≡ b → w .reported ≡ false
     go true e = absurd (n (l .reported e))
     go false e = e
+
+-- a command in flight is awaited
+
+copying-awaits : {s : Recording} {d : Drive} {f : Flight} → Copying s d f → (f ≡ recordings.none → ⊥) → s .awaiting ≡ true
+copying-awaits (copies.at-place _ _ _) h = absurd (h refl)
+copying-awaits (copies.to-seek _ _ _) h = absurd (h refl)
+copying-awaits (copies.again _ _ _) h = absurd (h refl)
+copying-awaits (copies.under-way _ _ a _ _ _ _) h = a
+copying-awaits (copies.replied _ a _ _) h = a
+
+writing-awaits : {last : ℕ} {s : Recording} {d : Drive} {k edge : ℕ} {f : Flight} → Writing last s d k edge f → (f ≡ recordings.none → ⊥) → s .awaiting ≡ true
+writing-awaits (elements.at-place _ _ _) h = absurd (h refl)
+writing-awaits (elements.to-locate _ _ _ _) h = absurd (h refl)
+writing-awaits (elements.again _ _ _) h = absurd (h refl)
+writing-awaits (elements.under-way _ _ a _ _ _) h = a
+writing-awaits (elements.replied _ a _ _) h = a
+
+course-awaits : {last : ℕ} {w : World} {k edge : ℕ} → Course last w k edge → (w .flight ≡ recordings.none → ⊥) → w .session .awaiting ≡ true
+course-awaits (invariant.opening _ _ a) h = copying-awaits (a .copying) h
+course-awaits (invariant.writing _ a) h = writing-awaits a h
+course-awaits (invariant.ending _ _ _ a) h = writing-awaits a h
+course-awaits (invariant.closing _ _ _ _ a) h = copying-awaits (a .copying) h
+course-awaits (invariant.finished _ _ _ _ none _ _ _ _) h = absurd (h none)
+
+pub flight-awaits : {last pass : ℕ} {premises : Type 0} {w : World} → Inv last pass premises w → (w .flight ≡ recordings.none → ⊥) → w .session .awaiting ≡ true
+flight-awaits (live _ l) h = course-awaits (l .course) h
+flight-awaits (rejecting _ d) h = d .awaits
+flight-awaits (over _ o) h = absurd (h (o .none))
+
+-- so another fetch is refused with 7
+pub fetch-awaited : (s : Recording) (lent frame : List ℕ) → s .awaiting ≡ true → fetchNumber (fetchOf s lent frame .said) ≡ 7
+unfolding fetchOf
+fetch-awaited s lent frame a = ap (λ (x : Fetching). fetchNumber (x .said)) (pick-t _ (either-right (s .ended) (s .awaiting) a))

@@ -20,7 +20,7 @@ use Rattle.recording.specs.Fetch.{Fetching, decisionOf, send, awaits, frameFor,
 use Rattle.recording.specs.Reply.{replyOf}
 use Rattle.recording.specs.declared.session.Recording.{Recording}
 use Rattle.recording.proofs.FetchView.{fetch-decided}
-use Rattle.archive.specs.Recordings.{Element, block, filemark, Flight, none, answered, World, Call, accept-block, accept-filemark, close, fetch, reply, refusal, returned, fetchNumber, flightAfter, reportedAfter, Calls, refuses, accepts-block, accepts-filemark, closes, fetches, replies, acts, answers, Runs, stop, call, drive, windowAfter, sent}
+use Rattle.archive.specs.Recordings.{Element, block, filemark, Flight, none, answered, World, Call, accept-block, accept-filemark, close, fetch, reply, refusal, returned, fetchNumber, flightAfter, reportedAfter, Calls, refuses, accepts-block, accepts-filemark, closes, fetches, replies, acts, answers, Runs, stop, call, drive, windowAfter, sent, acceptedAfter}
 use Rattle.archive.specs.Sample.{firstOpening, frame}
 
 pub framed : length frame ≡ 33280
@@ -71,7 +71,7 @@ module _ (window : List ℕ) (accepted : List Element) (s : Recording) (d : Driv
 
   -- the world after a block is stored
   abbrev storedWorld : List ℕ → Bool → Stored → World
-  storedWorld b same x = record { session = x .result .session; window = x .window; unaltered = same; drive = d; flight = none; accepted = accepted ++ block b ∷ []; reported = false }
+  storedWorld b same x = record { session = x .result .session; window = x .window; unaltered = same; drive = d; flight = none; accepted = acceptedAfter (x .result .number) accepted (block b); reported = false }
 
 module _ (window : List ℕ) (accepted : List Element) (s : Recording) (d : Drive) {cs : List Call} {u : World} where
   -- what the drive does by itself
@@ -90,7 +90,7 @@ module _ (window : List ℕ) (accepted : List Element) (s : Recording) (d : Driv
   pub filemark-accepted : {next : Recording} → filemarkOf s ≡ accepting next → Runs (between window (accepted ++ filemark ∷ []) next d) cs u → Runs (between window accepted s d) (accept-filemark ∷ cs) u
   filemark-accepted {next} e rest =
       call
-      (subst (λ v. Calls (between window accepted s d) accept-filemark v) (ap (λ (x : Result). between window (accepted ++ filemark ∷ []) (x .session) d) e)
+      (subst (λ v. Calls (between window accepted s d) accept-filemark v) (ap (λ (x : Result). between window (acceptedAfter (x .number) accepted filemark) (x .session) d) e)
       (accepts-filemark (inl (ap (λ (x : Result). x .number) e)))) rest
 
   pub block-accepted : {next : Recording} (b after : List ℕ) → blockOf s b window ≡ record { result = accepting next; window = after }
