@@ -28,17 +28,17 @@ named {number} {address} {c} n = ap (λ (x : ℕ). commandBy x address) (n .numb
 -- ---- a recording
 
 module _ (s : Recording) (lent frame : List ℕ) (n a : ℕ) where
-  sends : (c : Command) → sending s c lent frame .said ≡ recording.command n a → Names n a (sending s c lent frame .session .command)
+  sends : (c : Command) → sending s c lent frame .said ≡ recording.command n a → Names n a (sending s c lent frame .session .exchange .command)
   unfolding sending
   sends c e = record { number-is = cc; address-is = cc }
 
-  pub answered-command : recording.fetchOf s lent frame .said ≡ recording.command n a → Names n a (recording.fetchOf s lent frame .session .command)
+  pub answered-command : recording.fetchOf s lent frame .said ≡ recording.command n a → Names n a (recording.fetchOf s lent frame .session .exchange .command)
   answered-command = go (fetch-view s lent frame)
     where
-      go : {f : recording.Fetching} → FetchView s lent frame f → f .said ≡ recording.command n a → Names n a (f .session .command)
+      go : {f : recording.Fetching} → FetchView s lent frame f → f .said ≡ recording.command n a → Names n a (f .session .exchange .command)
       go (view.wrongPhase _) e = never (cc)
       go (view.wrongLength _ _ _) e = never (cc)
-      go (view.repeating _ _) e = sends (s .command) e
+      go (view.repeating _ _) e = sends (s .exchange .command) e
       go (view.copying _ _ _) e = sends _ e
       go (view.stepping _ _ _ c _) e = sends c e
       go (view.resting _ _ _ _) e = never (cc)
@@ -47,7 +47,7 @@ module _ (s : Recording) (lent frame : List ℕ) (n a : ℕ) where
 
 -- it goes to the drive with the frame as the fetch left it
 pub sent-command : (w : recordings.World) (lent frame : List ℕ) (n a : ℕ) → recording.fetchOf (w .session) lent frame .said ≡ recording.command n a
-    → recordings.afterFetch w lent frame .flight ≡ recordings.sent (recordings.afterFetch w lent frame .session .command) (recording.fetchOf (w .session) lent frame .frame)
+    → recordings.afterFetch w lent frame .flight ≡ recordings.sent (recordings.afterFetch w lent frame .session .exchange .command) (recording.fetchOf (w .session) lent frame .frame)
 sent-command w lent frame n a e =
     ap (λ (x : recording.Said). recordings.flightAfter x (w .flight) (recording.fetchOf (w .session) lent frame .frame)) e
     ∙ ap (λ (c : Command). recordings.sent c (recording.fetchOf (w .session) lent frame .frame)) (named (answered-command (w .session) lent frame n a e))

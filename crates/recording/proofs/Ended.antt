@@ -30,8 +30,8 @@ module _ (s : Recording) (ended : s .ended ≡ true) where
 
   pub ended-fetch : (window frame : List ℕ) → fetchOf s window frame ≡ record { session = s; said = refused 7; frame = frame }
   unfolding fetchOf
-  ended-fetch window frame = pick-t _ (joined (s .awaiting))
+  ended-fetch window frame = pick-t _ (joined (s .exchange .awaiting))
 
   pub ended-reply : (r : Reply) → replyOf s r ≡ refusing s 7
   unfolding replyOf
-  ended-reply r = pick-t _ (joined (not (s .awaiting)))
+  ended-reply r = pick-t _ (joined (not (s .exchange .awaiting)))

@@ -11,21 +11,19 @@ use lib.ListN.{length}
 use Rattle.geometry.proofs.PickLaws.{pick-by}
 use Rattle.geometry.specs.declared.address.Address.{Address}
 use Rattle.geometry.specs.declared.address.Seq.{Seq}
-use Rattle.drive.specs.declared.command.Command.{Command}
+use Rattle.drive.specs.declared.exchange.Exchange.{Exchange}
 use Rattle.elements.specs.declared.trail.Trail.{Trail}
 use Rattle.recording.specs.declared.session.Recording.{Recording}
+use Rattle.recording.specs.declared.session.Setup.{Setup}
 use Rattle.recording.specs.declared.session.Stage.{Stage}
 use Rattle.recording.specs.declared.session.Stage.the-variants.{OpeningHeaders, Elements, Eod, ClosingHeaders, Done}
-use Rattle.recording.specs.Session.{windowLength, Result, settledBy, settledOf}
-use Rattle.recording.specs.Accept.{acceptsNone, isFull, filemarkOf, Stored, blockOf, closedOf, closeOf}
+use Rattle.recording.specs.Session.{windowLength, Result, closedOf, settledBy, settledOf}
+use Rattle.recording.specs.Accept.{acceptsNone, isFull, filemarkOf, Stored, blockOf, closeOf}
 
 -- the sizes, the command in flight, and the elements as the drive knows them
 pub record Held : Type 0 where
-  pub depth : ℕ
-  pub highest : ℕ
-  pub command : Command
-  pub awaiting : Bool
-  pub again : Bool
+  pub setup : Setup
+  pub exchange : Exchange
   pub first : Seq
   pub outstanding : ℕ
   pub next : Address
@@ -36,11 +34,8 @@ pub record Held : Type 0 where
 
 abbrev pub heldOf : Recording → Held
 heldOf s = record {
-  depth = s .depth;
-  highest = s .highest;
-  command = s .command;
-  awaiting = s .awaiting;
-  again = s .again;
+  setup = s .setup;
+  exchange = s .exchange;
   first = s .elements .first;
   outstanding = s .elements .outstanding;
   next = s .elements .next;

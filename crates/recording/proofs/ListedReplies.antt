@@ -32,10 +32,10 @@ use Rattle.recording.proofs.ReplyView.{Busy, Awaited, ReplyView, reply-
 
 -- a WRITE of an element or EOD goes to no header group, and one of a header to one
 abbrev pub OffHeaders : Recording → Type 0
-OffHeaders s = ElementStage s → (a : Address) → s .command ≡ Write a → isHeader (a .0) ≡ false
+OffHeaders s = ElementStage s → (a : Address) → s .exchange .command ≡ Write a → isHeader (a .0) ≡ false
 
 abbrev pub OnHeaders : Recording → Type 0
-OnHeaders s = HeaderStage s → (a : Address) → s .command ≡ Write a → isHeader (a .0) ≡ true
+OnHeaders s = HeaderStage s → (a : Address) → s .exchange .command ≡ Write a → isHeader (a .0) ≡ true
 
 -- ---- a reply that is not refused with 8 is listed
 
@@ -44,41 +44,41 @@ module _ (s : Recording) (r : Reply) where
   meaning = meaningOf (r .key) (r .asc) (r .ascq)
 
   abbrev Here : Type 0
-  Here = Listed (s .command) meaning
+  Here = Listed (s .exchange .command) meaning
 
   busy-listed : Busy (caseOf s r) → Here
-  busy-listed (inl e) = at-write (s .command) r 2 (omega arith) (λ _ _. on.write-busy) e
-  busy-listed (inr (inl e)) = at-locate (s .command) r 2 (omega arith) (λ _. on.locate-busy) e
-  busy-listed (inr (inr e)) = at-position (s .command) r 2 (omega arith) on.position-busy e
+  busy-listed (inl e) = at-write (s .exchange .command) r 2 (omega arith) (λ _ _. on.write-busy) e
+  busy-listed (inr (inl e)) = at-locate (s .exchange .command) r 2 (omega arith) (λ _. on.locate-busy) e
+  busy-listed (inr (inr e)) = at-position (s .exchange .command) r 2 (omega arith) on.position-busy e
 
   error-listed : (caseOf s r ≡ 0x0A03) ⊎ (caseOf s r ≡ 0x3403) → Here
-  error-listed (inl e) = at-write (s .command) r 3 (omega arith) (λ _ _. on.write-error) e
-  error-listed (inr e) = at-position (s .command) r 3 (omega arith) on.position-error e
+  error-listed (inl e) = at-write (s .exchange .command) r 3 (omega arith) (λ _ _. on.write-error) e
+  error-listed (inr e) = at-position (s .exchange .command) r 3 (omega arith) on.position-error e
 
   copies-listed : {x : copies.Said} → copying.AnswerView (s .copies) (caseOf s r) r x → (x ≡ copies.refused 8 → ⊥) → Here
-  copies-listed (copying.located e) h = at-locate (s .command) r 1 (omega arith) (λ _. on.locate-good) e
-  copies-listed (copying.taken e) h = at-write (s .command) r 1 (omega arith) (λ _ _. on.write-good) e
-  copies-listed (copying.positioned e _) h = at-position (s .command) r 1 (omega arith) on.position-good e
+  copies-listed (copying.located e) h = at-locate (s .exchange .command) r 1 (omega arith) (λ _. on.locate-good) e
+  copies-listed (copying.taken e) h = at-write (s .exchange .command) r 1 (omega arith) (λ _ _. on.write-good) e
+  copies-listed (copying.positioned e _) h = at-position (s .exchange .command) r 1 (omega arith) on.position-good e
   copies-listed (copying.failed e _ _) h = error-listed e
   copies-listed (copying.unlawful _) h = absurd (h refl)
 
-  elements-listed : {x : answer.Step} → ElementStage s → OffHeaders s → answers.AnswerView (s .elements) (caseOf s r) (at (commandAddress (s .command))) r x → (x .number ≡ 8 → ⊥) → Here
-  elements-listed st off (answers.located e) h = at-locate (s .command) r 1 (omega arith) (λ _. on.locate-good) e
-  elements-listed st off (answers.taken e) h = at-write (s .command) r 1 (omega arith) (λ _ _. on.write-good) e
-  elements-listed st off (answers.positioned e _) h = at-position (s .command) r 1 (omega arith) on.position-good e
+  elements-listed : {x : answer.Step} → ElementStage s → OffHeaders s → answers.AnswerView (s .elements) (caseOf s r) (at (commandAddress (s .exchange .command))) r x → (x .number ≡ 8 → ⊥) → Here
+  elements-listed st off (answers.located e) h = at-locate (s .exchange .command) r 1 (omega arith) (λ _. on.locate-good) e
+  elements-listed st off (answers.taken e) h = at-write (s .exchange .command) r 1 (omega arith) (λ _ _. on.write-good) e
+  elements-listed st off (answers.positioned e _) h = at-position (s .exchange .command) r 1 (omega arith) on.position-good e
   elements-listed st off (answers.failed e _ _ _) h = error-listed e
   elements-listed st off (answers.full e _ _ _) h = error-listed e
-  elements-listed st off (answers.shortened e) h = at-write (s .command) r 4 (omega arith) (λ a q. on.write-overflow (off st a q)) e
+  elements-listed st off (answers.shortened e) h = at-write (s .exchange .command) r 4 (omega arith) (λ a q. on.write-overflow (off st a q)) e
   elements-listed st off (answers.unlawful _) h = absurd (h refl)
 
-  pub taken-listed : s .ended ≡ false → s .awaiting ≡ true → OffHeaders s → (replyOf s r .number ≡ 8 → ⊥) → Here
+  pub taken-listed : s .ended ≡ false → s .exchange .awaiting ≡ true → OffHeaders s → (replyOf s r .number ≡ 8 → ⊥) → Here
   taken-listed running awaited off = go (reply-view s r)
     where
       headers : {p : copies.Said} → view.copiesSaid s r ≡ p → (p ≡ copies.refused 8 → ⊥) → Here
       headers e h = copies-listed (copying.answer-view (s .copies) (caseOf s r) r) (λ q. h (sym e ∙ q))
 
       elements : ElementStage s → (view.stepOf s r .number ≡ 8 → ⊥) → Here
-      elements st h = elements-listed st off (answers.answer-view (s .elements) (caseOf s r) (at (commandAddress (s .command))) r) h
+      elements st h = elements-listed st off (answers.answer-view (s .elements) (caseOf s r) (at (commandAddress (s .exchange .command))) r) h
 
       go : {x : Result} → ReplyView s r x → (x .number ≡ 8 → ⊥) → Here
       go (view.unasked (inl e)) h = clash e running
@@ -93,7 +93,7 @@ module _ (s : Recording) (r : Reply) where
       go (view.unforeseen _ _) h = absurd (h refl)
 
   -- so one that is not listed is refused with 8
-  pub unlisted-refused : s .ended ≡ false → s .awaiting ≡ true → OffHeaders s → (Here → ⊥) → replyOf s r .number ≡ 8
+  pub unlisted-refused : s .ended ≡ false → s .exchange .awaiting ≡ true → OffHeaders s → (Here → ⊥) → replyOf s r .number ≡ 8
   unlisted-refused running awaited off unlisted = go (ℕ-discrete (replyOf s r .number) 8)
     where
       go : Dec (replyOf s r .number ≡ 8) → replyOf s r .number ≡ 8
@@ -114,10 +114,10 @@ module _ (s : Recording) (r : Reply) where
     taken : n ≡ 0x0A01 → Case n
     counted : n ≡ 0x3401 → Case n
     failed : (n ≡ 0x0A03) ⊎ (n ≡ 0x3403) → Case n
-    overflowed : (a : Address) → s .command ≡ Write a → isHeader (a .0) ≡ false → n ≡ 0x0A04 → Case n
+    overflowed : (a : Address) → s .exchange .command ≡ Write a → isHeader (a .0) ≡ false → n ≡ 0x0A04 → Case n
     busy : Busy n → Case n
 
-  listed-case : (c : Command) (m : ℕ) → s .command ≡ c → Listed c m → ((a : Address) → c ≡ Read a → ⊥) → Case (commandCode c * 256 + m)
+  listed-case : (c : Command) (m : ℕ) → s .exchange .command ≡ c → Listed c m → ((a : Address) → c ≡ Read a → ⊥) → Case (commandCode c * 256 + m)
   listed-case c m e on.locate-good h = located refl
   listed-case c m e on.locate-busy h = busy (inr (inl refl))
   listed-case c m e on.write-good h = taken refl
@@ -154,7 +154,7 @@ module _ (s : Recording) (r : Reply) where
       go (busy n) = aw .ready n
 
   elements-refuse : {x : answer.Step} → Awaited s r → Possible (s .elements .outstanding) (baseOf (s .elements)) (s .elements .next .0) → Case (caseOf s r)
-      → answers.AnswerView (s .elements) (caseOf s r) (at (commandAddress (s .command))) r x → x .number ≡ 8 → ⊥
+      → answers.AnswerView (s .elements) (caseOf s r) (at (commandAddress (s .exchange .command))) r x → x .number ≡ 8 → ⊥
   elements-refuse aw p c (answers.located _) q = omega arith
   elements-refuse aw p c (answers.taken _) q = omega arith
   elements-refuse aw p c (answers.positioned _ _) q = omega arith
@@ -179,8 +179,8 @@ module _ (s : Recording) (r : Reply) where
     pub in-headers : HeaderStage s → Possible (s .copies .outstanding) (oldestAddress (s .copies)) (nextAddress (s .copies))
     pub in-elements : ElementStage s → Possible (s .elements .outstanding) (baseOf (s .elements)) (s .elements .next .0)
 
-  pub listed-taken : HeaderStage s ⊎ ElementStage s → ((a : Address) → s .command ≡ Read a → ⊥) → OnHeaders s → Lawful → Here → replyOf s r .number ≡ 8 → ⊥
-  listed-taken stage no-read on lawful listed = go (reply-view s r) (listed-case (s .command) meaning refl listed no-read)
+  pub listed-taken : HeaderStage s ⊎ ElementStage s → ((a : Address) → s .exchange .command ≡ Read a → ⊥) → OnHeaders s → Lawful → Here → replyOf s r .number ≡ 8 → ⊥
+  listed-taken stage no-read on lawful listed = go (reply-view s r) (listed-case (s .exchange .command) meaning refl listed no-read)
     where
       go : {x : Result} → ReplyView s r x → Case (caseOf s r) → x .number ≡ 8 → ⊥
       go (view.unasked _) c q = omega arith
@@ -190,5 +190,5 @@ module _ (s : Recording) (r : Reply) where
       go (view.finished _ _ _) c q = omega arith
       go (view.uncopied aw st n e) c q = copies-refuse st on aw (lawful .in-headers st) c (copying.answer-view (s .copies) (caseOf s r) r) e q
       go (view.stepping _ _ _) c q = omega arith
-      go (view.stopping aw st _) c q = elements-refuse aw (lawful .in-elements st) c (answers.answer-view (s .elements) (caseOf s r) (at (commandAddress (s .command))) r) q
+      go (view.stopping aw st _) c q = elements-refuse aw (lawful .in-elements st) c (answers.answer-view (s .elements) (caseOf s r) (at (commandAddress (s .exchange .command))) r) q
       go (view.unforeseen _ e) c q = ⊎-elim (λ st. header-not-done s st e) (λ st. element-not-done s st e) stage

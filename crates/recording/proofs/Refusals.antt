@@ -130,7 +130,7 @@ module _ (s : Recording) where
       go (fetching.copying _ _ _) e = never (sends s _ window frame e)
       go (fetching.stepping _ _ _ c _) e = never (sends s c window frame e)
       go (fetching.resting _ _ _ _) e = never (cc)
-      go (fetching.stopping _ _ _ m q) e = let number : m ≡ n = cc in ended-by n (omega (arith, due-number (dues.due-view (s .depth) (s .elements)) q))
+      go (fetching.stopping _ _ _ m q) e = let number : m ≡ n = cc in ended-by n (omega (arith, due-number (dues.due-view (s .setup .depth) (s .elements)) q))
       go (fetching.finished _ _ _) e = never (cc)
 
   pub refused-reply : (r : Reply) → Left (replyOf s r)
@@ -144,5 +144,5 @@ module _ (s : Recording) where
       go (replying.finished _ _ _) = accepted-by
       go (replying.uncopied _ _ n e) = ended-by n (copies-number (copying.answer-view (s .copies) (caseOf s r) r) e)
       go (replying.stepping _ _ _) = accepted-by
-      go (replying.stopping _ _ h) = ended-by _ (step-number (answers.answer-view (s .elements) (caseOf s r) (at (commandAddress (s .command))) r) h)
+      go (replying.stopping _ _ h) = ended-by _ (step-number (answers.answer-view (s .elements) (caseOf s r) (at (commandAddress (s .exchange .command))) r) h)
       go (replying.unforeseen _ _) = ended-by 8 (omega arith)

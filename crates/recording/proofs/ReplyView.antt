@@ -52,7 +52,7 @@ not-false false e = sym e
 -- a reply is awaited, and it is not busy
 pub record Awaited (s : Recording) (r : Reply) : Type 0 where
   pub going : s .ended ≡ false
-  pub asked : s .awaiting ≡ true
+  pub asked : s .exchange .awaiting ≡ true
   pub ready : Busy (caseOf s r) → ⊥
 
 abbrev pub copiesSaid : Recording → Reply → copies.Said
@@ -62,8 +62,8 @@ abbrev pub stepOf : Recording → Reply → answer.Step
 stepOf s r = elementStep s (caseOf s r) r
 
 pub data ReplyView (s : Recording) (r : Reply) : Result → Type 0 where
-  unasked : (s .ended ≡ true) ⊎ (s .awaiting ≡ false) → ReplyView s r (refusing s 7)
-  busy : s .ended ≡ false → s .awaiting ≡ true → Busy (caseOf s r) → ReplyView s r (accepting (repeatedOf s))
+  unasked : (s .ended ≡ true) ⊎ (s .exchange .awaiting ≡ false) → ReplyView s r (refusing s 7)
+  busy : s .ended ≡ false → s .exchange .awaiting ≡ true → Busy (caseOf s r) → ReplyView s r (accepting (repeatedOf s))
   copying : Awaited s r → HeaderStage s → (c : Copies) → copiesSaid s r ≡ copies.more c → ReplyView s r (accepting (withCopies (answeredOf s) c))
   opened : Awaited s r → s .stage ≡ S.OpeningHeaders → copiesSaid s r ≡ copies.complete → ReplyView s r (accepting (settledOf (withStage (answeredOf s) S.Elements)))
   finished : Awaited s r → s .stage ≡ S.ClosingHeaders → copiesSaid s r ≡ copies.complete → ReplyView s r (accepting (settledOf (withStage (answeredOf s) S.Done)))
@@ -100,10 +100,10 @@ module _ (s : Recording) (r : Reply) where
   pub reply-view : ReplyView s r (replyOf s r)
   unfolding replyOf
   reply-view =
-      pick-by (ReplyView s r) (s .ended || not (s .awaiting))
-      (λ t. unasked (⊎-elim inl (λ n. inr (not-true (s .awaiting) n)) (or-true _ _ t)))
-      (λ f. let phase = or-false (s .ended) (not (s .awaiting)) f in
-      let asked = not-false (s .awaiting) (phase .1) in
+      pick-by (ReplyView s r) (s .ended || not (s .exchange .awaiting))
+      (λ t. unasked (⊎-elim inl (λ n. inr (not-true (s .exchange .awaiting) n)) (or-true _ _ t)))
+      (λ f. let phase = or-false (s .ended) (not (s .exchange .awaiting)) f in
+      let asked = not-false (s .exchange .awaiting) (phase .1) in
       pick-by (ReplyView s r) (isBusy (caseOf s r))
       (λ t. busy (phase .0) asked (busy-of (caseOf s r) t))
       (λ g. stage-view (record { going = phase .0; asked = asked; ready = not-busy-of (caseOf s r) g }) (s .stage) refl))

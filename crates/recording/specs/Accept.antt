@@ -8,7 +8,7 @@ use Rattle.geometry.specs.Pick.{pick}
 use Rattle.elements.specs.Elements as elements
 use Rattle.recording.specs.declared.session.Recording.{Recording}
 use Rattle.recording.specs.declared.session.Outcome.{Outcome}
-use Rattle.recording.specs.Session.{windowOf, windowLength, Result, outcomeSaid, accepting, refusing, withElements, settledOf}
+use Rattle.recording.specs.Session.{windowOf, windowLength, Result, outcomeSaid, accepting, refusing, withElements, closedOf, settledOf}
 use Rattle.recording.specs.Window.{putBlock}
 
 -- refusal 7: the session has ended, or close was called
@@ -17,7 +17,7 @@ acceptsNone s = s .ended || s .closed
 
 -- refusal 6: W elements not yet on tape
 abbrev pub isFull : Recording → Bool
-isFull s = ltb (s .highest) (s .elements .pending)
+isFull s = ltb (s .setup .highest) (s .elements .pending)
 
 abbrev pub withElement : Recording → Bool → Recording
 withElement s mark = withElements s (elements.acceptedOf (s .elements) mark)
@@ -48,10 +48,6 @@ blockOf s block window =
     (pick (isFull s) (record { result = refusing s 6; window = window })
     (record { result = accepting (withElement s false); window = putBlock window (placeOf s) block }))
     (record { result = refusing s 1; window = window }))
-
--- close was called
-abbrev pub closedOf : Recording → Recording
-closedOf s = record { depth = s .depth; highest = s .highest; stage = s .stage; command = s .command; awaiting = s .awaiting; again = s .again; closed = true; ended = s .ended; copies = s .copies; elements = s .elements }
 
 unfoldable pub closeOf : Recording → Result
 closeOf s = pick (acceptsNone s) (refusing s 7) (accepting (settledOf (closedOf s)))

@@ -1,6 +1,6 @@
 -- 01, "A recording session": fetching the next command.
 use Prim.Native.Nat.{ℕ, _%_}
-use mathlib.Core.Bool.{Bool, true, false, _&&_, _||_}
+use mathlib.Core.Bool.{Bool, _&&_, _||_}
 use mathlib.Core.List.{List}
 use lib.Dec.{eqb}
 use lib.ListN.{length}
@@ -13,6 +13,7 @@ use Rattle.frame.specs.declared.element.Element.{Element}
 use Rattle.frame.specs.declared.element.Kind.{Kind}
 use Rattle.frame.specs.declared.element.Kind.the-variants as K
 use Rattle.drive.specs.Command.{commandCode, commandAddress}
+use Rattle.drive.specs.Exchange.{sentOf}
 use Rattle.drive.specs.declared.command.Command.{Command}
 use Rattle.drive.specs.declared.command.Command.the-variants.{Read, Write, Locate, ReadPosition}
 use Rattle.copies.specs.Copies as copies
@@ -25,7 +26,7 @@ use Rattle.recording.specs.declared.session.Answer.{Answer}
 use Rattle.recording.specs.declared.session.Answer.the-variants as A
 use Rattle.recording.specs.declared.session.Stage.{Stage}
 use Rattle.recording.specs.declared.session.Stage.the-variants as S
-use Rattle.recording.specs.Session.{windowOf, windowLength, endedOf}
+use Rattle.recording.specs.Session.{windowOf, windowLength, endedOf, withExchange}
 use Rattle.recording.specs.Window.{blockAt}
 
 -- what is due
@@ -42,7 +43,7 @@ decisionSaid A.Done = done
 decisionSaid (A.Refused r) = refuse (refusalNumber r)
 
 abbrev pub headerDue : Recording → Decision
-headerDue s = send (copies.commandOf (s .depth) (s .copies))
+headerDue s = send (copies.commandOf (s .setup .depth) (s .copies))
 
 abbrev pub elementDueBy : due.Said → Decision
 elementDueBy (due.send c) = send c
@@ -50,7 +51,7 @@ elementDueBy due.idle = idle
 elementDueBy (due.refused n) = refuse n
 
 abbrev pub elementDue : Recording → Decision
-elementDue s = elementDueBy (due.dueOf (s .depth) (s .elements))
+elementDue s = elementDueBy (due.dueOf (s .setup .depth) (s .elements))
 
 -- by stage: opening headers, LOCATE 10 and elements, EOD, closing headers, done
 abbrev pub decisionBy : Stage → Recording → Decision
@@ -62,7 +63,7 @@ decisionBy S.Done s = done
 
 -- after busy the same command, whichever rule then applies
 unfoldable pub decisionOf : Recording → Decision
-decisionOf s = pick (s .again) (send (s .command)) (decisionBy (s .stage) s)
+decisionOf s = pick (s .exchange .again) (send (s .exchange .command)) (decisionBy (s .stage) s)
 
 -- the next element to be written, or EOD, its AUX for the present position of the latest marker
 abbrev pub kindBy : Stage → Bool → Kind
@@ -130,7 +131,7 @@ fetched r frame = record { session = r .session; said = answerSaid (r .answer); 
 
 -- the command goes out and its reply is awaited
 abbrev pub awaits : Recording → Command → Recording
-awaits s c = record { depth = s .depth; highest = s .highest; stage = s .stage; command = c; awaiting = true; again = false; closed = s .closed; ended = s .ended; copies = s .copies; elements = s .elements }
+awaits s c = withExchange s (sentOf c)
 
 -- only a WRITE writes to the frame, and then all of it
 abbrev pub frameFor : Command → Recording → List ℕ → List ℕ → List ℕ
@@ -159,7 +160,7 @@ answering (refuse n) s window frame = record { session = endedOf s; said = refus
 -- refusal 7 where the session has ended or a reply is awaited; 1 where a length is wrong
 unfoldable pub fetchOf : Recording → List ℕ → List ℕ → Fetching
 fetchOf s window frame =
-    pick (s .ended || s .awaiting) (record { session = s; said = refused 7; frame = frame })
+    pick (s .ended || s .exchange .awaiting) (record { session = s; said = refused 7; frame = frame })
     (pick (eqb (length window) (windowLength s) && eqb (length frame) 33280)
     (answering (decisionOf s) s window frame)
     (record { session = s; said = refused 1; frame = frame }))

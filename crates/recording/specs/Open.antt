@@ -10,22 +10,19 @@ use Rattle.geometry.specs.Cartridge.{lastOf}
 use Rattle.geometry.specs.declared.cartridge.Geometry.{Geometry}
 use Rattle.frame.specs.declared.header.Header.{Header}
 use Rattle.header.specs.Valid.{validHeader, headerOf}
-use Rattle.drive.specs.declared.command.Command.the-variants.{ReadPosition}
+use Rattle.drive.specs.Exchange.{unsent}
 use Rattle.copies.specs.Copies as copies
 use Rattle.elements.specs.Elements as elements
 use Rattle.recording.specs.declared.session.Recording.{Recording}
 use Rattle.recording.specs.declared.session.Stage.the-variants as S
 use Rattle.recording.specs.Session.{Result, accepting, ending}
 
--- a session whose opening headers are due; it holds W - 1
+-- a session whose opening headers are due; highest is W − 1
 abbrev pub fresh : ℕ → ℕ → Header → Recording
 fresh depth highest h = record {
-  depth = depth;
-  highest = highest;
+  setup = record { depth = depth; highest = highest };
   stage = S.OpeningHeaders;
-  command = ReadPosition;
-  awaiting = false;
-  again = false;
+  exchange = unsent;
   closed = false;
   ended = false;
   copies = copies.startOf h;

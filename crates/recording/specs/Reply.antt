@@ -1,10 +1,11 @@
 -- 01, "Replies": what a reply changes.
 use Prim.Native.Nat.{ℕ, _+_, _*_}
-use mathlib.Core.Bool.{true, false, _||_, not}
+use mathlib.Core.Bool.{_||_, not}
 use lib.Dec.{eqb}
 use Rattle.geometry.specs.Pick.{pick}
 use Rattle.drive.specs.Command.{commandCode, commandAddress}
 use Rattle.drive.specs.Senses.{meaningOf}
+use Rattle.drive.specs.Exchange as exchange
 use Rattle.drive.specs.declared.reply.Reply.{Reply}
 use Rattle.copies.specs.Copies as copies
 use Rattle.elements.specs.Elements as elements
@@ -13,18 +14,18 @@ use Rattle.elements.specs.declared.state.Elements.{Elements}
 use Rattle.recording.specs.declared.session.Recording.{Recording}
 use Rattle.recording.specs.declared.session.Stage.{Stage}
 use Rattle.recording.specs.declared.session.Stage.the-variants as S
-use Rattle.recording.specs.Session.{Result, accepting, refusing, ending, withStage, withCopies, withElements, settledOf}
+use Rattle.recording.specs.Session.{Result, accepting, refusing, ending, withStage, withExchange, withCopies, withElements, settledOf}
 
 -- the command's code and, as the low byte, the meaning of the sense triple
 abbrev pub caseOf : Recording → Reply → ℕ
-caseOf s r = commandCode (s .command) * 256 + meaningOf (r .key) (r .asc) (r .ascq)
+caseOf s r = commandCode (s .exchange .command) * 256 + meaningOf (r .key) (r .asc) (r .ascq)
 
 abbrev pub answeredOf : Recording → Recording
-answeredOf s = record { depth = s .depth; highest = s .highest; stage = s .stage; command = s .command; awaiting = false; again = s .again; closed = s .closed; ended = s .ended; copies = s .copies; elements = s .elements }
+answeredOf s = withExchange s (exchange.answeredOf (s .exchange))
 
 -- busy: the next fetch gives the same command; nothing else changes
 abbrev pub repeatedOf : Recording → Recording
-repeatedOf s = record { depth = s .depth; highest = s .highest; stage = s .stage; command = s .command; awaiting = false; again = true; closed = s .closed; ended = s .ended; copies = s .copies; elements = s .elements }
+repeatedOf s = withExchange s (exchange.repeatedOf (s .exchange))
 
 -- behind the opening headers the elements, behind the closing headers done
 abbrev pub completedBy : Stage → Recording → Recording
@@ -49,7 +50,7 @@ abbrev pub elementReplyBy : ℕ → Elements → Recording → Result
 elementReplyBy n e s = pick (eqb n 0) (accepting (settledOf (withElements (answeredOf s) e))) (ending s n)
 
 abbrev pub elementStep : Recording → ℕ → Reply → answer.Step
-elementStep s n r = answer.answerOf (s .elements) n (elements.at (commandAddress (s .command))) r
+elementStep s n r = answer.answerOf (s .elements) n (elements.at (commandAddress (s .exchange .command))) r
 
 unfoldable pub elementReply : Recording → ℕ → Reply → Result
 elementReply s n r = elementReplyBy (elementStep s n r .number) (elementStep s n r .elements) s
@@ -67,6 +68,6 @@ stageReply s n r = stageReplyBy (s .stage) s n r
 -- refusal 7 without a command; busy on any command; else by stage, in which every reply that is not listed gives refusal 8
 unfoldable pub replyOf : Recording → Reply → Result
 replyOf s r =
-    pick (s .ended || not (s .awaiting)) (refusing s 7)
+    pick (s .ended || not (s .exchange .awaiting)) (refusing s 7)
     (pick (eqb (caseOf s r) 0x2B02 || (eqb (caseOf s r) 0x0A02 || eqb (caseOf s r) 0x3402)) (accepting (repeatedOf s))
     (stageReply s (caseOf s r) r))

@@ -5,6 +5,7 @@ use lib.Dec.{ltb}
 use Rattle.geometry.specs.Pick.{pick}
 use Rattle.geometry.specs.Refused.{verdictNumber}
 use Rattle.frame.specs.declared.header.Header.{Header}
+use Rattle.drive.specs.declared.exchange.Exchange.{Exchange}
 use Rattle.copies.specs.Copies as copies
 use Rattle.copies.specs.declared.state.Copies.{Copies}
 use Rattle.elements.specs.Elements as elements
@@ -14,9 +15,9 @@ use Rattle.recording.specs.declared.session.Outcome.{Outcome}
 use Rattle.recording.specs.declared.session.Stage.{Stage}
 use Rattle.recording.specs.declared.session.Stage.the-variants as S
 
--- W, and the length of a window
+-- W, of which a session holds W − 1, and the length of a window
 abbrev pub windowOf : Recording → ℕ
-windowOf s = s .highest + 1
+windowOf s = s .setup .highest + 1
 
 abbrev pub windowLength : Recording → ℕ
 windowLength s = windowOf s * 32768
@@ -36,22 +37,29 @@ accepting s = record { session = s; number = 0 }
 abbrev pub refusing : Recording → ℕ → Result
 refusing s n = record { session = s; number = n }
 
+-- the session with one field set
+abbrev pub withStage : Recording → Stage → Recording
+withStage s stage = record { setup = s .setup; stage = stage; exchange = s .exchange; closed = s .closed; ended = s .ended; copies = s .copies; elements = s .elements }
+
+abbrev pub withExchange : Recording → Exchange → Recording
+withExchange s x = record { setup = s .setup; stage = s .stage; exchange = x; closed = s .closed; ended = s .ended; copies = s .copies; elements = s .elements }
+
+abbrev pub withCopies : Recording → Copies → Recording
+withCopies s c = record { setup = s .setup; stage = s .stage; exchange = s .exchange; closed = s .closed; ended = s .ended; copies = c; elements = s .elements }
+
+abbrev pub withElements : Recording → Elements → Recording
+withElements s e = record { setup = s .setup; stage = s .stage; exchange = s .exchange; closed = s .closed; ended = s .ended; copies = s .copies; elements = e }
+
+-- close was called
+abbrev pub closedOf : Recording → Recording
+closedOf s = record { setup = s .setup; stage = s .stage; exchange = s .exchange; closed = true; ended = s .ended; copies = s .copies; elements = s .elements }
+
 -- refusals 8 to 12: session ended
 abbrev pub endedOf : Recording → Recording
-endedOf s = record { depth = s .depth; highest = s .highest; stage = s .stage; command = s .command; awaiting = s .awaiting; again = s .again; closed = s .closed; ended = true; copies = s .copies; elements = s .elements }
+endedOf s = record { setup = s .setup; stage = s .stage; exchange = s .exchange; closed = s .closed; ended = true; copies = s .copies; elements = s .elements }
 
 abbrev pub ending : Recording → ℕ → Result
 ending s n = record { session = endedOf s; number = n }
-
--- the session with another stage, other header copies or other elements
-abbrev pub withStage : Recording → Stage → Recording
-withStage s stage = record { depth = s .depth; highest = s .highest; stage = stage; command = s .command; awaiting = s .awaiting; again = s .again; closed = s .closed; ended = s .ended; copies = s .copies; elements = s .elements }
-
-abbrev pub withCopies : Recording → Copies → Recording
-withCopies s c = record { depth = s .depth; highest = s .highest; stage = s .stage; command = s .command; awaiting = s .awaiting; again = s .again; closed = s .closed; ended = s .ended; copies = c; elements = s .elements }
-
-abbrev pub withElements : Recording → Elements → Recording
-withElements s e = record { depth = s .depth; highest = s .highest; stage = s .stage; command = s .command; awaiting = s .awaiting; again = s .again; closed = s .closed; ended = s .ended; copies = s .copies; elements = e }
 
 -- EOD becomes due: it carries the next number and is no filemark
 abbrev pub eodDue : Recording → Recording

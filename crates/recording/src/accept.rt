@@ -20,17 +20,16 @@ impl Recording {
         ensures { λ r. ⌜ r ≡ isFull self ⌝ }
     {
         let elements = self.elements;
-        (self.highest as u16) < elements.pending
+        let setup = self.setup;
+        (setup.highest as u16) < elements.pending
     }
 
-    fn with_element(self, mark: bool) -> Recording
+    fn with_element(mut self, mark: bool) -> Recording
         ensures { λ r. ⌜ r ≡ withElement self mark ⌝ }
     {
         let elements = self.elements;
-        Recording {
-            elements: elements.accept(mark),
-            ..self
-        }
+        self.elements = elements.accept(mark);
+        self
     }
 
     // Accepts a filemark.

@@ -9,6 +9,7 @@ use crate::session::Recording;
 use crate::session::Stage;
 use crate::window::block_at;
 use drive::Command;
+use drive::Exchange;
 use elements::Due;
 use frame::Element;
 use frame::Kind;
@@ -22,7 +23,8 @@ impl Recording {
         ensures { λ r. ⌜ decisionSaid r ≡ elementDue self ⌝ }
     {
         let elements = self.elements;
-        let due = elements.due(self.depth);
+        let setup = self.setup;
+        let due = elements.due(setup.depth);
         match due {
             Due::Send(c) => Answer::Command(c),
             Due::Idle => Answer::Idle,
@@ -35,15 +37,17 @@ impl Recording {
         ensures { λ r. ⌜ decisionSaid r ≡ headerDue self ⌝ }
     {
         let copies = self.copies;
-        Answer::Command(copies.command(self.depth))
+        let setup = self.setup;
+        Answer::Command(copies.command(setup.depth))
     }
 
     // What a fetch answers, once the session is found able to: the same command after busy, else what is due in this stage.
     fn decide(self) -> Answer
         ensures { λ r. ⌜ decisionSaid r ≡ decisionOf self ⌝ }
     {
-        if self.again {
-            let c = self.command;
+        let exchange = self.exchange;
+        if exchange.again {
+            let c = exchange.command;
             return Answer::Command(c);
         }
         let stage = self.stage;
@@ -134,7 +138,7 @@ impl Recording {
     }
 
     // Hands out a command: only a WRITE writes to the frame.
-    fn send(self, c: Command, window: &[u8], frame: &mut [u8]) -> Fetched
+    fn send(mut self, c: Command, window: &[u8], frame: &mut [u8]) -> Fetched
         requires { ⌜ length (now window) ≡ windowLength self ⌝ }
         requires { ⌜ length (now frame) ≡ 33280 ⌝ }
         ensures { λ r. ⌜ fetched r (now (frame .exit)) ≡ sending self c (now (window .entry)) (now (frame .entry)) ⌝ }
@@ -142,13 +146,9 @@ impl Recording {
         if let Command::Write(_) = c {
             self.fill(window, frame);
         }
+        self.exchange = Exchange::sent(c);
         Fetched {
-            session: Recording {
-                command: c,
-                awaiting: true,
-                again: false,
-                ..self
-            },
+            session: self,
             answer: Answer::Command(c),
         }
     }
@@ -166,7 +166,8 @@ impl Recording {
     pub fn fetch(mut self, window: &[u8], frame: &mut [u8]) -> Fetched
         ensures { λ r. ⌜ fetched r (now (frame .exit)) ≡ fetchOf self (now (window .entry)) (now (frame .entry)) ⌝ }
     {
-        if self.ended | self.awaiting {
+        let exchange = self.exchange;
+        if self.ended | exchange.awaiting {
             return self.refuse_fetch(Refusal::Phase);
         }
         if window.len() != self.window() * 32768 {

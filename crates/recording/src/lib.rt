@@ -10,4 +10,5 @@ pub use session::Answer;
 pub use session::Fetched;
 pub use session::Outcome;
 pub use session::Recording;
+pub use session::Setup;
 pub use session::Stage;

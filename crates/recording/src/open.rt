@@ -6,9 +6,10 @@ ghost use Rattle.recording.specs.Session.{outcomeSaid};
 ghost use Rattle.recording.specs.Open.{fresh, openRefused, openWith, isExhausted, renewed, openOn, openOf, openBlankOf};
 use crate::session::Outcome;
 use crate::session::Recording;
+use crate::session::Setup;
 use crate::session::Stage;
 use copies::Copies;
-use drive::Command;
+use drive::Exchange;
 use elements::Elements;
 use frame::Header;
 use geometry::Address;
@@ -24,12 +25,12 @@ fn fresh_session(depth: u8, highest: u8, header: Header) -> Recording
 {
     let last = header.last;
     Recording {
-        depth: depth,
-        highest: highest,
+        setup: Setup {
+            depth: depth,
+            highest: highest,
+        },
         stage: Stage::OpeningHeaders,
-        command: Command::ReadPosition,
-        awaiting: false,
-        again: false,
+        exchange: Exchange::unsent(),
         closed: false,
         ended: false,
         copies: Copies::start(header),

@@ -18,14 +18,16 @@ impl Recording {
     fn case(self, reply: Reply) -> u16
         ensures { λ r. ⌜ r ≡ caseOf self reply ⌝ }
     {
-        let c = self.command;
+        let exchange = self.exchange;
+        let c = exchange.command;
         (code(c) as u16) * 256 + (meaning(reply.key, reply.asc, reply.ascq) as u16)
     }
 
     fn answered(mut self) -> Recording
         ensures { λ r. ⌜ r ≡ answeredOf self ⌝ }
     {
-        self.awaiting = false;
+        let exchange = self.exchange;
+        self.exchange = exchange.answered();
         self
     }
 
@@ -33,8 +35,8 @@ impl Recording {
     fn repeated(mut self) -> Recording
         ensures { λ r. ⌜ r ≡ repeatedOf self ⌝ }
     {
-        self.awaiting = false;
-        self.again = true;
+        let exchange = self.exchange;
+        self.exchange = exchange.repeated();
         self
     }
 
@@ -58,38 +60,35 @@ impl Recording {
         }
     }
 
-    fn header_reply(self, case: u16, reply: Reply) -> Outcome
+    fn header_reply(mut self, case: u16, reply: Reply) -> Outcome
         ensures { λ r. ⌜ outcomeSaid r ≡ headerReply self «case» reply ⌝ }
     {
         let copies = self.copies;
         let progress = copies.answer(case, reply);
         match progress {
-            Progress::More(c) => Recording {
-                awaiting: false,
-                copies: c,
-                ..self
-            }.accepted(),
+            Progress::More(c) => {
+                self.copies = c;
+                self.answered().accepted()
+            }
             Progress::Complete => self.answered().completed().settle().accepted(),
             Progress::Refused(r) => self.end(r),
         }
     }
 
-    fn element_reply(self, case: u16, reply: Reply) -> Outcome
+    fn element_reply(mut self, case: u16, reply: Reply) -> Outcome
         ensures { λ r. ⌜ outcomeSaid r ≡ elementReply self «case» reply ⌝ }
     {
         let elements = self.elements;
-        let c = self.command;
+        let exchange = self.exchange;
+        let c = exchange.command;
         let stepped = elements.answer(case, address(c), reply);
         let verdict = stepped.verdict;
         let next = stepped.elements;
         match verdict {
-            Verdict::Accepted => Recording {
-                awaiting: false,
-                elements: next,
-                ..self
+            Verdict::Accepted => {
+                self.elements = next;
+                self.answered().settle().accepted()
             }
-                .settle()
-                .accepted(),
             Verdict::Refused(r) => self.end(r),
         }
     }
@@ -111,7 +110,8 @@ impl Recording {
     pub fn reply(self, reply: Reply) -> Outcome
         ensures { λ r. ⌜ outcomeSaid r ≡ replyOf self reply ⌝ }
     {
-        if self.ended | !self.awaiting {
+        let exchange = self.exchange;
+        if self.ended | !exchange.awaiting {
             return self.refuse(Refusal::Phase);
         }
         let case = self.case(reply);

@@ -4,6 +4,7 @@ ghost use Rattle.geometry.specs.Refused.{refusalNumber};
 ghost use Rattle.recording.specs.Session.{windowOf, outcomeSaid, accepting, refusing, ending, eodDue, closingHeader, closingStarted, settledOf};
 use copies::Copies;
 use drive::Command;
+use drive::Exchange;
 use elements::Elements;
 use frame::Header;
 use geometry::Address;
@@ -19,16 +20,18 @@ pub enum Stage {
     Done,
 }
 
-pub struct Recording {
+// The sizes that a session was opened with.
+pub struct Setup {
     // D, the frames that the drive buffers.
     pub depth: u8,
-    // W - 1: the highest block of the window. So W is never 0.
+    // W - 1, the highest block of the window: so every session's window has a block.
     pub highest: u8,
+}
+
+pub struct Recording {
+    pub setup: Setup,
     pub stage: Stage,
-    // The last command, whether its reply is awaited, and whether it is to be given again.
-    pub command: Command,
-    pub awaiting: bool,
-    pub again: bool,
+    pub exchange: Exchange,
     // Whether close was called.
     pub closed: bool,
     // Whether a refusal of 8 to 12 has ended the session.
@@ -61,7 +64,8 @@ impl Recording {
     pub(crate) fn window(self) -> usize
         ensures { λ r. ⌜ r ≡ windowOf self ⌝ }
     {
-        (self.highest as usize) + 1
+        let setup = self.setup;
+        (setup.highest as usize) + 1
     }
 
     pub(crate) fn accepted(self) -> Outcome

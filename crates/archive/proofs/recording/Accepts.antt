@@ -21,8 +21,8 @@ use Rattle.drive.specs.Senses.{meaningOf}
 use Rattle.elements.specs.Elements as elements
 use Rattle.elements.specs.declared.state.Elements.{Elements}
 use Rattle.elements.proofs.AcceptLaws.{mark-kept, accepted-new}
-use Rattle.recording.specs.Accept.{acceptsNone, isFull, withElement, filemarkOf, placeOf, Stored, blockOf, closedOf, closeOf}
-use Rattle.recording.specs.Session.{Result, windowOf, windowLength, accepting, eodDue, closingStarted, settledBy, settledOf}
+use Rattle.recording.specs.Accept.{acceptsNone, isFull, withElement, filemarkOf, placeOf, Stored, blockOf, closeOf}
+use Rattle.recording.specs.Session.{closedOf, Result, windowOf, windowLength, accepting, eodDue, closingStarted, settledBy, settledOf}
 use Rattle.recording.specs.Window.{blockAt, putBlock}
 use Rattle.recording.specs.declared.session.Recording.{Recording}
 use Rattle.recording.specs.declared.session.Stage.{Stage}
@@ -47,10 +47,10 @@ use Rattle.archive.proofs.recording.Setting.{Setting}
 pub record Accepting (s : Recording) : Type 0 where
   pub going : s .ended ≡ false
   pub unclosed : s .closed ≡ false
-  pub room : s .elements .pending ≤ s .highest
+  pub room : s .elements .pending ≤ s .setup .highest
 
 accepting-so : (s : Recording) → acceptsNone s ≡ false → isFull s ≡ false → Accepting s
-accepting-so s a b = let x = or-false (s .ended) (s .closed) a in record { going = x .0; unclosed = x .1; room = ltb-false (s .highest) (s .elements .pending) b }
+accepting-so s a b = let x = or-false (s .ended) (s .closed) a in record { going = x .0; unclosed = x .1; room = ltb-false (s .setup .highest) (s .elements .pending) b }
 
 pub filemark-view : (s : Recording) → TakesEffect (filemarkOf s .number) → (filemarkOf s ≡ accepting (withElement s true)) × Accepting s
 unfolding filemarkOf
@@ -248,7 +248,7 @@ module _ {last pass : ℕ} {premises : Type 0} (w : World) (set : Setting last p
 
 -- ---- the calls
 
-rejecting-more : {last : ℕ} (w : World) (s : Recording) (window : List ℕ) (unaltered : Bool) (x : Element) (d : Rejecting last w) → s .ended ≡ w .session .ended → s .awaiting ≡ w .session .awaiting → s .command ≡ w .session .command → s .stage ≡ w .session .stage → Rejecting last (acceptedWorld w s window unaltered x)
+rejecting-more : {last : ℕ} (w : World) (s : Recording) (window : List ℕ) (unaltered : Bool) (x : Element) (d : Rejecting last w) → s .ended ≡ w .session .ended → s .exchange .awaiting ≡ w .session .exchange .awaiting → s .exchange .command ≡ w .session .exchange .command → s .stage ≡ w .session .stage → Rejecting last (acceptedWorld w s window unaltered x)
 rejecting-more w s window unaltered x d ended awaiting command stage = record {
   reply = d .reply;
   going = ended ∙ d .going;
@@ -285,7 +285,7 @@ keeps-block {last} {pass} {premises} w b lent set i te =
         let width = windowOf (w .session) in
         let exact : (first + pending) % 2 ^ 32 ≡ first + pending = mod-eq-of-lt (first-small w set l false (block b) acc (l .course)) in
         let place-is : placeOf (w .session) ≡ (first + pending) % width = ap (λ (n : ℕ). n % width) exact in
-        let room : placeOf (w .session) * 32768 + 32768 ≤ length lent = subst (λ (n : ℕ). placeOf (w .session) * 32768 + 32768 ≤ n) (sym (v .long)) (place-inside (elements.numberOf (w .session .elements) pending) (w .session .highest)) in
+        let room : placeOf (w .session) * 32768 + 32768 ≤ length lent = subst (λ (n : ℕ). placeOf (w .session) * 32768 + 32768 ≤ n) (sym (v .long)) (place-inside (elements.numberOf (w .session .elements) pending) (w .session .setup .highest)) in
         live wr
         (live-more w set l false (block b) acc (putBlock lent (placeOf (w .session)) b) (w .unaltered && agree lent (w .window))
         (λ u.
@@ -296,7 +296,7 @@ keeps-block {last} {pass} {premises} w b lent set i te =
             keeps = λ i h.
                 put-other-block lent b (placeOf (w .session)) room (v .full) ((first + i) % width)
                 (λ q. mod-apart width (first + i) (first + pending) (omega arith) (omega (arith, acc .room)) (q ∙ place-is))
-                (subst (λ (n : ℕ). (first + i) % width * 32768 + 32768 ≤ n) (sym (v .long)) (place-inside (first + i) (w .session .highest)))
+                (subst (λ (n : ℕ). (first + i) % width * 32768 + 32768 ≤ n) (sym (v .long)) (place-inside (first + i) (w .session .setup .highest)))
                 ∙ ap (λ (x : List ℕ). blockAt x ((first + i) % width)) same;
             gains =
                 (subst (λ (n : ℕ). blockAt (putBlock lent (placeOf (w .session)) b) n ≡ b) place-is (put-same-block lent b (placeOf (w .session)) room (v .full)), accepted-new (w .session .elements) false (l .counted .marks));

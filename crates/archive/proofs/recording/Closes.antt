@@ -9,8 +9,8 @@ use lib.ListN.{length, length-set}
 use Rattle.drive.specs.Listed.{Listed}
 use Rattle.drive.specs.Senses.{meaningOf}
 use Rattle.elements.specs.Elements as elements
-use Rattle.recording.specs.Accept.{closedOf, closeOf}
-use Rattle.recording.specs.Session.{Result, windowOf, eodDue, closingStarted, settledOf}
+use Rattle.recording.specs.Accept.{closeOf}
+use Rattle.recording.specs.Session.{closedOf, Result, windowOf, eodDue, closingStarted, settledOf}
 use Rattle.recording.specs.declared.session.Recording.{Recording}
 use Rattle.recording.specs.declared.session.Stage.{Stage}
 use Rattle.recording.specs.declared.session.Stage.the-variants as S
@@ -110,7 +110,7 @@ module _ {last pass : ℕ} {premises : Type 0} (w : World) (l : Live last pass p
   not-eod e (inv.closing q c a b g) = clash c unclosed
   not-eod e (inv.finished q c a b f g h r y) = clash c unclosed
 
-rejecting-close : {last : ℕ} (w : World) (s : Recording) → Rejecting last w → s .ended ≡ w .session .ended → s .awaiting ≡ w .session .awaiting → s .command ≡ w .session .command → (ElementStage s → ElementStage (w .session)) → Rejecting last (withSession w s)
+rejecting-close : {last : ℕ} (w : World) (s : Recording) → Rejecting last w → s .ended ≡ w .session .ended → s .exchange .awaiting ≡ w .session .exchange .awaiting → s .exchange .command ≡ w .session .exchange .command → (ElementStage s → ElementStage (w .session)) → Rejecting last (withSession w s)
 rejecting-close w s d ended awaiting command stage = record {
   reply = d .reply;
   going = ended ∙ d .going;

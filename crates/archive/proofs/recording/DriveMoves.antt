@@ -160,7 +160,7 @@ module _ {last pass : ℕ} {premises : Type 0} {w : World} (set : Setting last p
     within : Within last (d .written)
     within = subst (Within last) (sym (same-tape an .1)) written
 
-    lost : (w .session .stage ≡ S.Done → ⊥) → w .session .awaiting ≡ true → (Listed (w .session .command) (meaningOf (r .key) (r .asc) (r .ascq)) → ⊥) → OffHeaders (w .session) → Safe last d
+    lost : (w .session .stage ≡ S.Done → ⊥) → w .session .exchange .awaiting ≡ true → (Listed (w .session .exchange .command) (meaningOf (r .key) (r .asc) (r .ascq)) → ⊥) → OffHeaders (w .session) → Safe last d
         → Inv last pass premises (withDrive w d (recordings.answered r))
     lost n a h off safe = rejecting within (record { reply = r; going = l .going; awaits = a; replied = refl; unlisted = h; off-headers = off; safe = safe; unreported = unreported l n })
 

@@ -155,7 +155,7 @@ module _ {last pass : ℕ} {premises : Type 0} (w : World) (r : Reply) (set : Se
           go (yes h) = seen-moves (c .tape) (last + 1) h here
           go (no h) = seen-top (set .large) (c .tape) (omega arith) here
 
-      closing-live : w .session .again ≡ false → Live last pass premises (repliedWorld w (closingStarted stepped))
+      closing-live : w .session .exchange .again ≡ false → Live last pass premises (repliedWorld w (closingStarted stepped))
       closing-live again =
           let c = counted-so in
           record {
@@ -193,7 +193,7 @@ module _ {last pass : ℕ} {premises : Type 0} (w : World) (r : Reply) (set : Se
     writing : w .session .stage ≡ S.Elements → Ends
     ending-one : w .session .stage ≡ S.Eod → w .session .closed ≡ true → w .session .elements .pending ≡ 1 → Ends
 
-  settles : w .session .again ≡ false → Ends → (e : Elements) → Step last (w .session) (w .drive) (l .k) (l .edge) e → Inv last pass premises (repliedWorld w (settledOf (withElements (answeredOf (w .session)) e)))
+  settles : w .session .exchange .again ≡ false → Ends → (e : Elements) → Step last (w .session) (w .drive) (l .k) (l .edge) e → Inv last pass premises (repliedWorld w (settledOf (withElements (answeredOf (w .session)) e)))
   settles again (writing q) e s =
       let x = stepped-live e s (inv.writing q (s .writing)) in
       settled-cases (withElements (answeredOf (w .session)) e) (λ (v : Recording). Inv last pass premises (repliedWorld w v)) (λ _. live wr x)
@@ -211,7 +211,7 @@ module _ {last pass : ℕ} {premises : Type 0} (w : World) (r : Reply) (set : Se
 
   -- ---- by what the drive gave
 
-  module _ (again : w .session .again ≡ false) (asked : w .session .awaiting ≡ true) (which : Ends) where
+  module _ (again : w .session .exchange .again ≡ false) (asked : w .session .exchange .awaiting ≡ true) (which : Ends) where
     in-stage : (n : ℕ) → stageReply (w .session) n r ≡ elementReply (w .session) n r
     in-stage n = ⊎-elim (λ q. ap (λ (x : Stage). stageReplyBy x (w .session) n r) q) (λ q. ap (λ (x : Stage). stageReplyBy x (w .session) n r) q) st
 
@@ -228,7 +228,7 @@ module _ {last pass : ℕ} {premises : Type 0} (w : World) (r : Reply) (set : Se
     low : w .session .elements .pending ≤ 64
     low = let a = l .counted .windowed in let b = l .counted .wide in omega arith
 
-    repeated : {c : Command} (n : ℕ) → w .session .command ≡ c → caseOf (w .session) r ≡ n → isBusy n ≡ true → Asks last (heldOf (w .session)) (w .session .elements .pending) (w .drive) (l .k) (l .edge) c → After (replyOf (w .session) r)
+    repeated : {c : Command} (n : ℕ) → w .session .exchange .command ≡ c → caseOf (w .session) r ≡ n → isBusy n ≡ true → Asks last (heldOf (w .session)) (w .session .elements .pending) (w .drive) (l .k) (l .edge) c → After (replyOf (w .session) r)
     repeated n e z b y =
         subst After (sym (reply-busy (w .session) r (l .going) asked n z b))
         (live wr (record {
@@ -242,14 +242,14 @@ module _ {last pass : ℕ} {premises : Type 0} (w : World) (r : Reply) (set : Se
           content = λ p u. let c = l .content p u in record { tape = c .tape; seen = c .seen; below = c .below; stored = c .stored; queue = c .queue; sent = λ _ _ _ z. none-sent z };
         }))
       where
-        asks : Asks last (heldOf (repeatedOf (w .session))) (w .session .elements .pending) (w .drive) (l .k) (l .edge) (w .session .command)
+        asks : Asks last (heldOf (repeatedOf (w .session))) (w .session .elements .pending) (w .drive) (l .k) (l .edge) (w .session .exchange .command)
         asks = reask (heldOf (w .session)) (heldOf (repeatedOf (w .session))) refl refl refl refl (subst (λ (i : Command). Asks last (heldOf (w .session)) (w .session .elements .pending) (w .drive) (l .k) (l .edge) i) (sym e) y)
 
         course : Ends → Course last (repliedWorld w (repeatedOf (w .session))) (l .k) (l .edge)
         course (writing q) = inv.writing q (elements.again refl refl asks)
         course (ending-one q c one) = inv.ending q c one (elements.again refl refl asks)
 
-    busy-by : {c : Command} → Means r busy → w .session .command ≡ c → Asks last (heldOf (w .session)) (w .session .elements .pending) (w .drive) (l .k) (l .edge) c → After (replyOf (w .session) r)
+    busy-by : {c : Command} → Means r busy → w .session .exchange .command ≡ c → Asks last (heldOf (w .session)) (w .session .elements .pending) (w .drive) (l .k) (l .edge) c → After (replyOf (w .session) r)
     busy-by m e (elements.writes a p d o lo y) = repeated 0x0A02 e (case-is (w .session) r (l .going) asked e m) refl (elements.writes a p d o lo y)
     busy-by m e (elements.asks y) = repeated 0x3402 e (case-is (w .session) r (l .going) asked e m) refl (elements.asks y)
     busy-by m e (elements.moves a y) = repeated 0x2B02 e (case-is (w .session) r (l .going) asked e m) refl (elements.moves a y)
@@ -257,7 +257,7 @@ module _ {last pass : ℕ} {premises : Type 0} (w : World) (r : Reply) (set : Se
     small : last + 65 < 2 ^ 32
     small = set .small
 
-    element-replies : (c : Command) → w .session .command ≡ c → Answered last (heldOf (w .session)) (w .session .elements .pending) (w .drive) (l .k) (l .edge) r c → After (replyOf (w .session) r)
+    element-replies : (c : Command) → w .session .exchange .command ≡ c → Answered last (heldOf (w .session)) (w .session .elements .pending) (w .drive) (l .k) (l .edge) r c → After (replyOf (w .session) r)
     unfolding answer.answerOf
     element-replies c e (elements.taken a m due x) =
         by 0x0A01 (case-is (w .session) r (l .going) asked e m) refl refl (steps.goes _ (taken-step last (w .session) (w .drive) (l .k) (l .edge) small again (l .counted .held) low (l .counted .room) due x)) (link-safe x)
@@ -280,4 +280,4 @@ module _ {last pass : ℕ} {premises : Type 0} (w : World) (r : Reply) (set : Se
     element-replies c e (elements.waits k m x) = busy-by m e x
 
   pub elements-reply : Ends → Writing last (w .session) (w .drive) (l .k) (l .edge) (recordings.answered r) → After (replyOf (w .session) r)
-  elements-reply which (elements.replied _ a g x) = element-replies g a which (w .session .command) refl x
+  elements-reply which (elements.replied _ a g x) = element-replies g a which (w .session .exchange .command) refl x

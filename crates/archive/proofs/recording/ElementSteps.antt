@@ -51,7 +51,7 @@ pub data Reached (last : ℕ) (s : Recording) (d : Drive) (k edge : ℕ) : answe
   unlawful : (e : Elements) → Reached last s d k edge (refusing e 8)
   full : (e : Elements) → Reached last s d k edge (refusing e 9)
 
-module _ (last : ℕ) (s : Recording) (d : Drive) (k edge : ℕ) (small : last + 65 < 2 ^ 32) (again : s .again ≡ false) (held : s .elements .outstanding ≤ s .elements .pending) (low : s .elements .pending ≤ 64) (room : s .elements .limit .0 ≤ last + 1) where
+module _ (last : ℕ) (s : Recording) (d : Drive) (k edge : ℕ) (small : last + 65 < 2 ^ 32) (again : s .exchange .again ≡ false) (held : s .elements .outstanding ≤ s .elements .pending) (low : s .elements .pending ≤ 64) (room : s .elements .limit .0 ≤ last + 1) where
   pub taken-step : s .elements .outstanding < s .elements .pending → Linked last (heldOf s) d k edge 1 → Step last s d k edge (takenOf (s .elements))
   taken-step due l =
       let roof = l .roof in

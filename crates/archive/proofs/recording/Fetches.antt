@@ -185,7 +185,7 @@ module _ {last pass : ℕ} {premises : Type 0} (w : World) (lent frame : List �
         (goes-out c (l .edge) (course (record { counts = agree .counts; placed = agree .placed; copying = copies.under-way c (frameFor c (w .session) lent frame) refl refl refl (header-sent c) asked }))
         (λ p u same. content-out c p u same (l .content p u .seen) (λ _ _ el _. header-not-element (w .session) st el)))
 
-    asks-header : {c : Command} → PlacedOf (w .session .copies) → command.CommandView (w .session .depth) (w .session .copies) c → w .session .again ≡ false → Copying (w .session) (w .drive) recordings.none → CopyAsks (w .session .copies) (w .drive) c
+    asks-header : {c : Command} → PlacedOf (w .session .copies) → command.CommandView (w .session .setup .depth) (w .session .copies) c → w .session .exchange .again ≡ false → Copying (w .session) (w .drive) recordings.none → CopyAsks (w .session .copies) (w .drive) c
     asks-header pl (command.locating t) ag (copies.at-place a g x) = clash t (x .placed)
     asks-header pl (command.locating t) ag (copies.to-seek a g x) = copies.seeks (copying.headerAt (w .session .copies)) (header-from-first (w .session .copies .group) (w .session .copies .copy) (pl .left t)) x
     asks-header pl (command.locating t) ag (copies.again a g x) = clash g ag
@@ -196,7 +196,7 @@ module _ {last pass : ℕ} {premises : Type 0} (w : World) (lent frame : List �
     asks-header pl (command.asking f y) ag (copies.to-seek a g x) = clash (x .due) f
     asks-header pl (command.asking f y) ag (copies.again a g x) = clash g ag
 
-    again-header : w .session .again ≡ true → Copying (w .session) (w .drive) recordings.none → CopyAsks (w .session .copies) (w .drive) (w .session .command)
+    again-header : w .session .exchange .again ≡ true → Copying (w .session) (w .drive) recordings.none → CopyAsks (w .session .copies) (w .drive) (w .session .exchange .command)
     again-header ag (copies.at-place a g x) = clash ag g
     again-header ag (copies.to-seek a g x) = clash ag g
     again-header ag (copies.again a g x) = x
@@ -234,7 +234,7 @@ module _ {last pass : ℕ} {premises : Type 0} (w : World) (lent frame : List �
         });
       }
 
-  out-element : {c : Command} → rule.DueView (w .session .depth) (w .session .elements) (due.send c) → w .session .again ≡ false → Writing last (w .session) (w .drive) (l .k) (l .edge) recordings.none → Out c
+  out-element : {c : Command} → rule.DueView (w .session .setup .depth) (w .session .elements) (due.send c) → w .session .exchange .again ≡ false → Writing last (w .session) (w .drive) (l .k) (l .edge) recordings.none → Out c
   out-element (rule.relocating r) ag (elements.at-place a g x) = clash r (x .placed)
   out-element (rule.relocating r) ag (elements.to-locate a g q x) = record { edge = l .edge; further = le-refl (l .edge); asks = elements.moves (w .session .elements .target) x }
   out-element (rule.relocating r) ag (elements.again a g x) = clash g ag
@@ -252,7 +252,7 @@ module _ {last pass : ℕ} {premises : Type 0} (w : World) (lent frame : List �
   out-element (rule.writing r p room below off) ag (elements.to-locate a g q x) = clash q r
   out-element (rule.writing r p room below off) ag (elements.again a g x) = clash g ag
 
-  again-element : w .session .again ≡ true → Writing last (w .session) (w .drive) (l .k) (l .edge) recordings.none → Out (w .session .command)
+  again-element : w .session .exchange .again ≡ true → Writing last (w .session) (w .drive) (l .k) (l .edge) recordings.none → Out (w .session .exchange .command)
   again-element ag (elements.at-place a g x) = clash ag g
   again-element ag (elements.to-locate a g q x) = clash ag g
   again-element ag (elements.again a g x) = record { edge = l .edge; further = le-refl (l .edge); asks = x }
@@ -291,21 +291,21 @@ module _ {last pass : ℕ} {premises : Type 0} (w : World) (lent frame : List �
 
 -- ---- no reply is awaited, so no command is in flight
 
-copying-idle : {s : Recording} {d : Drive} {f : Flight} → s .awaiting ≡ false → Copying s d f → Copying s d recordings.none
+copying-idle : {s : Recording} {d : Drive} {f : Flight} → s .exchange .awaiting ≡ false → Copying s d f → Copying s d recordings.none
 copying-idle a (copies.at-place b g x) = copies.at-place b g x
 copying-idle a (copies.to-seek b g x) = copies.to-seek b g x
 copying-idle a (copies.again b g x) = copies.again b g x
 copying-idle a (copies.under-way c f b g e h x) = clash b a
 copying-idle a (copies.replied r b g x) = clash b a
 
-writing-idle : {last : ℕ} {s : Recording} {d : Drive} {k edge : ℕ} {f : Flight} → s .awaiting ≡ false → Writing last s d k edge f → Writing last s d k edge recordings.none × (f ≡ recordings.none)
+writing-idle : {last : ℕ} {s : Recording} {d : Drive} {k edge : ℕ} {f : Flight} → s .exchange .awaiting ≡ false → Writing last s d k edge f → Writing last s d k edge recordings.none × (f ≡ recordings.none)
 writing-idle a (elements.at-place b g x) = (elements.at-place b g x, refl)
 writing-idle a (elements.to-locate b g r x) = (elements.to-locate b g r x, refl)
 writing-idle a (elements.again b g x) = (elements.again b g x, refl)
 writing-idle a (elements.under-way c f b g e x) = clash b a
 writing-idle a (elements.replied r b g x) = clash b a
 
-writing-safe : {last : ℕ} {s : Recording} {d : Drive} {k edge : ℕ} → s .again ≡ false → Writing last s d k edge recordings.none → Safe last d
+writing-safe : {last : ℕ} {s : Recording} {d : Drive} {k edge : ℕ} → s .exchange .again ≡ false → Writing last s d k edge recordings.none → Safe last d
 writing-safe ag (elements.at-place b g x) = link-safe x
 writing-safe ag (elements.to-locate b g r x) = rests-safe (x .rests)
 writing-safe ag (elements.again b g x) = clash g ag
@@ -326,10 +326,10 @@ module _ {last pass : ℕ} {premises : Type 0} (w : World) (lent frame : List �
     fetch-header : {x : Fetching} → FetchView (w .session) lent frame x → TakesEffect (fetchNumber (x .said)) → After x
     fetch-header (view.wrongPhase _) te = no-effect (omega arith) (omega arith) te
     fetch-header (view.wrongLength _ _ _) te = no-effect (omega arith) (omega arith) te
-    fetch-header (view.repeating r ag) te = as-named (w .session .command) (header-out w lent frame set wr l st (w .session .command) agree (again-header w lent frame set wr l st ag (copying-idle (r .free) (agree .copying))) (course (w .session .command)))
+    fetch-header (view.repeating r ag) te = as-named (w .session .exchange .command) (header-out w lent frame set wr l st (w .session .exchange .command) agree (again-header w lent frame set wr l st ag (copying-idle (r .free) (agree .copying))) (course (w .session .exchange .command)))
     fetch-header (view.copying r ag _) te =
-        let c = copying.commandOf (w .session .depth) (w .session .copies) in
-        as-named c (header-out w lent frame set wr l st c agree (asks-header w lent frame set wr l st (agree .placed) (command.command-view (w .session .depth) (w .session .copies)) ag (copying-idle (r .free) (agree .copying))) (course c))
+        let c = copying.commandOf (w .session .setup .depth) (w .session .copies) in
+        as-named c (header-out w lent frame set wr l st c agree (asks-header w lent frame set wr l st (agree .placed) (command.command-view (w .session .setup .depth) (w .session .copies)) ag (copying-idle (r .free) (agree .copying))) (course c))
     fetch-header (view.stepping r ag el c d) te = header-not-element (w .session) st el
     fetch-header (view.resting r ag el d) te = header-not-element (w .session) st el
     fetch-header (view.stopping r ag el n d) te = header-not-element (w .session) st el
@@ -345,17 +345,17 @@ module _ {last pass : ℕ} {premises : Type 0} (w : World) (lent frame : List �
     fetch-elements (view.wrongPhase _) te = no-effect (omega arith) (omega arith) te
     fetch-elements (view.wrongLength _ _ _) te = no-effect (omega arith) (omega arith) te
     fetch-elements (view.repeating r ag) te =
-        as-named (w .session .command) (element-out w lent frame set wr l (r .windowRight) numbers alone (w .session .command) (again-element w lent frame set wr l ag (writing-idle (r .free) agree .0)) st (course (w .session .command)))
+        as-named (w .session .exchange .command) (element-out w lent frame set wr l (r .windowRight) numbers alone (w .session .exchange .command) (again-element w lent frame set wr l ag (writing-idle (r .free) agree .0)) st (course (w .session .exchange .command)))
     fetch-elements (view.copying r ag h) te = header-not-element (w .session) h st
     fetch-elements (view.stepping r ag el c d) te =
-        as-named c (element-out w lent frame set wr l (r .windowRight) numbers alone c (out-element w lent frame set wr l (subst (rule.DueView (w .session .depth) (w .session .elements)) d (rule.due-view (w .session .depth) (w .session .elements))) ag (writing-idle (r .free) agree .0)) st (course c))
+        as-named c (element-out w lent frame set wr l (r .windowRight) numbers alone c (out-element w lent frame set wr l (subst (rule.DueView (w .session .setup .depth) (w .session .elements)) d (rule.due-view (w .session .setup .depth) (w .session .elements))) ag (writing-idle (r .free) agree .0)) st (course c))
     fetch-elements (view.resting r ag el d) te = live wr (quiet w lent frame set wr l (w .reported) (l .reported))
     fetch-elements (view.stopping r ag el n d) te =
         let i = writing-idle (r .free) agree in
         over wr (record { ended = refl; none = i .1; safe = writing-safe ag (i .0); unreported = unreported l (element-not-done (w .session) st) })
     fetch-elements (view.finished r ag d) te = element-not-done (w .session) st d
 
-  fetch-done : {x : Fetching} → w .session .stage ≡ S.Done → w .session .again ≡ false → FetchView (w .session) lent frame x → TakesEffect (fetchNumber (x .said)) → After x
+  fetch-done : {x : Fetching} → w .session .stage ≡ S.Done → w .session .exchange .again ≡ false → FetchView (w .session) lent frame x → TakesEffect (fetchNumber (x .said)) → After x
   fetch-done st ag (view.wrongPhase _) te = no-effect (omega arith) (omega arith) te
   fetch-done st ag (view.wrongLength _ _ _) te = no-effect (omega arith) (omega arith) te
   fetch-done st ag (view.repeating r again) te = clash again ag
@@ -373,11 +373,11 @@ module _ {last pass : ℕ} {premises : Type 0} (w : World) (lent frame : List �
   live-fetch (inv.finished q c a b f g h r y) v te = fetch-done q h v te
 
 -- refused with 7
-wrong-phase : {X : Type 0} (s : Recording) (lent frame : List ℕ) → s .ended || s .awaiting ≡ true → TakesEffect (fetchNumber (fetchOf s lent frame .said)) → X
+wrong-phase : {X : Type 0} (s : Recording) (lent frame : List ℕ) → s .ended || s .exchange .awaiting ≡ true → TakesEffect (fetchNumber (fetchOf s lent frame .said)) → X
 unfolding fetchOf
 wrong-phase s lent frame e te = no-effect (omega arith) (omega arith) (subst (λ (x : Fetching). TakesEffect (fetchNumber (x .said))) (pick-t _ e) te)
 
 pub keeps-fetch : {last pass : ℕ} {premises : Type 0} (w : World) (lent frame : List ℕ) → Setting last pass → Inv last pass premises w → TakesEffect (fetchNumber (fetchOf (w .session) lent frame .said)) → Inv last pass premises (afterFetch w lent frame)
 keeps-fetch w lent frame set (live wr l) te = live-fetch w lent frame set wr l (l .course) (fetch-view (w .session) lent frame) te
-keeps-fetch w lent frame set (rejecting wr d) te = wrong-phase (w .session) lent frame (either-right (w .session .ended) (w .session .awaiting) (d .awaits)) te
-keeps-fetch w lent frame set (over wr o) te = wrong-phase (w .session) lent frame (either-left (w .session .ended) (w .session .awaiting) (o .ended)) te
+keeps-fetch w lent frame set (rejecting wr d) te = wrong-phase (w .session) lent frame (either-right (w .session .ended) (w .session .exchange .awaiting) (d .awaits)) te
+keeps-fetch w lent frame set (over wr o) te = wrong-phase (w .session) lent frame (either-left (w .session .ended) (w .session .exchange .awaiting) (o .ended)) te

@@ -46,8 +46,8 @@ use Rattle.archive.proofs.recording.Setting.{Setting}
 
 -- ---- which case a reply is
 
-module _ (s : Recording) (r : Reply) (going : s .ended ≡ false) (asked : s .awaiting ≡ true) where
-  pub case-is : {c : Command} {m : ℕ} → s .command ≡ c → Means r m → caseOf s r ≡ commandCode c * 256 + m
+module _ (s : Recording) (r : Reply) (going : s .ended ≡ false) (asked : s .exchange .awaiting ≡ true) where
+  pub case-is : {c : Command} {m : ℕ} → s .exchange .command ≡ c → Means r m → caseOf s r ≡ commandCode c * 256 + m
   case-is {c} e means = ap (λ (x : Command). commandCode x * 256 + meaningOf (r .key) (r .asc) (r .ascq)) e ∙ ap (λ (x : ℕ). commandCode c * 256 + x) means
 
   pub reply-so : (n : ℕ) → caseOf s r ≡ n → isBusy n ≡ false → replyOf s r ≡ stageReply s n r
@@ -73,12 +73,12 @@ module _ {last pass : ℕ} {premises : Type 0} (w : World) (r : Reply) (set : Se
   pub ends-so : (n : ℕ) → (w .session .stage ≡ S.Done → ⊥) → Safe last (w .drive) → After (ending (w .session) n)
   ends-so n d safe = over wr (record { ended = refl; none = refl; safe = safe; unreported = unreported l d })
 
-  module _ (st : HeaderStage (w .session)) (again : w .session .again ≡ false) (asked : w .session .awaiting ≡ true) where
-    sized-same : (v : Recording) → v .highest ≡ w .session .highest → v .elements ≡ w .session .elements → _≡_ {A = Sized} (record { top = v .highest; els = v .elements }) (record { top = w .session .highest; els = w .session .elements })
-    sized-same v high els = ap (λ (n : ℕ). record { top = n; els = v .elements }) high ∙ ap (λ (x : Elements). record { top = w .session .highest; els = x }) els
+  module _ (st : HeaderStage (w .session)) (again : w .session .exchange .again ≡ false) (asked : w .session .exchange .awaiting ≡ true) where
+    sized-same : (v : Recording) → v .setup .highest ≡ w .session .setup .highest → v .elements ≡ w .session .elements → _≡_ {A = Sized} (record { top = v .setup .highest; els = v .elements }) (record { top = w .session .setup .highest; els = w .session .elements })
+    sized-same v high els = ap (λ (n : ℕ). record { top = n; els = v .elements }) high ∙ ap (λ (x : Elements). record { top = w .session .setup .highest; els = x }) els
 
     -- the same headers, other copies or another command
-    more-live : (v : Recording) → v .ended ≡ false → v .stage ≡ w .session .stage → v .highest ≡ w .session .highest → v .elements ≡ w .session .elements → v .copies .header ≡ w .session .copies .header
+    more-live : (v : Recording) → v .ended ≡ false → v .stage ≡ w .session .stage → v .setup .highest ≡ w .session .setup .highest → v .elements ≡ w .session .elements → v .copies .header ≡ w .session .copies .header
         → Course last (repliedWorld w v) (l .k) (l .edge) → Live last pass premises (repliedWorld w v)
     more-live v going stage high els head course = record {
       k = l .k;
@@ -115,7 +115,7 @@ module _ {last pass : ℕ} {premises : Type 0} (w : World) (r : Reply) (set : Se
 
   -- ---- the opening headers
 
-  module _ (q : w .session .stage ≡ S.OpeningHeaders) (t : inv.Unstarted last (w .session .elements) (l .k) (l .edge)) (again : w .session .again ≡ false) (asked : w .session .awaiting ≡ true) where
+  module _ (q : w .session .stage ≡ S.OpeningHeaders) (t : inv.Unstarted last (w .session .elements) (l .k) (l .edge)) (again : w .session .exchange .again ≡ false) (asked : w .session .exchange .awaiting ≡ true) where
     abbrev opened : Recording
     opened = withStage (answeredOf (w .session)) S.Elements
 
@@ -169,7 +169,7 @@ module _ {last pass : ℕ} {premises : Type 0} (w : World) (r : Reply) (set : Se
 
   -- ---- the closing headers
 
-  module _ (q : w .session .stage ≡ S.ClosingHeaders) (closed : w .session .closed ≡ true) (k0 : l .k ≡ length (w .accepted) + 1) (e0 : l .edge ≡ last + 1) (again : w .session .again ≡ false) (asked : w .session .awaiting ≡ true) where
+  module _ (q : w .session .stage ≡ S.ClosingHeaders) (closed : w .session .closed ≡ true) (k0 : l .k ≡ length (w .accepted) + 1) (e0 : l .edge ≡ last + 1) (again : w .session .exchange .again ≡ false) (asked : w .session .exchange .awaiting ≡ true) where
     abbrev done : Recording
     done = withStage (answeredOf (w .session)) S.Done
 
@@ -209,9 +209,9 @@ module _ {last pass : ℕ} {premises : Type 0} (w : World) (r : Reply) (set : Se
 
   -- ---- by what the drive gave
 
-  module _ (st : HeaderStage (w .session)) (again : w .session .again ≡ false) (asked : w .session .awaiting ≡ true) (agree : CopiesAgree (w .session) (w .drive) (w .flight))
+  module _ (st : HeaderStage (w .session)) (again : w .session .exchange .again ≡ false) (asked : w .session .exchange .awaiting ≡ true) (agree : CopiesAgree (w .session) (w .drive) (w .flight))
       (onward : (s : copying.Said) → Next (w .session .copies .header) (w .drive) s → Safe last (w .drive) → After (headerReplyBy s (w .session)))
-      (repeats : CopyAsks (w .session .copies) (w .drive) (w .session .command) → After (accepting (repeatedOf (w .session)))) where
+      (repeats : CopyAsks (w .session .copies) (w .drive) (w .session .exchange .command) → After (accepting (repeatedOf (w .session)))) where
     in-stage : (n : ℕ) → stageReply (w .session) n r ≡ headerReplyBy (copying.answerOf (w .session .copies) n r) (w .session)
     unfolding headerReply
     in-stage n = ⊎-elim (λ q. ap (λ (x : Stage). stageReplyBy x (w .session) n r) q) (λ q. ap (λ (x : Stage). stageReplyBy x (w .session) n r) q) st
@@ -220,15 +220,15 @@ module _ {last pass : ℕ} {premises : Type 0} (w : World) (r : Reply) (set : Se
     by {s} n e b a x safe =
         subst After (sym (reply-so (w .session) r (l .going) asked n e b ∙ in-stage n ∙ ap (λ y. headerReplyBy y (w .session)) a)) (onward s x safe)
 
-    repeated : {c : Command} (n : ℕ) → w .session .command ≡ c → caseOf (w .session) r ≡ n → isBusy n ≡ true → CopyAsks (w .session .copies) (w .drive) c → After (replyOf (w .session) r)
+    repeated : {c : Command} (n : ℕ) → w .session .exchange .command ≡ c → caseOf (w .session) r ≡ n → isBusy n ≡ true → CopyAsks (w .session .copies) (w .drive) c → After (replyOf (w .session) r)
     repeated n e z b y = subst After (sym (reply-busy (w .session) r (l .going) asked n z b)) (repeats (subst (λ (i : Command). CopyAsks (w .session .copies) (w .drive) i) (sym e) y))
 
-    busy-by : {c : Command} → Means r busy → w .session .command ≡ c → CopyAsks (w .session .copies) (w .drive) c → After (replyOf (w .session) r)
+    busy-by : {c : Command} → Means r busy → w .session .exchange .command ≡ c → CopyAsks (w .session .copies) (w .drive) c → After (replyOf (w .session) r)
     busy-by m e (copies.writes a p left y) = repeated 0x0A02 e (case-is (w .session) r (l .going) asked e m) refl (copies.writes a p left y)
     busy-by m e (copies.asks y) = repeated 0x3402 e (case-is (w .session) r (l .going) asked e m) refl (copies.asks y)
     busy-by m e (copies.seeks a p y) = repeated 0x2B02 e (case-is (w .session) r (l .going) asked e m) refl (copies.seeks a p y)
 
-    header-replies : (c : Command) → w .session .command ≡ c → CopyAnswered (w .session .copies) (w .drive) r c → After (replyOf (w .session) r)
+    header-replies : (c : Command) → w .session .exchange .command ≡ c → CopyAnswered (w .session .copies) (w .drive) r c → After (replyOf (w .session) r)
     unfolding copying.answerOf
     header-replies c e (copies.taken a m x) = by 0x0A01 (case-is (w .session) r (l .going) asked e m) refl refl (taken-next (w .session .copies) (w .drive) (agree .counts) x) (answered-safe {r = r} (agree .counts) (copies.taken a m x))
     header-replies c e (copies.counted m b x) = by 0x3401 (case-is (w .session) r (l .going) asked e m) refl refl (counted-next (w .session .copies) (w .drive) (agree .counts) (r .buffered) b x) (answered-safe {r = r} (agree .counts) (copies.counted m b x))
@@ -242,10 +242,10 @@ module _ {last pass : ℕ} {premises : Type 0} (w : World) (r : Reply) (set : Se
   opening-replies q t agree (copies.replied _ a g x) =
       header-replies (inl q) g a agree (λ _ y safe. opening-next q t g a y safe)
       (λ y. live wr (more-live (inl q) g a (repeatedOf (w .session)) (l .going) refl refl refl refl (inv.opening q t (record { counts = agree .counts; placed = agree .placed; copying = copies.again refl refl y }))))
-      (w .session .command) refl x
+      (w .session .exchange .command) refl x
 
   pub closing-replies : (q : w .session .stage ≡ S.ClosingHeaders) → w .session .closed ≡ true → l .k ≡ length (w .accepted) + 1 → l .edge ≡ last + 1 → CopiesAgree (w .session) (w .drive) (w .flight) → Copying (w .session) (w .drive) (recordings.answered r) → After (replyOf (w .session) r)
   closing-replies q c k0 e0 agree (copies.replied _ a g x) =
       header-replies (inr q) g a agree (λ _ y safe. closing-next q c k0 e0 g a y safe)
       (λ y. live wr (more-live (inr q) g a (repeatedOf (w .session)) (l .going) refl refl refl refl (inv.closing q c k0 e0 (record { counts = agree .counts; placed = agree .placed; copying = copies.again refl refl y }))))
-      (w .session .command) refl x
+      (w .session .exchange .command) refl x

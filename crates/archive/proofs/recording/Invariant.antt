@@ -48,9 +48,9 @@ spareOf S.Done = 0
 -- ---- the session alone
 
 pub record Counted (last n : ℕ) (s : Recording) : Type 0 where
-  pub wide : s .highest ≤ 63
+  pub wide : s .setup .highest ≤ 63
   pub held : s .elements .outstanding ≤ s .elements .pending
-  pub windowed : s .elements .pending ≤ s .highest + 1
+  pub windowed : s .elements .pending ≤ s .setup .highest + 1
   pub numbered : s .elements .first .0 + s .elements .pending ≡ totalOf (s .stage) n
   pub marks : length (s .elements .marks) ≡ 64
   pub room : s .elements .limit .0 ≤ last + 1
@@ -79,7 +79,7 @@ pub data Course (last : ℕ) (w : World) (k edge : ℕ) : Type 0 where
   closing : w .session .stage ≡ S.ClosingHeaders → w .session .closed ≡ true → k ≡ length (w .accepted) + 1 → edge ≡ last + 1
       → CopiesAgree (w .session) (w .drive) (w .flight) → Course last w k edge
   finished : w .session .stage ≡ S.Done → w .session .closed ≡ true → k ≡ length (w .accepted) + 1 → edge ≡ last + 1
-      → w .flight ≡ recordings.none → w .session .awaiting ≡ false → w .session .again ≡ false → AtRest (w .drive)
+      → w .flight ≡ recordings.none → w .session .exchange .awaiting ≡ false → w .session .exchange .again ≡ false → AtRest (w .drive)
       → Copy (w .session .copies .header) (w .drive .tape) (last + 1) → Course last w k edge
 
 -- ---- tape and window, under the premises
@@ -116,9 +116,9 @@ pub data Safe (last : ℕ) (d : Drive) : Type 0 where
 pub record Rejecting (last : ℕ) (w : World) : Type 0 where
   pub reply : Reply
   pub going : w .session .ended ≡ false
-  pub awaits : w .session .awaiting ≡ true
+  pub awaits : w .session .exchange .awaiting ≡ true
   pub replied : w .flight ≡ recordings.answered reply
-  pub unlisted : Listed (w .session .command) (meaningOf (reply .key) (reply .asc) (reply .ascq)) → ⊥
+  pub unlisted : Listed (w .session .exchange .command) (meaningOf (reply .key) (reply .asc) (reply .ascq)) → ⊥
   pub off-headers : OffHeaders (w .session)
   pub safe : Safe last (w .drive)
   pub unreported : w .reported ≡ false

@@ -26,22 +26,22 @@ use Rattle.archive.proofs.recording.ElementsLink.{Linked, Moving, Asks,
 -- ---- header copies
 
 module _ (s v : Recording) (d : Drive) (h : heldOf v ≡ heldOf s) (c : v .copies ≡ s .copies) where
-  awaiting-is : v .awaiting ≡ s .awaiting
-  awaiting-is = ap (λ (x : Held). x .awaiting) h
+  awaiting-is : v .exchange .awaiting ≡ s .exchange .awaiting
+  awaiting-is = ap (λ (x : Held). x .exchange .awaiting) h
 
-  again-is : v .again ≡ s .again
-  again-is = ap (λ (x : Held). x .again) h
+  again-is : v .exchange .again ≡ s .exchange .again
+  again-is = ap (λ (x : Held). x .exchange .again) h
 
-  command-is : v .command ≡ s .command
-  command-is = ap (λ (x : Held). x .command) h
+  command-is : v .exchange .command ≡ s .exchange .command
+  command-is = ap (λ (x : Held). x .exchange .command) h
 
   copying-as : {f : Flight} → Copying s d f → Copying v d f
   copying-as (copies.at-place a g l) = copies.at-place (awaiting-is ∙ a) (again-is ∙ g) (subst (λ (x : Copies). CopyLink x d 0) (sym c) l)
   copying-as (copies.to-seek a g l) = copies.to-seek (awaiting-is ∙ a) (again-is ∙ g) (subst (λ (x : Copies). CopySeek x d) (sym c) l)
-  copying-as (copies.again a g l) = copies.again (awaiting-is ∙ a) (again-is ∙ g) (subst (λ (y : Command). CopyAsks (v .copies) d y) (sym command-is) (subst (λ (x : Copies). CopyAsks x d (s .command)) (sym c) l))
+  copying-as (copies.again a g l) = copies.again (awaiting-is ∙ a) (again-is ∙ g) (subst (λ (y : Command). CopyAsks (v .copies) d y) (sym command-is) (subst (λ (x : Copies). CopyAsks x d (s .exchange .command)) (sym c) l))
   copying-as (copies.under-way k fr a g e sent l) =
       copies.under-way k fr (awaiting-is ∙ a) (again-is ∙ g) (command-is ∙ e) (subst (λ (x : Copies). HeaderSent x k fr) (sym c) sent) (subst (λ (x : Copies). CopyAsks x d k) (sym c) l)
-  copying-as (copies.replied r a g l) = copies.replied r (awaiting-is ∙ a) (again-is ∙ g) (subst (λ (y : Command). CopyAnswered (v .copies) d r y) (sym command-is) (subst (λ (x : Copies). CopyAnswered x d r (s .command)) (sym c) l))
+  copying-as (copies.replied r a g l) = copies.replied r (awaiting-is ∙ a) (again-is ∙ g) (subst (λ (y : Command). CopyAnswered (v .copies) d r y) (sym command-is) (subst (λ (x : Copies). CopyAnswered x d r (s .exchange .command)) (sym c) l))
 
   pub agree-as : {f : Flight} → CopiesAgree s d f → CopiesAgree v d f
   agree-as a = record {
@@ -74,16 +74,16 @@ module _ (last : ℕ) (s v : Recording) (d : Drive) (k edge : ℕ) (h : heldOf v
   answered-as {r} {c} x = subst (λ (y : Held). Answered last y (v .elements .pending) d k edge r c) (sym h) (answered-more more x)
 
   pub writing-as : {f : Flight} → Writing last s d k edge f → Writing last v d k edge f
-  writing-as (elements.at-place a g l) = elements.at-place (ap (λ (x : Held). x .awaiting) h ∙ a) (ap (λ (x : Held). x .again) h ∙ g) (subst (λ (y : Held). Linked last y d k edge 0) (sym h) l)
+  writing-as (elements.at-place a g l) = elements.at-place (ap (λ (x : Held). x .exchange .awaiting) h ∙ a) (ap (λ (x : Held). x .exchange .again) h ∙ g) (subst (λ (y : Held). Linked last y d k edge 0) (sym h) l)
   writing-as (elements.to-locate a g r l) =
-      elements.to-locate (ap (λ (x : Held). x .awaiting) h ∙ a) (ap (λ (x : Held). x .again) h ∙ g) (ap (λ (x : Held). x .relocate) h ∙ r)
+      elements.to-locate (ap (λ (x : Held). x .exchange .awaiting) h ∙ a) (ap (λ (x : Held). x .exchange .again) h ∙ g) (ap (λ (x : Held). x .relocate) h ∙ r)
       (subst (λ (y : Held). Moving last y d k edge (y .target .0)) (sym h) l)
   writing-as (elements.again a g x) =
-      elements.again (ap (λ (y : Held). y .awaiting) h ∙ a) (ap (λ (y : Held). y .again) h ∙ g) (subst (λ (c : Command). Asks last (heldOf v) (v .elements .pending) d k edge c) (sym (ap (λ (y : Held). y .command) h)) (asks-as x))
+      elements.again (ap (λ (y : Held). y .exchange .awaiting) h ∙ a) (ap (λ (y : Held). y .exchange .again) h ∙ g) (subst (λ (c : Command). Asks last (heldOf v) (v .elements .pending) d k edge c) (sym (ap (λ (y : Held). y .exchange .command) h)) (asks-as x))
   writing-as (elements.under-way c f a g e x) =
-      elements.under-way c f (ap (λ (y : Held). y .awaiting) h ∙ a) (ap (λ (y : Held). y .again) h ∙ g) (ap (λ (y : Held). y .command) h ∙ e) (asks-as x)
+      elements.under-way c f (ap (λ (y : Held). y .exchange .awaiting) h ∙ a) (ap (λ (y : Held). y .exchange .again) h ∙ g) (ap (λ (y : Held). y .exchange .command) h ∙ e) (asks-as x)
   writing-as (elements.replied r a g x) =
-      elements.replied r (ap (λ (y : Held). y .awaiting) h ∙ a) (ap (λ (y : Held). y .again) h ∙ g) (subst (λ (c : Command). Answered last (heldOf v) (v .elements .pending) d k edge r c) (sym (ap (λ (y : Held). y .command) h)) (answered-as x))
+      elements.replied r (ap (λ (y : Held). y .exchange .awaiting) h ∙ a) (ap (λ (y : Held). y .exchange .again) h ∙ g) (subst (λ (c : Command). Answered last (heldOf v) (v .elements .pending) d k edge r c) (sym (ap (λ (y : Held). y .exchange .command) h)) (answered-as x))
 
 -- ---- numbers in a writing stage
 

@@ -34,10 +34,10 @@ use Rattle.archive.proofs.recording.Invariant.{Course, Live, Inv, live,
 -- what a session has sent, and awaits the reply to
 pub record Issued (s : Recording) (c : Command) : Type 0 where
   pub going : s .ended ≡ false
-  pub awaits : s .awaiting ≡ true
-  pub is : s .command ≡ c
+  pub awaits : s .exchange .awaiting ≡ true
+  pub is : s .exchange .command ≡ c
   pub stage : HeaderStage s ⊎ ElementStage s
-  pub no-read : (a : Address) → s .command ≡ Read a → ⊥
+  pub no-read : (a : Address) → s .exchange .command ≡ Read a → ⊥
   pub on-headers : OnHeaders s
   pub off-headers : OffHeaders s
 

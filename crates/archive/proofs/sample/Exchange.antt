@@ -28,7 +28,7 @@ framed = header-length firstOpening
 
 -- a command that is due in a session with W 1, and the session after its reply
 pub record Step (s : Recording) (c : Command) (r : Reply) (next : Recording) : Type 0 where
-  pub free : s .ended || s .awaiting ≡ false
+  pub free : s .ended || s .exchange .awaiting ≡ false
   pub sized : windowLength s ≡ 32768
   pub decided : decisionOf s ≡ send c
   pub replied : replyOf (awaits s c) r ≡ accepting next
@@ -57,7 +57,7 @@ module _ (window : List ℕ) (accepted : List Element) where
   }
 
 module _ (window : List ℕ) (accepted : List Element) (s : Recording) (d : Drive) where
-  fetched : length window ≡ windowLength s → s .ended || s .awaiting ≡ false → (x : decision.Decision) → decisionOf s ≡ x → fetchNumber (answering x s window frame .said) ≡ 0
+  fetched : length window ≡ windowLength s → s .ended || s .exchange .awaiting ≡ false → (x : decision.Decision) → decisionOf s ≡ x → fetchNumber (answering x s window frame .said) ≡ 0
       → Calls (between window accepted s d) (fetch window frame) (fetchedWorld window accepted d true (answering x s window frame))
   fetched long free x decided small =
       let e : fetchOf s window frame ≡ answering x s window frame = fetch-decided s window frame free long framed decided in
@@ -65,7 +65,7 @@ module _ (window : List ℕ) (accepted : List Element) (s : Recording) (d : Driv
       subst (λ v. Calls (between window accepted s d) (fetch window frame) v) p (fetches window frame (inl (ap (λ y. fetchNumber (y .said)) e ∙ small)))
 
   -- a last fetch answers done
-  pub done : length window ≡ windowLength s → s .ended || s .awaiting ≡ false → decisionOf s ≡ decision.done
+  pub done : length window ≡ windowLength s → s .ended || s .exchange .awaiting ≡ false → decisionOf s ≡ decision.done
       → Runs (between window accepted s d) (fetch window frame ∷ []) (reported window accepted s d)
   done long free decided = call (fetched long free decision.done decided refl) stop
 

@@ -43,12 +43,9 @@ at n = record { 0 = n }
 -- a session with W 1 between two commands
 abbrev session : Stage → Bool → Elements → Command → Copies → Recording
 session stage closed e c copies = record {
-  depth = depth;
-  highest = 0;
+  setup = record { depth = depth; highest = 0 };
   stage = stage;
-  command = c;
-  awaiting = false;
-  again = false;
+  exchange = record { command = c; awaiting = false; again = false };
   closed = closed;
   ended = false;
   copies = copies;

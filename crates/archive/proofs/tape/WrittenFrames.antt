@@ -28,7 +28,7 @@ block-fits Eod b h = refl
 
 module _ (s : Recording) (window : List ℕ) (long : length window ≡ windowLength s) where
   inside : elementPlace s * 32768 + 32768 ≤ length window
-  inside = subst (λ (n : ℕ). elementPlace s * 32768 + 32768 ≤ n) (sym long) (place-inside (numberOf (s .elements) (s .elements .outstanding)) (s .highest))
+  inside = subst (λ (n : ℕ). elementPlace s * 32768 + 32768 ≤ n) (sym long) (place-inside (numberOf (s .elements) (s .elements .outstanding)) (s .setup .highest))
 
   fitting : elementFits (kindOf s) 33280 (length (blockAt window (elementPlace s))) ≡ true
   fitting = block-fits (kindOf s) (blockAt window (elementPlace s)) (block-length window (elementPlace s) inside)

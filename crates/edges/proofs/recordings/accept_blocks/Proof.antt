@@ -2,6 +2,7 @@
 use borrow.Author.Needs.{needs}
 use mathlib.Core.Path.{_≡_}
 use Prim.Native.Nat.{_≤_, _-_}
+use native.Mathlib.Omega.{arith}
 use lib.ListN.{length}
 use Rattle.edges.proofs.recordings.accept_blocks.Statement.{statement}
 use Rattle.edges.proofs.recordings.accept_blocks.Tie as tie
@@ -22,7 +23,7 @@ session-of-requires : tie.Need-session-of-requires Inv-loop μ-loop
 session-of-requires c κs = search needs
 
 add-counter : tie.Need-add-counter Inv-loop μ-loop
-add-counter c = search needs
+add-counter c = omega (arith, c .before .before .before .before .before .loop-test .taken, c .before .before .before .before .before .before .before .before .before .fits .n)
 
 loop-less : tie.Need-loop-less Inv-loop μ-loop
 loop-less c = search needs

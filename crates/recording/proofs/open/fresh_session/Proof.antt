@@ -2,6 +2,9 @@
 use Rattle.recording.proofs.open.fresh_session.Statement.{statement}
 use Rattle.recording.proofs.open.fresh_session.Tie as tie
 
+unsent-requires : tie.Need-unsent-requires
+unsent-requires c κs = tt
+
 start-requires : tie.Need-start-requires
 start-requires c κs = tt
 
@@ -9,7 +12,7 @@ start-requires-2 : tie.Need-start-requires-2
 start-requires-2 c κs = tt
 
 returns : tie.Need-returns
-returns c = rw (c .before .start .ensures, c .start2 .ensures)
+returns c = rw (c .before .before .unsent .ensures, c .before .start .ensures, c .start2 .ensures)
 
 pub fresh-session-spec : {M : Type 1} → statement M
-fresh-session-spec = tie.close (tie.spec start-requires start-requires-2 returns)
+fresh-session-spec = tie.close (tie.spec unsent-requires start-requires start-requires-2 returns)

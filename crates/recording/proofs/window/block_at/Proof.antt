@@ -26,5 +26,4 @@ unfolding blockAt
 returns c = rw (add-sub-cancel-left (c .before .args .i * 32768) 32768)
 
 pub block-at-spec : {M : Type 1} → statement M
-block-at-spec =
-    tie.close (tie.spec mul-at add-end sub-result part-result-start part-result-end returns)
+block-at-spec = tie.close (tie.spec mul-at add-end sub-result part-result-start part-result-end returns)

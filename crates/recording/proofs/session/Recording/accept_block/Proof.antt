@@ -98,7 +98,7 @@ rem-put-block c = omega arith
 put-block-requires : tie.Need-put-block-requires
 put-block-requires c κs =
     let number = c .before .before .number .result .0 in
-    let highest = c .before .before .before .before .before .before .before .before .before .before .before .before .before .args .self .highest in
+    let highest = c .before .before .before .before .before .before .before .before .before .before .before .before .before .args .self .setup .highest in
     rw (c .before .before .before .before .before .before .before .window .ensures)
     (omega (arith, place-low number highest), (omega (arith, place-inside number highest), c .before .before .before .before .before .before .before .before .if2 .left))
 

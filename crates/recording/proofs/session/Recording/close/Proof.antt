@@ -30,12 +30,4 @@ returns-2 c =
     ∙ sym (pick-f _ (sym (c .before .before .before .accepts-none .ensures) ∙ c .before .before .if1 .left))
 
 pub close-spec : {M : Type 1} → statement M
-close-spec =
-    tie.close
-    (tie.spec
-    accepts-none-requires
-    refuse-requires
-    returns
-    settle-requires
-    accepted-requires
-    returns-2)
+close-spec = tie.close (tie.spec accepts-none-requires refuse-requires returns settle-requires accepted-requires returns-2)

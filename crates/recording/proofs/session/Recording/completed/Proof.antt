@@ -20,7 +20,7 @@ enum-told-5 : tie.Need-enum-told-5
 enum-told-5 c = c .match .keys5
 
 returns : tie.Need-returns
-returns c = sym (ap (λ k. completedBy k (c .before .before .before .before .args .self)) (c .before .before .enum-told .given .1))
+returns c = sym (ap (λ k. completedBy k (c .before .before .before .before .before .before .args .self)) (c .before .before .before .before .enum-told .given .1))
 
 returns-2 : tie.Need-returns-2
 returns-2 c = sym (ap (λ k. completedBy k (c .before .before .args .self)) (c .enum-told2 .given .1))
@@ -29,7 +29,7 @@ returns-3 : tie.Need-returns-3
 returns-3 c = sym (ap (λ k. completedBy k (c .before .before .args .self)) (c .enum-told3 .given .1))
 
 returns-4 : tie.Need-returns-4
-returns-4 c = sym (ap (λ k. completedBy k (c .before .before .before .before .args .self)) (c .before .before .enum-told4 .given .1))
+returns-4 c = sym (ap (λ k. completedBy k (c .before .before .before .before .before .before .args .self)) (c .before .before .before .before .enum-told4 .given .1))
 
 returns-5 : tie.Need-returns-5
 returns-5 c = sym (ap (λ k. completedBy k (c .before .before .args .self)) (c .enum-told5 .given .1))

@@ -42,7 +42,7 @@ returns-2 c =
     c .header-due .ensures
     ∙ sym
     (pick-f _ (c .before .before .before .if1 .left)
-    ∙ ap (λ k. decisionBy k (c .before .before .before .before .args .self)) (c .before .enum-told .given .1))
+    ∙ ap (λ k. decisionBy k (c .before .before .before .before .before .args .self)) (c .before .enum-told .given .1))
 
 returns-3 : tie.Need-returns-3
 unfolding decisionOf
@@ -50,7 +50,7 @@ returns-3 c =
     c .element-due .ensures
     ∙ sym
     (pick-f _ (c .before .before .before .if1 .left)
-    ∙ ap (λ k. decisionBy k (c .before .before .before .before .args .self)) (c .before .enum-told2 .given .1))
+    ∙ ap (λ k. decisionBy k (c .before .before .before .before .before .args .self)) (c .before .enum-told2 .given .1))
 
 returns-4 : tie.Need-returns-4
 unfolding decisionOf
@@ -58,7 +58,7 @@ returns-4 c =
     c .element-due2 .ensures
     ∙ sym
     (pick-f _ (c .before .before .before .if1 .left)
-    ∙ ap (λ k. decisionBy k (c .before .before .before .before .args .self)) (c .before .enum-told3 .given .1))
+    ∙ ap (λ k. decisionBy k (c .before .before .before .before .before .args .self)) (c .before .enum-told3 .given .1))
 
 returns-5 : tie.Need-returns-5
 unfolding decisionOf
@@ -66,11 +66,11 @@ returns-5 c =
     c .header-due2 .ensures
     ∙ sym
     (pick-f _ (c .before .before .before .if1 .left)
-    ∙ ap (λ k. decisionBy k (c .before .before .before .before .args .self)) (c .before .enum-told4 .given .1))
+    ∙ ap (λ k. decisionBy k (c .before .before .before .before .before .args .self)) (c .before .enum-told4 .given .1))
 
 returns-6 : tie.Need-returns-6
 unfolding decisionOf
-returns-6 c = sym (pick-f _ (c .before .before .if1 .left) ∙ ap (λ k. decisionBy k (c .before .before .before .args .self)) (c .enum-told5 .given .1))
+returns-6 c = sym (pick-f _ (c .before .before .if1 .left) ∙ ap (λ k. decisionBy k (c .before .before .before .before .args .self)) (c .enum-told5 .given .1))
 
 pub decide-spec : {M : Type 1} → statement M
 decide-spec =

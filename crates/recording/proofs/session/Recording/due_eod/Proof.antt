@@ -10,7 +10,7 @@ accept-requires : tie.Need-accept-requires
 accept-requires c κs = tt
 
 returns : tie.Need-returns
-returns c = ap (λ (e : Elements). withStage (withElements (c .before .before .before .args .self) e) Eod) (c .before .accept .ensures)
+returns c = ap (λ (e : Elements). withStage (withElements (c .before .before .before .before .before .args .self) e) Eod) (c .before .before .before .accept .ensures)
 
 pub due-eod-spec : {M : Type 1} → statement M
 due-eod-spec = tie.close (tie.spec accept-requires returns)

@@ -27,6 +27,4 @@ returns-3 : tie.Need-returns-3
 returns-3 c = ap elementDueBy (sym (ap dueSaid (c .before .due3 .given .1)) ∙ c .before .before .before .due .ensures)
 
 pub element-due-spec : {M : Type 1} → statement M
-element-due-spec =
-    tie.close
-    (tie.spec due-requires enum-known-due enum-told enum-known-due-2 returns returns-2 returns-3)
+element-due-spec = tie.close (tie.spec due-requires enum-known-due enum-told enum-known-due-2 returns returns-2 returns-3)

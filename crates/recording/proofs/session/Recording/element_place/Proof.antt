@@ -25,5 +25,4 @@ returns c =
     ∙ ap (λ w. numberOf e (e .outstanding) % w) (c .window .ensures)
 
 pub element-place-spec : {M : Type 1} → statement M
-element-place-spec =
-    tie.close (tie.spec number-requires cast-result window-requires rem-result returns)
+element-place-spec = tie.close (tie.spec number-requires cast-result window-requires rem-result returns)

@@ -10,7 +10,7 @@ use Rattle.geometry.specs.Refused.{refusalNumber, verdictNumber}
 use Rattle.elements.specs.Answer as answer
 use Rattle.elements.specs.Elements.{at}
 use Rattle.recording.specs.Reply.{elementReplyBy, elementReply}
-use Rattle.recording.specs.Session.{accepting}
+use Rattle.recording.specs.Session.{accepting, settledOf}
 use Rattle.recording.proofs.session.Recording.element_reply.Statement.{statement}
 use Rattle.recording.proofs.session.Recording.element_reply.Tie as tie
 
@@ -38,6 +38,9 @@ answer-requires c κs = tt
 enum-told : tie.Need-enum-told
 enum-told c = c .match .keys1
 
+answered-requires : tie.Need-answered-requires
+answered-requires c κs = tt
+
 settle-requires : tie.Need-settle-requires
 settle-requires c κs = tt
 
@@ -53,17 +56,17 @@ end-requires c κs = tt
 returns : tie.Need-returns
 unfolding elementReply
 returns c =
-    let a = c .before .before .before .before .before .before .before .before .before .args in
+    let a = c .before .before .before .before .before .before .before .before .before .before .args in
     let next = c .before .before .before .before .before .before .answer .result .elements in
     c .accepted .ensures
-    ∙ ap accepting (c .before .settle .ensures)
+    ∙ ap accepting (c .before .settle .ensures ∙ ap settledOf (c .before .before .answered .ensures))
     ∙ sym (ap (λ v. elementReplyBy (verdictNumber v) next (a .self)) (c .before .before .before .enum-told .given .1))
     ∙ ap (λ (x : answer.Step). elementReplyBy (x .number) (x .elements) (a .self)) (c .before .before .before .before .before .before .answer .ensures ∙ ap (λ (n : ℕ). answer.answerOf (a .self .elements) (a .case) (at n) (a .reply)) (c .before .before .before .before .before .before .before .address .ensures))
 
 returns-2 : tie.Need-returns-2
 unfolding elementReply
 returns-2 c =
-    let a = c .before .before .before .before .before .before .before .before .args in
+    let a = c .before .before .before .before .before .before .before .before .before .args in
     let next = c .before .before .before .before .before .answer .result .elements in
     c .end .ensures
     ∙ sym (pick-f _ (refused (c .before .before .verdict .given .0 .0)))
@@ -77,6 +80,7 @@ element-reply-spec =
     address-requires
     answer-requires
     enum-told
+    answered-requires
     settle-requires
     accepted-requires
     enum-known-verdict

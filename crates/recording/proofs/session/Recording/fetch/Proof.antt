@@ -19,7 +19,7 @@ refuse-fetch-requires c κs = tt
 returns : tie.Need-returns
 unfolding fetchOf
 returns c =
-    let a = c .before .before .before .before .before .args in
+    let a = c .before .before .before .before .before .before .before .args in
     ap (λ (r : Fetched). fetched r (a .frame .now)) (c .refuse-fetch .ensures) ∙ sym (pick-t _ (c .before .if1 .taken))
 
 window-requires : tie.Need-window-requires
@@ -33,7 +33,7 @@ refuse-fetch-requires-2 c κs = tt
 
 returns-2 : tie.Need-returns-2
 returns-2 c =
-    let a = c .before .before .before .before .before .before .before .args in
+    let a = c .before .before .before .before .before .before .before .before .before .args in
     ap (λ (r : Fetched). fetched r (a .frame .now)) (c .refuse-fetch2 .ensures)
     ∙ sym (fetch-wrong-length (a .self) (a .window .now) (a .frame .now) (c .before .before .before .if1 .left) (inl (λ e. c .before .if2 .taken (e ∙ ap (λ n. n * 32768) (sym (c .before .before .window .ensures))))))
 
@@ -42,7 +42,7 @@ refuse-fetch-requires-3 c κs = tt
 
 returns-3 : tie.Need-returns-3
 returns-3 c =
-    let a = c .before .before .before .before .before .before .before .before .args in
+    let a = c .before .before .before .before .before .before .before .before .before .before .args in
     ap (λ (r : Fetched). fetched r (a .frame .now)) (c .refuse-fetch3 .ensures)
     ∙ sym (fetch-wrong-length (a .self) (a .window .now) (a .frame .now) (c .before .before .before .before .if1 .left) (inr (c .before .if3 .taken)))
 
@@ -73,23 +73,23 @@ same-length c = c .before .frame .given
 
 returns-4 : tie.Need-returns-4
 returns-4 c =
-    let a = c .before .before .before .before .before .before .before .before .before .before .before .before .before .before .before .args in
+    let a = c .before .before .before .before .before .before .before .before .before .before .before .before .before .before .before .before .before .args in
     c .before .before .send .ensures
     ∙ sym (fetch-decided (a .self) (a .window .now) (a .frame .now) (c .before .before .before .before .before .before .before .before .before .before .before .if1 .left) (right-window (c .before .before .before .before .before .before .before .before .before .before .window .ensures) (c .before .before .before .before .before .before .before .before .before .if2 .left)) (c .before .before .before .before .before .before .before .before .if3 .left) (sym (c .before .before .before .before .before .before .before .decide .ensures) ∙ ap decisionSaid (c .before .before .before .before .before .answer .given .1)))
 
 returns-5 : tie.Need-returns-5
 returns-5 c =
-    let a = c .before .before .before .before .before .before .before .before .before .before .args in
+    let a = c .before .before .before .before .before .before .before .before .before .before .before .before .args in
     sym (fetch-decided (a .self) (a .window .now) (a .frame .now) (c .before .before .before .before .before .before .if1 .left) (right-window (c .before .before .before .before .before .window .ensures) (c .before .before .before .before .if2 .left)) (c .before .before .before .if3 .left) (sym (c .before .before .decide .ensures) ∙ ap decisionSaid (c .enum-told .given .1)))
 
 returns-6 : tie.Need-returns-6
 returns-6 c =
-    let a = c .before .before .before .before .before .before .before .before .before .before .args in
+    let a = c .before .before .before .before .before .before .before .before .before .before .before .before .args in
     sym (fetch-decided (a .self) (a .window .now) (a .frame .now) (c .before .before .before .before .before .before .if1 .left) (right-window (c .before .before .before .before .before .window .ensures) (c .before .before .before .before .if2 .left)) (c .before .before .before .if3 .left) (sym (c .before .before .decide .ensures) ∙ ap decisionSaid (c .enum-told2 .given .1)))
 
 returns-7 : tie.Need-returns-7
 returns-7 c =
-    let a = c .before .before .before .before .before .before .before .before .before .before .before .before .args in
+    let a = c .before .before .before .before .before .before .before .before .before .before .before .before .before .before .args in
     ap (λ (r : Fetched). fetched r (a .frame .now)) (c .refuse-fetch4 .ensures)
     ∙ sym (fetch-decided (a .self) (a .window .now) (a .frame .now) (c .before .before .before .before .before .before .before .before .if1 .left) (right-window (c .before .before .before .before .before .before .before .window .ensures) (c .before .before .before .before .before .before .if2 .left)) (c .before .before .before .before .before .if3 .left) (sym (c .before .before .before .before .decide .ensures) ∙ ap decisionSaid (c .before .before .answer2 .given .1)))
 

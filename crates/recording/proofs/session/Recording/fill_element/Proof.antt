@@ -30,7 +30,7 @@ block-at-requires : tie.Need-block-at-requires
 block-at-requires c κs =
     let a = c .before .before .before .before .before .args in
     let number = numberOf (a .self .elements) (a .self .elements .outstanding) in
-    (omega (arith, place-low number (a .self .highest), c .before .before .element-place .ensures), omega (arith, place-inside number (a .self .highest), c .before .before .element-place .ensures, c .before .before .before .before .before .pre .0))
+    (omega (arith, place-low number (a .self .setup .highest), c .before .before .element-place .ensures), omega (arith, place-inside number (a .self .setup .highest), c .before .before .element-place .ensures, c .before .before .before .before .before .pre .0))
 
 build-element-requires : tie.Need-build-element-requires
 build-element-requires c κs = tt
@@ -44,7 +44,7 @@ returns c =
     let a = c .before .before .before .before .before .before .before .before .before .args in
     let number = numberOf (a .self .elements) (a .self .elements .outstanding) in
     c .before .before .build-element .ensures .1
-    ∙ pick-t _ (fits (c .before .before .before .before .element .result .kind) (c .before .before .before .before .before .before .before .before .before .pre .1) (ap length (c .before .before .before .block-at .ensures) ∙ block-length (a .window .now) (c .before .before .before .before .before .before .element-place .result) (omega (arith, place-inside number (a .self .highest), c .before .before .before .before .before .before .element-place .ensures, c .before .before .before .before .before .before .before .before .before .pre .0))))
+    ∙ pick-t _ (fits (c .before .before .before .before .element .result .kind) (c .before .before .before .before .before .before .before .before .before .pre .1) (ap length (c .before .before .before .block-at .ensures) ∙ block-length (a .window .now) (c .before .before .before .before .before .before .element-place .result) (omega (arith, place-inside number (a .self .setup .highest), c .before .before .before .before .before .before .element-place .ensures, c .before .before .before .before .before .before .before .before .before .pre .0))))
     ∙ ap (λ e. elementFrame e (c .before .before .before .block-at .result .now)) (c .before .before .before .before .element .ensures)
     ∙ ap (elementFrame (elementOf (a .self))) (c .before .before .before .block-at .ensures ∙ ap (blockAt (a .window .now)) (c .before .before .before .before .before .before .element-place .ensures))
 

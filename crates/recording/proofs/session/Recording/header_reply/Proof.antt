@@ -12,14 +12,17 @@ answer-requires c κs = tt
 enum-known-progress : tie.Need-enum-known-progress
 enum-known-progress c = c .match .keys1
 
+answered-requires : tie.Need-answered-requires
+answered-requires c κs = tt
+
 accepted-requires : tie.Need-accepted-requires
 accepted-requires c κs = tt
 
 enum-told : tie.Need-enum-told
 enum-told c = c .match .keys2
 
-answered-requires : tie.Need-answered-requires
-answered-requires c κs = tt
+answered-requires-2 : tie.Need-answered-requires-2
+answered-requires-2 c κs = tt
 
 completed-requires : tie.Need-completed-requires
 completed-requires c κs = tt
@@ -41,6 +44,7 @@ unfolding headerReply
 returns c =
     let s = c .before .before .before .before .before .before .before .args .self in
     c .accepted .ensures
+    ∙ ap accepting (c .before .answered .ensures)
     ∙ ap (λ p. headerReplyBy p s) (sym (ap progressSaid (c .before .before .before .progress .given .1)) ∙ c .before .before .before .before .before .answer .ensures)
 
 returns-2 : tie.Need-returns-2
@@ -50,7 +54,7 @@ returns-2 c =
     c .accepted2 .ensures
     ∙ ap accepting
     (c .before .settle .ensures
-    ∙ ap settledOf (c .before .before .completed .ensures ∙ ap completedOf (c .before .before .before .answered .ensures)))
+    ∙ ap settledOf (c .before .before .completed .ensures ∙ ap completedOf (c .before .before .before .answered2 .ensures)))
     ∙ ap (λ p. headerReplyBy p s) (sym (ap progressSaid (c .before .before .before .before .enum-told .given .1)) ∙ c .before .before .before .before .before .before .answer .ensures)
 
 returns-3 : tie.Need-returns-3
@@ -66,9 +70,10 @@ header-reply-spec =
     (tie.spec
     answer-requires
     enum-known-progress
+    answered-requires
     accepted-requires
     enum-told
-    answered-requires
+    answered-requires-2
     completed-requires
     settle-requires
     accepted-requires-2

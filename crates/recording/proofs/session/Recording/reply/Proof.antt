@@ -36,7 +36,7 @@ returns-2 c =
 returns-3 : tie.Need-returns-3
 unfolding replyOf
 returns-3 c =
-    let a = c .before .before .before .before .before .before .args in
+    let a = c .before .before .before .before .before .before .before .args in
     c .stage-reply .ensures
     ∙ ap (λ n. stageReply (a .self) n (a .reply)) (c .before .before .case .ensures)
     ∙ sym (pick-f _ (c .before .before .before .if1 .left) ∙ pick-f _ (sym (ap isBusy (c .before .before .case .ensures)) ∙ busy-false (c .before .before .case .result) (c .before .match .rest .1)))

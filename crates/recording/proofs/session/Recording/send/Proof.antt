@@ -10,7 +10,10 @@ use Rattle.drive.specs.Command.{commandCode, commandAddress}
 use Rattle.drive.proofs.command.Command.{the-type}
 use Rattle.drive.specs.declared.command.Command.the-variants.{Read, Write, Locate, ReadPosition}
 use Rattle.drive.specs.declared.command.Command.{Command}
-use Rattle.recording.specs.Fetch.{awaits, command, frameFor, sending}
+use Rattle.drive.specs.Exchange.{sentOf}
+use Rattle.drive.specs.declared.exchange.Exchange.{Exchange}
+use Rattle.recording.specs.Session.{withExchange}
+use Rattle.recording.specs.Fetch.{Fetching, awaits, command, frameFor, sending}
 use Rattle.recording.specs.declared.session.Recording.{Recording}
 use Rattle.recording.proofs.session.Recording.send.Statement.{statement}
 use Rattle.recording.proofs.session.Recording.send.Tie as tie
@@ -22,24 +25,31 @@ unless-write (Write a) s window frame h = absurd (miss (0 ∷ (2 ∷ (3 ∷ []))
 unless-write (Locate a) s window frame h = refl
 unless-write ReadPosition s window frame h = refl
 
+sent-alike : (s : Recording) (c : Command) {x : Exchange} {f g : List ℕ} → x ≡ sentOf c → f ≡ g
+    → _≡_ {A = Fetching} (record { session = withExchange s x; said = command (commandCode c) (commandAddress c); frame = f }) (record { session = awaits s c; said = command (commandCode c) (commandAddress c); frame = g })
+sent-alike s c p q = rw (p, q)
+
 enum-told : tie.Need-enum-told
 enum-told c = c .match .keys1
 
 fill-requires : tie.Need-fill-requires
 fill-requires c κs = c .before .before .before .before .before .pre
 
+sent-requires : tie.Need-sent-requires
+sent-requires c κs = tt
+
 same-length : tie.Need-same-length
-same-length c = ⊎-elim (λ l. ap length (l .6) ∙ l .4 .given) (λ r. ap length (r .1)) (c .before .before .match .came)
+same-length c = ⊎-elim (λ l. ap length (l .6) ∙ l .4 .given) (λ r. ap length (r .1)) (c .before .match .came)
 
 returns : tie.Need-returns
 unfolding sending
 returns c =
-    let a = c .before .before .before .before .before .args in
-    ap (λ (f : List ℕ). record { session = awaits (a .self) (a .c); said = command (commandCode (a .c)) (commandAddress (a .c)); frame = f })
+    let a = c .before .before .before .before .args in
+    sent-alike (a .self) (a .c) (c .sent .ensures)
     (⊎-elim
     (λ l. l .6 ∙ l .3 .ensures ∙ sym (ap (λ k. frameFor k (a .self) (a .window .now) (a .frame .now)) (l .1 .given .1)))
     (λ r. r .1 ∙ sym (unless-write (a .c) (a .self) (a .window .now) (a .frame .now) (r .0 .keys2)))
-    (c .before .before .match .came))
+    (c .before .match .came))
 
 pub send-spec : {M : Type 1} → statement M
-send-spec = tie.close (tie.spec enum-told fill-requires same-length returns)
+send-spec = tie.close (tie.spec enum-told fill-requires sent-requires same-length returns)
