@@ -1,3 +1,4 @@
+pub mod Lengths
 pub mod Aux
 pub mod Frame
 pub mod Header
