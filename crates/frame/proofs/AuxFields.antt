@@ -8,6 +8,10 @@ use Rattle.frame.specs.declared.aux.Fields.{Fields}
 use Rattle.buffer.proofs.Numbers.{be16-back, be32-back}
 
 module _ (f : Fields) where
+  pub aux-zero : get32 (auxBytes f) 0 ≡ 0
+  unfolding auxBytes
+  aux-zero = refl
+
   pub aux-update : f .update < 2 ^ 32 → get32 (auxBytes f) 12 ≡ f .update
   unfolding auxBytes
   aux-update h = be32-back (f .update) h

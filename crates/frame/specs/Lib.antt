@@ -3,3 +3,4 @@ pub mod Aux
 pub mod Frame
 pub mod Header
 pub mod Sent
+pub mod ReadBack
