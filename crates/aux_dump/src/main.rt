@@ -1,7 +1,9 @@
 // Prints the AUX bytes of a data frame, a marker, an EOD and a header, and the header's first data bytes, in hexadecimal.
 // Rows of 16 bytes that are all 0 are left out.
 use buffer::byte_at;
+use frame::DATA_LENGTH;
 use frame::Element;
+use frame::FRAME_LENGTH;
 use frame::Header;
 use frame::Kind;
 use frame::build_element;
@@ -59,8 +61,8 @@ fn print_part(title: &[u8], s: &[u8], rows: u8) {
 }
 
 fn main() {
-    let mut frame = [0u8; 33280];
-    let block = [0x5Au8; 32768];
+    let mut frame = [0u8; FRAME_LENGTH];
+    let block = [0x5Au8; DATA_LENGTH];
     let last = Address(11999);
     let data = Element {
         kind: Kind::Data,
@@ -71,7 +73,7 @@ fn main() {
         marker: Address(3077),
     };
     build_element(&mut frame, data, &block);
-    print_part(b"data", &frame[32768..], 32);
+    print_part(b"data", &frame[DATA_LENGTH..], 32);
     let marker = Element {
         kind: Kind::Marker,
         pass: 258,
@@ -81,7 +83,7 @@ fn main() {
         marker: Address(3077),
     };
     build_element(&mut frame, marker, &block);
-    print_part(b"marker", &frame[32768..], 32);
+    print_part(b"marker", &frame[DATA_LENGTH..], 32);
     let eod = Element {
         kind: Kind::Eod,
         pass: 258,
@@ -91,7 +93,7 @@ fn main() {
         marker: Address(3094),
     };
     build_element(&mut frame, eod, &block);
-    print_part(b"eod", &frame[32768..], 32);
+    print_part(b"eod", &frame[DATA_LENGTH..], 32);
     let header = Header {
         last: last,
         pass: 258,
@@ -99,6 +101,6 @@ fn main() {
         update: 7,
     };
     build_header(&mut frame, header);
-    print_part(b"header", &frame[32768..], 32);
+    print_part(b"header", &frame[DATA_LENGTH..], 32);
     print_part(b"header data", &frame[0..48], 3);
 }

@@ -17,7 +17,9 @@ pub fn be16_at(s: &[u8], at: u16) -> u16
     ensures { λ r. ⌜ r ≡ get16 (now (s .entry)) at ⌝ }
 {
     let i = at as usize;
-    (byte_at(s, i) as u16) * 256 + (byte_at(s, i + 1) as u16)
+    let high = byte_at(s, i) as u16;
+    let low = byte_at(s, i + 1) as u16;
+    high * 256 + low
 }
 
 // The number of 32 bits at an index; bytes past the end count as 0.
@@ -25,10 +27,11 @@ pub fn be32_at(s: &[u8], at: u16) -> u32
     ensures { λ r. ⌜ r ≡ get32 (now (s .entry)) at ⌝ }
 {
     let i = at as usize;
-    (byte_at(s, i) as u32) * 16777216
-        + (byte_at(s, i + 1) as u32) * 65536
-        + (byte_at(s, i + 2) as u32) * 256
-        + (byte_at(s, i + 3) as u32)
+    let first = byte_at(s, i) as u32;
+    let second = byte_at(s, i + 1) as u32;
+    let third = byte_at(s, i + 2) as u32;
+    let fourth = byte_at(s, i + 3) as u32;
+    first * 16777216 + second * 65536 + third * 256 + fourth
 }
 
 // Fills s with zeros.

@@ -7,7 +7,7 @@ use borrow.Author.Tests.{ltb-true, ltb-false, leb-true, leb-false, eqb-true, eqb
 use lib.Dec.{eqb, ltb, leb}
 use Rattle.geometry.specs.Cartridge.{pastReserved}
 use Rattle.geometry.specs.Said as said
-use Rattle.geometry.specs.Target.{stepOf}
+use Rattle.geometry.specs.WriteError.{stepOf}
 use Rattle.geometry.specs.declared.address.Address.{Address}
 use Rattle.geometry.proofs.PickLaws.{pick-by}
 use Rattle.drive.specs.declared.reply.Reply.{Reply}

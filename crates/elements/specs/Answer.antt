@@ -5,7 +5,7 @@ use lib.Dec.{eqb, ltb, leb}
 use Rattle.geometry.specs.Pick.{pick}
 use Rattle.geometry.specs.Refused.{verdictNumber}
 use Rattle.geometry.specs.Said as said
-use Rattle.geometry.specs.Target.{targetOf}
+use Rattle.geometry.specs.WriteError.{targetOf}
 use Rattle.geometry.specs.declared.address.Address.{Address}
 use Rattle.drive.specs.declared.reply.Reply.{Reply}
 use Rattle.elements.specs.declared.state.Elements.{Elements}

@@ -4,10 +4,14 @@ use Prim.Native.Nat.{_^_, _<_}
 use lib.ListN.{take, drop, getD}
 use Rattle.buffer.specs.Bytes.{get16, get32}
 use Rattle.frame.specs.Aux.{accessBytes, auxBytes}
-use Rattle.frame.specs.declared.fields.Fields.{Fields}
+use Rattle.frame.specs.declared.aux.Fields.{Fields}
 use Rattle.buffer.proofs.Numbers.{be16-back, be32-back}
 
 module _ (f : Fields) where
+  pub aux-zero : get32 (auxBytes f) 0 ≡ 0
+  unfolding auxBytes
+  aux-zero = refl
+
   pub aux-update : f .update < 2 ^ 32 → get32 (auxBytes f) 12 ≡ f .update
   unfolding auxBytes
   aux-update h = be32-back (f .update) h

@@ -15,7 +15,7 @@ use Rattle.frame.specs.Header.{headerFields, headerRest, headerFrame}
 use Rattle.frame.specs.declared.element.Kind.{Kind}
 use Rattle.frame.specs.declared.element.Kind.the-variants.{Data, Marker, Eod}
 use Rattle.frame.specs.declared.element.Element.{Element}
-use Rattle.frame.specs.declared.fields.Fields.{Fields}
+use Rattle.frame.specs.declared.aux.Fields.{Fields}
 use Rattle.frame.specs.declared.header.Header.{Header}
 use Rattle.geometry.proofs.TestLaws.{and-true}
 use Rattle.buffer.proofs.Numbers.{same16, same32}
@@ -82,13 +82,13 @@ unfolding blank
 cleared p e = p ∙ ap (λ (k : ℕ). replicate k 0) e
 
 -- the bytes of a header's fields before they are stored, and those behind them
-pub blank-before : (r : List ℕ) → take 36 (blank ++ r) ≡ replicate 36 0
+pub blank-before : take 36 blank ≡ replicate 36 0
 unfolding blank
-blank-before r = refl
+blank-before = refl
 
-pub blank-behind : (r : List ℕ) → drop 36 (blank ++ r) ≡ headerRest ++ r
+pub blank-behind : drop 36 blank ≡ headerRest
 unfolding blank headerRest
-blank-behind r = refl
+blank-behind = refl
 
 blank-length : length blank ≡ 32768
 unfolding blank

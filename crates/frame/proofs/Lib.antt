@@ -3,3 +3,4 @@ pub mod Frames
 pub mod AuxFields
 pub mod HeaderFields
 pub mod AsSent
+pub mod ReadBack

@@ -1,11 +1,12 @@
 -- 01, "AUX bytes": the last 512 bytes of a frame. Unnamed bytes are 0.
 use Prim.Native.Nat.{ℕ}
 use mathlib.Core.List.{List, _∷_, _++_}
+use Rattle.geometry.specs.Cartridge.{firstUser}
 use Rattle.buffer.specs.Bytes.{zeros, be16, be32}
 use Rattle.frame.specs.declared.element.Kind.{Kind}
 use Rattle.frame.specs.declared.element.Kind.the-variants.{Data, Marker, Eod}
 use Rattle.frame.specs.declared.element.Element.{Element}
-use Rattle.frame.specs.declared.fields.Fields.{Fields}
+use Rattle.frame.specs.declared.aux.Fields.{Fields}
 
 -- AUX bytes 56-187: 08 00 n 00, one entry of block size, count and flags, and 0
 unfoldable pub accessBytes : ℕ → ℕ → ℕ → List ℕ
@@ -59,7 +60,7 @@ elementAux e = record {
   kind = typeOf (e .kind);
   partition = 0;
   pass = e .pass;
-  first = record { 0 = 10 };
+  first = record { 0 = firstUser };
   last = e .last;
   seq = e .seq;
   entries = entriesOf (e .kind);

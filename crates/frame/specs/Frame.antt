@@ -1,9 +1,10 @@
--- 01, "The cartridge": a frame is 33,280 bytes, 32,768 of data and 512 of AUX.
+-- 01, "The cartridge" and "AUX bytes": the frames of elements and of EOD, data and then AUX.
 use Prim.Native.Nat.{ℕ}
 use mathlib.Core.Bool.{Bool, _&&_}
 use mathlib.Core.List.{List, _++_}
 use lib.Dec.{eqb}
 use Rattle.buffer.specs.Bytes.{zeros}
+use Rattle.frame.specs.Lengths.{frameLength, dataLength}
 use Rattle.frame.specs.Aux.{auxBytes, elementAux}
 use Rattle.frame.specs.declared.element.Kind.{Kind}
 use Rattle.frame.specs.declared.element.Kind.the-variants.{Data, Marker, Eod}
@@ -11,7 +12,7 @@ use Rattle.frame.specs.declared.element.Element.{Element}
 
 -- the data bytes of a marker and of EOD are 0
 unfoldable pub blank : List ℕ
-blank = zeros 32768
+blank = zeros dataLength
 
 abbrev pub dataBytes : Kind → List ℕ → List ℕ
 dataBytes Data block = block
@@ -24,6 +25,6 @@ elementFrame e block = dataBytes (e .kind) block ++ auxBytes (elementAux e)
 
 -- whether buffers of these lengths serve for it; only a data frame takes a block
 abbrev pub elementFits : Kind → ℕ → ℕ → Bool
-elementFits Data frame block = eqb frame 33280 && eqb block 32768
-elementFits Marker frame block = eqb frame 33280
-elementFits Eod frame block = eqb frame 33280
+elementFits Data frame block = eqb frame frameLength && eqb block dataLength
+elementFits Marker frame block = eqb frame frameLength
+elementFits Eod frame block = eqb frame frameLength

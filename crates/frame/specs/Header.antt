@@ -1,7 +1,9 @@
 -- 01, "AUX bytes": the header's data, and its frame.
-use Prim.Native.Nat.{ℕ}
+use Prim.Native.Nat.{ℕ, _-_}
 use mathlib.Core.List.{List, _∷_, _++_}
 use Rattle.buffer.specs.Bytes.{zeros, be16, be32}
+use Rattle.geometry.specs.Cartridge.{firstUser}
+use Rattle.frame.specs.Lengths.{dataLength}
 use Rattle.frame.specs.Aux.{auxBytes, headerAux}
 use Rattle.frame.specs.declared.header.Header.{Header}
 
@@ -11,11 +13,14 @@ headerFields h =
     be32 0x4144525F ++ be32 0x53455100
     ++ 1 ∷ 3 ∷ zeros 6
     ++ 1 ∷ zeros 3
-    ++ 0 ∷ 1 ∷ be16 (h .pass) ++ be32 10 ++ be32 (h .last .0) ++ be32 (h .eod .0)
+    ++ 0 ∷ 1 ∷ be16 (h .pass) ++ be32 firstUser ++ be32 (h .last .0) ++ be32 (h .eod .0)
 
 -- the data bytes after those 36
 unfoldable pub headerRest : List ℕ
-headerRest = zeros 32732
+headerRest = zeros (dataLength - 36)
+
+abbrev pub headerData : Header → List ℕ
+headerData h = headerFields h ++ headerRest
 
 unfoldable pub headerFrame : Header → List ℕ
-headerFrame h = (headerFields h ++ headerRest) ++ auxBytes (headerAux (h .update))
+headerFrame h = headerData h ++ auxBytes (headerAux (h .update))

@@ -4,13 +4,17 @@ ghost use mathlib.Core.Bool.{true};
 ghost use lib.ListN.{length};
 ghost use Rattle.geometry.specs.Pick.{pick};
 ghost use Rattle.geometry.specs.Refused.{verdictNumber};
+ghost use Rattle.frame.specs.Lengths.{frameLength, dataLength};
 ghost use Rattle.frame.specs.Aux.{typeOf, entriesOf, sizeOf, flagsOf, elementAux};
 ghost use Rattle.frame.specs.Frame.{dataBytes, elementFrame, elementFits};
-use crate::fields::Fields;
-use crate::fields::fill_aux;
+use crate::aux::Fields;
+use crate::aux::fill_aux;
+use crate::lengths::DATA_LENGTH;
+use crate::lengths::FRAME_LENGTH;
 use buffer::clear;
 use buffer::copy_all;
 use geometry::Address;
+use geometry::FIRST_USER;
 use geometry::Refusal;
 use geometry::Seq;
 use geometry::Verdict;
@@ -61,7 +65,7 @@ fn size_of(k: Kind) -> u32
     ensures { λ r. ⌜ r ≡ sizeOf k ⌝ }
 {
     match k {
-        Kind::Data => 32768,
+        Kind::Data => 0x8000,
         Kind::Marker => 0,
         Kind::Eod => 0,
     }
@@ -91,7 +95,7 @@ pub fn element_fields(e: Element) -> Fields
         kind: type_of(kind),
         partition: 0,
         pass: e.pass,
-        first: Address(10),
+        first: Address(FIRST_USER),
         last: last,
         seq: seq,
         entries: entries_of(kind),
@@ -107,16 +111,16 @@ fn fits(k: Kind, frame: usize, block: usize) -> bool
     ensures { λ r. ⌜ r ≡ elementFits k frame block ⌝ }
 {
     match k {
-        Kind::Data => (frame == 33280) & (block == 32768),
-        Kind::Marker => frame == 33280,
-        Kind::Eod => frame == 33280,
+        Kind::Data => (frame == FRAME_LENGTH) & (block == DATA_LENGTH),
+        Kind::Marker => frame == FRAME_LENGTH,
+        Kind::Eod => frame == FRAME_LENGTH,
     }
 }
 
 // The data bytes of a frame.
 fn fill_data(front: &mut [u8], k: Kind, block: &[u8])
-    requires { ⌜ length (now front) ≡ 32768 ⌝ }
-    requires { ⌜ elementFits k 33280 (length (now block)) ≡ true ⌝ }
+    requires { ⌜ length (now front) ≡ dataLength ⌝ }
+    requires { ⌜ elementFits k frameLength (length (now block)) ≡ true ⌝ }
     ensures { λ _. ⌜ now (front .exit) ≡ dataBytes k (now (block .entry)) ⌝ }
 {
     match k {
@@ -131,8 +135,8 @@ fn fill_element(frame: &mut [u8], e: Element, block: &[u8])
     ensures { λ _. ⌜ now (frame .exit) ≡ elementFrame e (now (block .entry)) ⌝ }
 {
     let k = e.kind;
-    fill_data(&mut frame[..32768], k, block);
-    fill_aux(&mut frame[32768..], element_fields(e));
+    fill_data(&mut frame[..DATA_LENGTH], k, block);
+    fill_aux(&mut frame[DATA_LENGTH..], element_fields(e));
 }
 
 // Fills a frame of 33,280 bytes, a data frame with a block of 32,768; other lengths are refused with 1 and the frame is left alone.

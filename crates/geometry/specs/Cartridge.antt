@@ -8,6 +8,23 @@ use Rattle.geometry.specs.declared.cartridge.LoadPoint.the-variants.{Beg
 use Rattle.geometry.specs.Pick.{pick}
 use Rattle.geometry.specs.Said.{Said, address, refused}
 
+-- where the header groups and the user frames behind each of them start
+abbrev pub firstGroup : ℕ
+firstGroup = 5
+
+abbrev pub firstUser : ℕ
+firstUser = 10
+
+abbrev pub secondGroup : ℕ
+secondGroup = 2990
+
+abbrev pub secondUser : ℕ
+secondUser = 3000
+
+-- the frames that are needed
+abbrev pub leastFrames : ℕ
+leastFrames = 3001
+
 -- SEGTRK frames of a track, or SEGTRK − 99 for a cartridge loaded at its centre.
 -- The subtraction stops at 0: there a SEGTRK of at most 99 gives no frames.
 abbrev pub trackFrames : LoadPoint → ℕ → ℕ
@@ -20,20 +37,20 @@ framesOf g = trackFrames (g .load) (g .segtrk) * g .trks
 
 -- LAST; refusal 2 under 3,001 frames
 abbrev pub lastOf : Geometry → Said
-lastOf g = pick (ltb (framesOf g) 3001) (refused 2) (address (framesOf g - 1))
+lastOf g = pick (ltb (framesOf g) leastFrames) (refused 2) (address (framesOf g - 1))
 
 -- user frames: 10 to 2,989 and 3,000 to LAST
 abbrev pub isUser : ℕ → ℕ → Bool
-isUser last a = (leb 10 a && leb a 2989) || (leb 3000 a && leb a last)
+isUser last a = (leb firstUser a && leb a (secondGroup - 1)) || (leb secondUser a && leb a last)
 
 -- header groups: 5 to 9 and 2,990 to 2,994
 abbrev pub isHeader : ℕ → Bool
-isHeader a = (leb 5 a && leb a 9) || (leb 2990 a && leb a 2994)
+isHeader a = (leb firstGroup a && leb a (firstGroup + 4)) || (leb secondGroup a && leb a (secondGroup + 4))
 
 -- the address of a copy of a group, both counted from 0, groups modulo 2 and copies modulo 5
 abbrev pub headerAddress : ℕ → ℕ → ℕ
-headerAddress group copy = pick (eqb (group % 2) 0) 5 2990 + copy % 5
+headerAddress group copy = pick (eqb (group % 2) 0) firstGroup secondGroup + copy % 5
 
 -- what follows 2,989 for user data: 2,990 to 2,999 become 3,000
 abbrev pub pastReserved : ℕ → ℕ
-pastReserved a = pick (ltb a 2990) a (pick (ltb a 3000) 3000 a)
+pastReserved a = pick (ltb a secondGroup) a (pick (ltb a secondUser) secondUser a)

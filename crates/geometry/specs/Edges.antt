@@ -5,7 +5,7 @@ use Rattle.geometry.specs.declared.cartridge.LoadPoint.{LoadPoint}
 use Rattle.geometry.specs.declared.cartridge.LoadPoint.the-variants.{Beginning, Centre}
 use Rattle.geometry.specs.Said.{Said, address, refused}
 use Rattle.geometry.specs.Cartridge.{lastOf}
-use Rattle.geometry.specs.Target.{targetOf}
+use Rattle.geometry.specs.WriteError.{targetOf}
 
 -- a question to the definitions
 pub data Question : Type 0 where

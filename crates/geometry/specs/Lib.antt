@@ -2,5 +2,5 @@ pub mod Pick
 pub mod Refused
 pub mod Said
 pub mod Cartridge
-pub mod Target
+pub mod WriteError
 pub mod Edges

@@ -19,6 +19,18 @@ pub struct Geometry {
     pub load: LoadPoint,
 }
 
+// Where the first user frames start.
+pub const FIRST_USER: u32 = 10;
+
+// Where the second header group starts, behind the first user frames.
+pub const SECOND_GROUP: u32 = 2990;
+
+// Where the second user frames start, behind that group and a defect map.
+pub const SECOND_USER: u32 = 3000;
+
+// The frames that are needed.
+const LEAST_FRAMES: u32 = 3001;
+
 // The header frames' addresses, by group and copy.
 const HEADERS: [[Address; 5]; 2] = [
     [Address(5), Address(6), Address(7), Address(8), Address(9)],
@@ -61,7 +73,7 @@ impl Geometry {
         ensures { λ r. ⌜ placeSaid r ≡ lastOf self ⌝ }
     {
         let n = self.frames();
-        if n < 3001 {
+        if n < LEAST_FRAMES {
             return Place::Refused(Refusal::Geometry);
         }
         Place::At(Address(n - 1))
@@ -72,7 +84,16 @@ impl Geometry {
 pub fn is_user(last: Address, a: Address) -> bool
     ensures { λ r. ⌜ r ≡ isUser (last .0) (a .0) ⌝ }
 {
-    ((10 <= a.0) & (a.0 <= 2989)) | ((3000 <= a.0) & (a.0 <= last.0))
+    if a.0 < FIRST_USER {
+        return false;
+    }
+    if a.0 < SECOND_GROUP {
+        return true;
+    }
+    if a.0 < SECOND_USER {
+        return false;
+    }
+    a.0 <= last.0
 }
 
 // The address of a header copy. Groups count modulo 2 and copies modulo 5, so that every number has its place.

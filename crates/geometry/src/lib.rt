@@ -1,18 +1,21 @@
 // Addresses and sequence numbers, the cartridge's geometry, and the refusals: what every other crate speaks of.
 mod address;
 mod cartridge;
-mod error;
 mod refusal;
+mod write_error;
 
 pub use address::Address;
 pub use address::Place;
 pub use address::Seq;
+pub use cartridge::FIRST_USER;
 pub use cartridge::Geometry;
 pub use cartridge::LoadPoint;
+pub use cartridge::SECOND_GROUP;
+pub use cartridge::SECOND_USER;
 pub use cartridge::header_address;
 pub use cartridge::is_user;
-pub use error::past_reserved;
-pub use error::target;
 pub use refusal::Refusal;
 pub use refusal::Verdict;
 pub use refusal::number;
+pub use write_error::past_reserved;
+pub use write_error::target;

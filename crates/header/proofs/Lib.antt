@@ -2,3 +2,4 @@ pub mod Choices
 pub mod Facts
 pub mod Built
 pub mod AsRead
+pub mod ReadBack

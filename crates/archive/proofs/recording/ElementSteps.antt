@@ -11,7 +11,7 @@ use lib.Dec.{eqb, ltb, leb}
 use lib.ListN.{length}
 use Rattle.geometry.specs.Cartridge.{isUser, pastReserved}
 use Rattle.geometry.specs.Said as said
-use Rattle.geometry.specs.Target.{stepOf}
+use Rattle.geometry.specs.WriteError.{stepOf}
 use Rattle.geometry.specs.declared.address.Address.{Address}
 use Rattle.geometry.proofs.PickLaws.{pick-by}
 use Rattle.archive.specs.Conduct.{Drive, AtRest, empty, stopped}

@@ -8,10 +8,9 @@ use denote.Ref.{now}
 use lib.ListN.{length, take, drop}
 use lib.Seq.{length-take-le, length-front}
 use Rattle.frame.specs.Aux.{auxBytes}
-use Rattle.frame.specs.Frame.{dataBytes, elementFrame}
-use Rattle.frame.specs.declared.fields.Fields.{Fields}
+use Rattle.frame.specs.Frame.{elementFrame}
 use Rattle.frame.proofs.Frames.{holds-front, rest-length, fits-length, fits-block}
-use Rattle.frame.proofs.Lists.{tail-put}
+use Rattle.frame.proofs.Lists.{tail-filled}
 use Rattle.frame.proofs.element.fill_element.Statement.{statement}
 use Rattle.frame.proofs.element.fill_element.Tie as tie
 
@@ -62,13 +61,9 @@ same-length c = search needs
 returns : tie.Need-returns
 unfolding elementFrame
 returns c =
-    let s = c .before .before .before .before .before .before .before .before .before .before .before in
     let filled = c .before .before .before .before .before .before .before in
-    let front-bytes = filled .fill-data .last .0 in
-    let aux = c .before .before .fill-aux .last .0 in
-    tail-put 32768 front-bytes (drop 32768 (s .args .frame .now)) aux (filled .fill-data .kept .0 ∙ front (filled .before))
-    ∙ ap (λ (x : List ℕ). x ++ aux) (filled .fill-data .ensures)
-    ∙ ap (λ (x : List ℕ). dataBytes (s .args .e .kind) (now (s .args .block)) ++ x) (c .before .before .fill-aux .ensures ∙ ap (λ (f : Fields). auxBytes f) (c .before .before .before .element-fields .ensures))
+    let fields = c .before .before .before in
+    tail-filled 32768 (drop 32768 (filled .before .before .before .before .args .frame .now)) (filled .fill-data .kept .0 ∙ front (filled .before)) (filled .fill-data .ensures) (c .before .before .fill-aux .ensures ∙ ap auxBytes (fields .element-fields .ensures))
 
 pub fill-element-spec : {M : Type 1} → statement M
 fill-element-spec =

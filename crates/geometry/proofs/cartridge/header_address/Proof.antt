@@ -24,31 +24,24 @@ headers =
 right : ℕ → ℕ → Bool
 right g c = eqb (getD (getD headers g []) c (at 0) .0) (pick (eqb g 0) 5 2990 + c)
 
--- src/cartridge.rt:88:13
 cast-g : tie.Need-cast-g
 cast-g c = search needs
 
--- src/cartridge.rt:89:13
 cast-c : tie.Need-cast-c
 cast-c c = search needs
 
--- src/cartridge.rt:90:5
 mul-result : tie.Need-mul-result
 mul-result c = search needs
 
--- src/cartridge.rt:90:5
 mul-result-2 : tie.Need-mul-result-2
 mul-result-2 c = search needs
 
--- src/cartridge.rt:90:5
 index-1-result : tie.Need-index-1-result
 index-1-result c = search needs
 
--- src/cartridge.rt:90:5
 index-2-result : tie.Need-index-2-result
 index-2-result c = search needs
 
--- src/cartridge.rt:85:1
 returns : tie.Need-returns
 unfolding right
 returns c = eqb→eq _ _ (at-index 5 (right (c .before .args .group % 2)) (at-index 2 (λ g. upto 5 (right g)) tt (c .before .args .group % 2) (omega arith)) (c .before .args .copy % 5) (omega arith))

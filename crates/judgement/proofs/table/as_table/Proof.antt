@@ -6,7 +6,7 @@ use Prim.Native.Nat.{ℕ}
 use denote.Ref.{now}
 use Rattle.buffer.specs.Bytes.{agree}
 use Rattle.frame.specs.Aux.{auxBytes, elementAux}
-use Rattle.frame.specs.declared.fields.Fields.{Fields}
+use Rattle.frame.specs.declared.aux.Fields.{Fields}
 use Rattle.judgement.specs.Judgement.{part, asTable}
 use borrow.Author.Needs.{needs}
 use Rattle.judgement.proofs.table.as_table.Statement.{statement}

@@ -6,23 +6,18 @@ use borrow.Author.Needs.{needs}
 use Rattle.geometry.proofs.cartridge.Geometry.frames.Statement.{statement}
 use Rattle.geometry.proofs.cartridge.Geometry.frames.Tie as tie
 
--- src/cartridge.rt:62:10
 track-frames-requires : tie.Need-track-frames-requires
 track-frames-requires c κs = search needs
 
--- src/cartridge.rt:62:10
 cast-result : tie.Need-cast-result
 cast-result c = search needs
 
--- src/cartridge.rt:62:41
 cast-result-2 : tie.Need-cast-result-2
 cast-result-2 c = search needs
 
--- src/cartridge.rt:62:9
 mul-result : tie.Need-mul-result
 mul-result c = let a : c .before .track-frames .result ≤ 65535 = omega arith in let b : c .before .before .args .self .trks ≤ 65535 = omega arith in omega (arith, mul-le-mul a b)
 
--- src/cartridge.rt:59:5
 returns : tie.Need-returns
 returns c = ap (λ (n : ℕ). n * c .before .before .args .self .trks) (c .before .track-frames .ensures)
 

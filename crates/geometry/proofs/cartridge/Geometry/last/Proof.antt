@@ -9,19 +9,15 @@ use borrow.Author.Needs.{needs}
 use Rattle.geometry.proofs.cartridge.Geometry.last.Statement.{statement}
 use Rattle.geometry.proofs.cartridge.Geometry.last.Tie as tie
 
--- src/cartridge.rt:69:13
 frames-requires : tie.Need-frames-requires
 frames-requires c κs = search needs
 
--- src/cartridge.rt:71:13
 returns : tie.Need-returns
 returns c = sym (pick-t _ (lt-ltb (framesOf (c .before .before .args .self)) 3001 (omega arith)))
 
--- src/cartridge.rt:73:27
 sub-t5 : tie.Need-sub-t5
 sub-t5 c = search needs
 
--- src/cartridge.rt:66:5
 returns-2 : tie.Need-returns-2
 returns-2 c = ap (λ (n : ℕ). address (n - 1)) (c .before .frames .ensures) ∙ sym (pick-f _ (le-ltb (framesOf (c .before .before .args .self)) 3001 (omega arith)))
 

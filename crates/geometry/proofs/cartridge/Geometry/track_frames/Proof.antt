@@ -3,23 +3,18 @@ use borrow.Author.Needs.{needs}
 use Rattle.geometry.proofs.cartridge.Geometry.track_frames.Statement.{statement}
 use Rattle.geometry.proofs.cartridge.Geometry.track_frames.Tie as tie
 
--- src/cartridge.rt:47:37
 enum-told : tie.Need-enum-told
 enum-told c = search needs
 
--- src/cartridge.rt:49:20
 enum-told-2 : tie.Need-enum-told-2
 enum-told-2 c = search needs
 
--- src/cartridge.rt:42:5
 returns : tie.Need-returns
 returns c = search needs
 
--- src/cartridge.rt:42:5
 returns-2 : tie.Need-returns-2
 returns-2 c = rw (c .before .before .enum-told2 .given .1) (omega arith)
 
--- src/cartridge.rt:42:5
 returns-3 : tie.Need-returns-3
 returns-3 c = rw (c .before .before .before .enum-told2 .given .1) (omega arith)
 

@@ -1,20 +1,26 @@
-// Where writing goes on after an address that was skipped.
+// The target of a write error: where writing goes on.
 ghost use mathlib.Core.Path.{_≡_};
 ghost use Rattle.geometry.specs.Said.{placeSaid};
 ghost use Rattle.geometry.specs.Cartridge.{pastReserved};
-ghost use Rattle.geometry.specs.Target.{stepOf, targetOf};
+ghost use Rattle.geometry.specs.WriteError.{stepOf, targetOf};
 use crate::address::Address;
 use crate::address::Place;
+use crate::cartridge::SECOND_GROUP;
+use crate::cartridge::SECOND_USER;
 use crate::refusal::Refusal;
 
 // An address moved out of the second header group and the defect map behind it.
 pub fn past_reserved(t: u64) -> u64
     ensures { λ r. ⌜ r ≡ pastReserved t ⌝ }
 {
-    if t < 2990 {
+    if t < (SECOND_GROUP as u64) {
         return t;
     }
-    if t < 3000 { 3000 } else { t }
+    if t < (SECOND_USER as u64) {
+        SECOND_USER as u64
+    } else {
+        t
+    }
 }
 
 // The addresses that an error skips: at least one.

@@ -8,9 +8,9 @@ use lib.Dec.{lit<, lit≤}
 use lib.ListN.{replicate, set}
 use Rattle.frame.specs.Aux.{accessBytes, auxBytes}
 use Rattle.buffer.specs.Bytes.{put16, put32}
-use Rattle.frame.specs.declared.fields.Fields.{Fields}
-use Rattle.frame.proofs.fields.fill_aux.Statement.{statement}
-use Rattle.frame.proofs.fields.fill_aux.Tie as tie
+use Rattle.frame.specs.declared.aux.Fields.{Fields}
+use Rattle.frame.proofs.aux.fill_aux.Statement.{statement}
+use Rattle.frame.proofs.aux.fill_aux.Tie as tie
 
 -- The fields that are stored, the bytes after each call, and that they are these.
 abbrev fields-clear : tie.After-clear → Fields

@@ -3,8 +3,8 @@ use borrow.Author.Needs.{needs}
 use borrow.Author.Tests.{eq-eqb, ne-eqb}
 use mathlib.Core.Path.{sym, _∙_}
 use Rattle.geometry.proofs.PickLaws.{pick-t, pick-f}
-use Rattle.frame.proofs.fields.build_aux.Statement.{statement}
-use Rattle.frame.proofs.fields.build_aux.Tie as tie
+use Rattle.frame.proofs.aux.build_aux.Statement.{statement}
+use Rattle.frame.proofs.aux.build_aux.Tie as tie
 
 returns : tie.Need-returns
 returns c = let e = ne-eqb _ 512 (c .if1 .taken) in (sym (pick-f 0 e), sym (pick-f _ e))

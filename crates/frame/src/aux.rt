@@ -4,8 +4,10 @@ ghost use lib.Dec.{eqb};
 ghost use lib.ListN.{length};
 ghost use Rattle.geometry.specs.Pick.{pick};
 ghost use Rattle.geometry.specs.Refused.{verdictNumber};
+ghost use Rattle.frame.specs.Lengths.{auxLength};
 ghost use Rattle.frame.specs.Aux.{auxBytes};
 use crate::access::build_access_table;
+use crate::lengths::AUX_LENGTH;
 use crate::store::put_be16;
 use crate::store::put_be32;
 use buffer::clear;
@@ -35,7 +37,7 @@ pub struct Fields {
 }
 
 pub(crate) fn fill_aux(aux: &mut [u8], f: Fields)
-    requires { ⌜ length (now aux) ≡ 512 ⌝ }
+    requires { ⌜ length (now aux) ≡ auxLength ⌝ }
     ensures { λ _. ⌜ now (aux .exit) ≡ auxBytes f ⌝ }
 {
     clear(aux);
@@ -56,10 +58,10 @@ pub(crate) fn fill_aux(aux: &mut [u8], f: Fields)
 
 // Fills a buffer of 512 bytes; one of another length is refused with 1 and left alone.
 pub fn build_aux(aux: &mut [u8], f: Fields) -> Verdict
-    ensures answer { λ r. ⌜ verdictNumber r ≡ pick (eqb (length (now (aux .entry))) 512) 0 1 ⌝ }
-    ensures bytes { λ _. ⌜ now (aux .exit) ≡ pick (eqb (length (now (aux .entry))) 512) (auxBytes f) (now (aux .entry)) ⌝ }
+    ensures answer { λ r. ⌜ verdictNumber r ≡ pick (eqb (length (now (aux .entry))) auxLength) 0 1 ⌝ }
+    ensures bytes { λ _. ⌜ now (aux .exit) ≡ pick (eqb (length (now (aux .entry))) auxLength) (auxBytes f) (now (aux .entry)) ⌝ }
 {
-    if aux.len() != 512 {
+    if aux.len() != AUX_LENGTH {
         return Verdict::Refused(Refusal::Length);
     }
     fill_aux(aux, f);
