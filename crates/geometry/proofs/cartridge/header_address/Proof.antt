@@ -1,3 +1,4 @@
+-- The table has the address that its rule gives, at each of its ten places. Assumes nothing.
 use Rattle.geometry.proofs.Table.{upto, at-index}
 use Rattle.geometry.specs.Pick.{pick}
 use Rattle.geometry.specs.declared.address.Address.{Address}

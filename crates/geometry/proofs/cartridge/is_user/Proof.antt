@@ -1,4 +1,4 @@
--- The address is below, between, among the reserved or behind them. Assumes nothing.
+-- The address is below the user frames, among the first of them, reserved, or behind. Assumes nothing.
 use native.Mathlib.Omega.{arith}
 use borrow.Author.Tests.{le-leb, lt-leb}
 use Rattle.geometry.proofs.cartridge.is_user.Statement.{statement}

@@ -1,3 +1,4 @@
+-- The product of two numbers of 16 bits has 32. Assumes nothing.
 use Prim.Native.Nat.{ℕ, _*_, _≤_}
 use mathlib.Core.Path.{ap}
 use native.Mathlib.Nat.{mul-le-mul}

@@ -1,3 +1,4 @@
+-- Both answers follow from the test of the frames. Assumes nothing.
 use Rattle.geometry.proofs.PickLaws.{pick-t, pick-f}
 use Rattle.geometry.specs.Cartridge.{framesOf}
 use Rattle.geometry.specs.Said.{address}

@@ -1,3 +1,4 @@
+-- Each arm is the definition's clause for its load point. Assumes nothing.
 use native.Mathlib.Omega.{arith}
 use borrow.Author.Needs.{needs}
 use Rattle.geometry.proofs.cartridge.Geometry.track_frames.Statement.{statement}
