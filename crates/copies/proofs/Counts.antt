@@ -5,11 +5,10 @@ use native.Mathlib.Omega.{arith}
 use Rattle.geometry.specs.declared.address.Address.{Address}
 use Rattle.frame.specs.declared.header.Header.{Header}
 use Rattle.drive.specs.declared.command.Command.the-variants.{Write}
-use Rattle.drive.specs.declared.reply.Reply.{Reply}
 use Rattle.copies.specs.declared.state.Copies.{Copies}
-use Rattle.copies.specs.Copies.{startOf, commandOf, Said, more, complete, refused, locatedOf, takenOf, confirmedOf, onwardOf, failedAt, firstAddress, oldestAddress, nextAddress, answerOf}
+use Rattle.copies.specs.Copies.{startOf, commandOf, Said, more, complete, refused, locatedOf, takenOf, confirmedOf, onwardOf, failedAt, firstAddress, oldestAddress, nextAddress}
 use Rattle.copies.proofs.CommandView.{write-due}
-use Rattle.copies.proofs.AnswerView.{OnwardView, unfinished, turning, unwritten, through, onward-view, AnswerView, located, taken, positioned, failed, unlawful, answer-view}
+use Rattle.copies.proofs.AnswerView.{OnwardView, unfinished, turning, unwritten, through, onward-view}
 
 pub record Counts (group copy outstanding confirmed : ℕ) : Type 0 where
   pub groups : group ≤ 1
@@ -63,18 +62,6 @@ module _ (c : Copies) (g : CountsOf c) where
   pub onward-counts : CountsSaid (onwardOf c)
   onward-counts = onward-in-view (onwardOf c) (onward-view c)
 
-answer-in-view : (c : Copies) (n : ℕ) (reply : Reply) (s : Said) → CountsOf c → (n ≡ 0x0A01 → c .copy < 5) → AnswerView c n reply s → CountsSaid s
-answer-in-view c n reply _ g left (located e) = located-counts c g
-answer-in-view c n reply _ g left (taken e) = taken-counts c g (left e)
-answer-in-view c n reply _ g left (positioned e h) =
-    onward-counts _ (confirmed-counts c g (c .outstanding - reply .buffered) (omega arith))
-answer-in-view c n reply _ g left (failed e low high) =
-    onward-counts _ (failed-counts c g (reply .position .0) low high)
-answer-in-view c n reply _ g left (unlawful u) = tt
-
 -- a WRITE that is answered was due
-pub answer-counts : (c : Copies) (n : ℕ) (reply : Reply) → CountsOf c → (n ≡ 0x0A01 → c .copy < 5) → CountsSaid (answerOf c n reply)
-answer-counts c n reply g left = answer-in-view c n reply (answerOf c n reply) g left (answer-view c n reply)
-
 pub written-counts : (depth : ℕ) (c : Copies) (a : Address) → CountsOf c → commandOf depth c ≡ Write a → CountsOf (takenOf c)
 written-counts depth c a g due = taken-counts c g (write-due depth c a due .left)

@@ -2,18 +2,17 @@
 use Prim.Native.Nat.{ℕ, _<_}
 use mathlib.Core.Path.{_≡_, refl, sym, ap, _∙_}
 use mathlib.Core.Bool.{Bool, true, false, false≢true}
-use mathlib.Core.Logic.{_⊎_, ⊎-elim, inl, inr}
+use mathlib.Core.Logic.{_⊎_, ⊎-elim}
 use native.Mathlib.Omega.{arith}
 use Rattle.geometry.specs.declared.address.Address.{Address}
 use Rattle.frame.specs.declared.header.Header.{Header}
 use Rattle.drive.specs.declared.command.Command.{Command}
 use Rattle.drive.specs.declared.command.Command.the-variants.{Write, Locate}
-use Rattle.drive.specs.declared.reply.Reply.{Reply}
 use Rattle.copies.specs.declared.state.Copies.{Copies}
-use Rattle.copies.specs.Copies.{startOf, headerAt, commandOf, Said, more, complete, refused, onwardOf, nextAddress, answerOf}
+use Rattle.copies.specs.Copies.{startOf, headerAt, commandOf, Said, more, complete, refused, onwardOf, nextAddress}
 use Rattle.copies.proofs.HeaderPlaces.{header-from-first}
 use Rattle.copies.proofs.CommandView.{CommandView, locating, writing, asking, command-view, write-due}
-use Rattle.copies.proofs.AnswerView.{OnwardView, unfinished, turning, unwritten, through, onward-view, AnswerView, located, taken, positioned, failed, unlawful, answer-view}
+use Rattle.copies.proofs.AnswerView.{OnwardView, unfinished, turning, unwritten, through, onward-view}
 
 pub record Placed (locate : Bool) (copy outstanding : ℕ) : Type 0 where
   pub left : locate ≡ true → copy < 5
@@ -44,18 +43,6 @@ onward-in-view c _ empty (through filled none later some) = tt
 
 pub onward-placed : (c : Copies) → (c .locate ≡ true → c .outstanding ≡ 0) → PlacedSaid (onwardOf c)
 onward-placed c empty = onward-in-view c (onwardOf c) empty (onward-view c)
-
-answer-in-view : (c : Copies) (n : ℕ) (reply : Reply) (s : Said) → ((n ≡ 0x0A01) ⊎ (n ≡ 0x3401) → c .locate ≡ false) → AnswerView c n reply s → PlacedSaid s
-answer-in-view c n reply _ f (located e) = unlocated _ _ refl
-answer-in-view c n reply _ f (taken e) = unlocated _ _ (f (inl e))
-answer-in-view c n reply _ f (positioned e h) =
-    onward-placed _ (λ t. absurd (false≢true (sym (f (inr e)) ∙ t)))
-answer-in-view c n reply _ f (failed e low high) = onward-placed _ (λ _. refl)
-answer-in-view c n reply _ f (unlawful u) = tt
-
--- a WRITE or a READ POSITION is only due where no LOCATE is
-pub answer-placed : (c : Copies) (n : ℕ) (reply : Reply) → ((n ≡ 0x0A01) ⊎ (n ≡ 0x3401) → c .locate ≡ false) → PlacedSaid (answerOf c n reply)
-answer-placed c n reply f = answer-in-view c n reply (answerOf c n reply) f (answer-view c n reply)
 
 pub write-address : (depth : ℕ) (c : Copies) (a : Address) → commandOf depth c ≡ Write a → a .0 ≡ nextAddress c
 write-address depth c a e =

@@ -10,7 +10,6 @@ use Rattle.geometry.specs.declared.address.Address.{Address}
 use Rattle.frame.specs.declared.header.Header.{Header}
 use Rattle.drive.specs.declared.command.Command.{Command}
 use Rattle.drive.specs.declared.command.Command.the-variants.{Write, Locate, ReadPosition}
-use Rattle.drive.specs.declared.reply.Reply.{Reply}
 use Rattle.copies.specs.declared.state.Copies.{Copies}
 use Rattle.copies.specs.declared.answer.Progress.{Progress}
 use Rattle.copies.specs.declared.answer.Progress.the-variants.{More, Complete, Refused}
@@ -63,8 +62,8 @@ onwardOf c =
     (pick (eqb (c .confirmed) 0) (refused 12) complete))
 
 -- READ POSITION answered good, with f frames still buffered
-unfoldable pub positionedOf : Copies → ℕ → Said
-positionedOf c f = pick (ltb (c .outstanding) f) (refused 8) (onwardOf (confirmedOf c (c .outstanding - f)))
+unfoldable pub countedOf : Copies → ℕ → Said
+countedOf c f = pick (ltb (c .outstanding) f) (refused 8) (onwardOf (confirmedOf c (c .outstanding - f)))
 
 -- the copy of index i failed: it is spoiled, the n before it are on tape, and a LOCATE of the address behind it follows
 abbrev pub failedAt : Copies → ℕ → ℕ → Copies
@@ -86,12 +85,3 @@ failedOf c p =
     pick (ltb p (oldestAddress c)) (refused 8)
     (pick (leb (nextAddress c) p) (refused 8)
     (onwardOf (failedAt c (p - oldestAddress c) (p - firstAddress c))))
-
--- by the command's code and the meaning of its reply: LOCATE good, WRITE good, READ POSITION good, a write error; anything else: refusal 8
-unfoldable pub answerOf : Copies → ℕ → Reply → Said
-answerOf c n reply =
-    pick (eqb n 0x2B01) (more (locatedOf c))
-    (pick (eqb n 0x0A01) (more (takenOf c))
-    (pick (eqb n 0x3401) (positionedOf c (reply .buffered))
-    (pick (eqb n 0x0A03 || eqb n 0x3403) (failedOf c (reply .position .0))
-    (refused 8))))

@@ -1,9 +1,9 @@
-// What a reply to one of these commands changes.
+// What a reply to one of these commands changes, one function for each reply.
 ghost use mathlib.Core.Path.{_≡_};
 ghost use Prim.Native.Nat.{_-_, _≤_, _<_};
-ghost use Rattle.copies.specs.Copies.{progressSaid, locatedOf, takenOf, confirmedOf, failedAt, nextGroup, onwardOf, positionedOf, failedOf, answerOf};
+ghost use Rattle.copies.specs.Copies.{progressSaid, locatedOf, takenOf, confirmedOf, failedAt, nextGroup, onwardOf, countedOf, failedOf};
 use crate::state::Copies;
-use drive::Reply;
+use geometry::Address;
 use geometry::Refusal;
 use geometry::header_address;
 
@@ -16,15 +16,16 @@ pub enum Progress {
 }
 
 impl Copies {
-    fn located(mut self) -> Copies
+    // A LOCATE answered good.
+    pub fn located(mut self) -> Copies
         ensures { λ r. ⌜ r ≡ locatedOf self ⌝ }
     {
         self.locate = false;
         self
     }
 
-    // The drive has taken a copy.
-    fn taken(mut self) -> Copies
+    // A WRITE answered good: the drive has taken a copy.
+    pub fn taken(mut self) -> Copies
         ensures { λ r. ⌜ r ≡ takenOf self ⌝ }
     {
         self.copy = std::num::wrapping_add_u8(self.copy, 1);
@@ -67,8 +68,9 @@ impl Copies {
         Progress::Complete
     }
 
-    fn positioned(self, buffered: u32) -> Progress
-        ensures { λ r. ⌜ progressSaid r ≡ positionedOf self buffered ⌝ }
+    // READ POSITION answered good, with so many frames still buffered.
+    pub fn counted(self, buffered: u32) -> Progress
+        ensures { λ r. ⌜ progressSaid r ≡ countedOf self buffered ⌝ }
     {
         if (self.outstanding as u32) < buffered {
             return Progress::Refused(Refusal::Reply);
@@ -89,38 +91,22 @@ impl Copies {
         self
     }
 
-    fn failed(self, p: u32) -> Progress
-        ensures { λ r. ⌜ progressSaid r ≡ failedOf self p ⌝ }
+    // A write error at p, which must be outstanding.
+    pub fn failed(self, p: Address) -> Progress
+        ensures { λ r. ⌜ progressSaid r ≡ failedOf self (p .0) ⌝ }
     {
         let start = header_address(self.group, 0);
         let oldest = start.0 + (less(self.copy, self.outstanding) as u32);
         let next = start.0 + (self.copy as u32);
-        if p < oldest {
+        if p.0 < oldest {
             return Progress::Refused(Refusal::Reply);
         }
-        if next <= p {
+        if next <= p.0 {
             return Progress::Refused(Refusal::Reply);
         }
-        let n = (p - oldest) as u8;
-        let i = (p - start.0) as u8;
+        let n = (p.0 - oldest) as u8;
+        let i = (p.0 - start.0) as u8;
         self.failed_at(n, i).onward()
-    }
-
-    // `case` is the command's code and, as its low byte, the meaning of the reply's sense triple.
-    pub fn answer(self, case: u16, reply: Reply) -> Progress
-        ensures { λ r. ⌜ progressSaid r ≡ answerOf self «case» reply ⌝ }
-    {
-        match case {
-            // LOCATE, good
-            0x2B01 => Progress::More(self.located()),
-            // WRITE, good
-            0x0A01 => Progress::More(self.taken()),
-            // READ POSITION, good
-            0x3401 => self.positioned(reply.buffered),
-            // WRITE and READ POSITION, write error
-            0x0A03 | 0x3403 => self.failed(reply.position.0),
-            _ => Progress::Refused(Refusal::Reply),
-        }
     }
 }
 

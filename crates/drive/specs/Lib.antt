@@ -2,3 +2,4 @@ pub mod Command
 pub mod Senses
 pub mod Listed
 pub mod Exchange
+pub mod Cases

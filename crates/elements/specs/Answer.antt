@@ -1,13 +1,12 @@
 -- 01, "Replies", for elements and EOD.
 use Prim.Native.Nat.{ℕ, _+_, _-_, _%_, _^_}
-use mathlib.Core.Bool.{true, false, _||_}
-use lib.Dec.{eqb, ltb, leb}
+use mathlib.Core.Bool.{true, false}
+use lib.Dec.{ltb, leb}
 use Rattle.geometry.specs.Pick.{pick}
 use Rattle.geometry.specs.Refused.{verdictNumber}
 use Rattle.geometry.specs.Said as said
 use Rattle.geometry.specs.WriteError.{targetOf}
 use Rattle.geometry.specs.declared.address.Address.{Address}
-use Rattle.drive.specs.declared.reply.Reply.{Reply}
 use Rattle.elements.specs.declared.state.Elements.{Elements}
 use Rattle.elements.specs.declared.answer.Stepped.{Stepped}
 use Rattle.elements.specs.Elements.{at, numberOf, baseOf}
@@ -54,8 +53,8 @@ abbrev pub relocatedOf : Elements → Address → Elements
 relocatedOf e t = record { first = e .first; pending = e .pending; outstanding = 0; next = e .next; limit = e .limit; relocate = true; target = t; trail = e .trail; marks = e .marks }
 
 -- READ POSITION answered good, with f frames still buffered: outstanding becomes f, oldest confirmed first
-unfoldable pub positionedOf : Elements → ℕ → Step
-positionedOf e f = pick (ltb (e .outstanding) f) (refusing e 8) (kept (confirmedOf e (e .outstanding - f)))
+unfoldable pub countedOf : Elements → ℕ → Step
+countedOf e f = pick (ltb (e .outstanding) f) (refusing e 8) (kept (confirmedOf e (e .outstanding - f)))
 
 -- a write error at p: frames before p are confirmed, from p on they are due again, at the target; no room there: refusal 9
 abbrev pub failedTo : Elements → ℕ → said.Said → Step
@@ -70,16 +69,5 @@ failedOf e p skip =
     (failedTo e p (targetOf p skip (e .limit .0))))
 
 -- volume overflow on a WRITE at a: END becomes a − 1
-abbrev pub shortenedOf : Elements → Address → Elements
-shortenedOf e a = record { first = e .first; pending = e .pending; outstanding = e .outstanding; next = e .next; limit = a; relocate = e .relocate; target = e .target; trail = e .trail; marks = e .marks }
-
--- by the command's code and the meaning of its reply: LOCATE good, WRITE good, READ POSITION good, a write error, WRITE with volume overflow;
--- anything else: refusal 8
-unfoldable pub answerOf : Elements → ℕ → Address → Reply → Step
-answerOf e n a reply =
-    pick (eqb n 0x2B01) (kept (locatedOf e a))
-    (pick (eqb n 0x0A01) (kept (takenOf e))
-    (pick (eqb n 0x3401) (positionedOf e (reply .buffered))
-    (pick (eqb n 0x0A03 || eqb n 0x3403) (failedOf e (reply .position .0) (reply .skip))
-    (pick (eqb n 0x0A04) (kept (shortenedOf e a))
-    (refusing e 8)))))
+abbrev pub overflowedOf : Elements → Address → Elements
+overflowedOf e a = record { first = e .first; pending = e .pending; outstanding = e .outstanding; next = e .next; limit = a; relocate = e .relocate; target = e .target; trail = e .trail; marks = e .marks }

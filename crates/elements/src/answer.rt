@@ -1,11 +1,10 @@
-// What a reply to one of these commands changes.
+// What a reply to one of these commands changes, one function for each reply.
 ghost use mathlib.Core.Path.{_≡_};
 ghost use Prim.Native.Nat.{_-_, _≤_};
 ghost use Rattle.geometry.specs.Refused.{refusalNumber};
-ghost use Rattle.elements.specs.Answer.{steppedSaid, kept, refusing, locatedOf, takenOf, confirmedOf, relocatedOf, positionedOf, failedOf, shortenedOf, answerOf};
+ghost use Rattle.elements.specs.Answer.{steppedSaid, kept, refusing, locatedOf, takenOf, confirmedOf, relocatedOf, countedOf, failedOf, overflowedOf};
 use crate::state::Elements;
 use crate::trail::trail_after;
-use drive::Reply;
 use geometry::Address;
 use geometry::Place;
 use geometry::Refusal;
@@ -19,7 +18,8 @@ pub struct Stepped {
 }
 
 impl Elements {
-    fn keep(self) -> Stepped
+    // The reply is not refused.
+    pub fn keep(self) -> Stepped
         ensures { λ r. ⌜ steppedSaid r ≡ kept self ⌝ }
     {
         Stepped {
@@ -37,8 +37,8 @@ impl Elements {
         }
     }
 
-    // The drive stands at a.
-    fn located(self, a: Address) -> Elements
+    // A LOCATE of a answered good: the drive stands there.
+    pub fn located(self, a: Address) -> Elements
         ensures { λ r. ⌜ r ≡ locatedOf self a ⌝ }
     {
         Elements {
@@ -48,8 +48,8 @@ impl Elements {
         }
     }
 
-    // The drive has taken the next frame.
-    fn taken(self) -> Elements
+    // A WRITE answered good: the drive has taken the next frame.
+    pub fn taken(self) -> Elements
         ensures { λ r. ⌜ r ≡ takenOf self ⌝ }
     {
         Elements {
@@ -89,8 +89,9 @@ impl Elements {
         }
     }
 
-    fn positioned(self, buffered: u32) -> Stepped
-        ensures { λ r. ⌜ steppedSaid r ≡ positionedOf self buffered ⌝ }
+    // READ POSITION answered good, with so many frames still buffered.
+    pub fn counted(self, buffered: u32) -> Stepped
+        ensures { λ r. ⌜ steppedSaid r ≡ countedOf self buffered ⌝ }
     {
         if (self.outstanding as u32) < buffered {
             return self.refuse(Refusal::Reply);
@@ -99,7 +100,8 @@ impl Elements {
         self.confirmed(n).keep()
     }
 
-    fn failed(self, p: Address, skip: u8) -> Stepped
+    // A write error at p, which must be outstanding.
+    pub fn failed(self, p: Address, skip: u8) -> Stepped
         ensures { λ r. ⌜ steppedSaid r ≡ failedOf self (p .0) skip ⌝ }
     {
         let base = self.base();
@@ -118,33 +120,11 @@ impl Elements {
         }
     }
 
-    // There is no room at a: END is the address before it.
-    fn shortened(self, a: Address) -> Elements
-        ensures { λ r. ⌜ r ≡ shortenedOf self a ⌝ }
+    // 0D/00/02 on a WRITE at a: there is no room, and END is the address before it.
+    pub fn overflowed(self, a: Address) -> Elements
+        ensures { λ r. ⌜ r ≡ overflowedOf self a ⌝ }
     {
         Elements { limit: a, ..self }
-    }
-
-    // `case` is the command's code and, as its low byte, the meaning of the reply's sense triple; a is the command's address.
-    pub fn answer(self, case: u16, a: Address, reply: Reply) -> Stepped
-        ensures { λ r. ⌜ steppedSaid r ≡ answerOf self «case» a reply ⌝ }
-    {
-        match case {
-            // LOCATE, good
-            0x2B01 => self.located(a).keep(),
-            // WRITE, good
-            0x0A01 => self.taken().keep(),
-            // READ POSITION, good
-            0x3401 => self.positioned(reply.buffered),
-            // WRITE and READ POSITION, write error
-            0x0A03 | 0x3403 => {
-                let p = reply.position;
-                self.failed(p, reply.skip)
-            }
-            // WRITE, volume overflow
-            0x0A04 => self.shortened(a).keep(),
-            _ => self.refuse(Refusal::Reply),
-        }
     }
 }
 

@@ -5,17 +5,15 @@ use mathlib.Core.Bool.{true, _&&_}
 use mathlib.Core.List.{List}
 use native.Mathlib.Omega.{arith}
 use lib.Dec.{eqb}
+use borrow.Author.Tests.{eqb-false}
 use lib.ListN.{length}
 use Rattle.geometry.proofs.Impossible.{never}
 use Rattle.geometry.proofs.PickLaws.{pick-by}
 use Rattle.drive.specs.declared.reply.Reply.{Reply}
-use Rattle.geometry.specs.declared.address.Address.{Address}
-use Rattle.drive.specs.Command.{commandAddress}
 use Rattle.drive.specs.declared.command.Command.{Command}
 use Rattle.copies.specs.Copies as copies
 use Rattle.copies.specs.declared.state.Copies.{Copies}
 use Rattle.copies.proofs.AnswerView as copying
-use Rattle.elements.specs.Elements.{at}
 use Rattle.elements.specs.Due as due
 use Rattle.elements.specs.declared.state.Elements.{Elements}
 use Rattle.elements.specs.Answer as answer
@@ -25,7 +23,7 @@ use Rattle.recording.specs.declared.session.Recording.{Recording}
 use Rattle.recording.specs.Session.{windowLength, Result, endedOf}
 use Rattle.recording.specs.Accept.{acceptsNone, isFull, filemarkOf, Stored, blockOf, closeOf}
 use Rattle.recording.specs.Fetch.{refused, Fetching, sending, fetchOf}
-use Rattle.recording.specs.Reply.{caseOf, replyOf}
+use Rattle.recording.specs.Reply.{headerReplyBy, elementReplyBy, stageReply, replyOf}
 use Rattle.recording.proofs.FetchView as fetching
 use Rattle.recording.proofs.ReplyView as replying
 
@@ -51,12 +49,14 @@ onward-number c (copying.turning _ _ _) e = never (cc)
 onward-number c (copying.unwritten _ _ _ _) e = cc
 onward-number c (copying.through _ _ _ _) e = never (cc)
 
-copies-number : {c : Copies} {n m : ℕ} {r : Reply} {x : copies.Said} → copying.AnswerView c n r x → x ≡ copies.refused m → 8 ≤ m
-copies-number (copying.located _) e = never (cc)
-copies-number (copying.taken _) e = never (cc)
-copies-number (copying.positioned _ _) e = omega (arith, onward-number _ (copying.onward-view _) e)
-copies-number (copying.failed _ _ _) e = omega (arith, onward-number _ (copying.onward-view _) e)
-copies-number {m = m} (copying.unlawful _) e = let number : _≡_ {A = ℕ} 8 m = cc in omega arith
+counted-number : {c : Copies} {f m : ℕ} {x : copies.Said} → copying.CountedView c f x → x ≡ copies.refused m → 8 ≤ m
+counted-number {m = m} (copying.tooMany _) e = let number : _≡_ {A = ℕ} 8 m = cc in omega arith
+counted-number (copying.counted _) e = omega (arith, onward-number _ (copying.onward-view _) e)
+
+failed-number : {c : Copies} {p m : ℕ} {x : copies.Said} → copying.FailedView c p x → x ≡ copies.refused m → 8 ≤ m
+failed-number {m = m} (copying.before _) e = let number : _≡_ {A = ℕ} 8 m = cc in omega arith
+failed-number {m = m} (copying.behind _) e = let number : _≡_ {A = ℕ} 8 m = cc in omega arith
+failed-number (copying.failed _ _) e = omega (arith, onward-number _ (copying.onward-view _) e)
 
 due-number : {depth n : ℕ} {e : Elements} {x : due.Said} → dues.DueView depth e x → x ≡ due.refused n → 8 ≤ n
 due-number (dues.relocating _) q = never (cc)
@@ -67,14 +67,15 @@ due-number {n = n} (dues.full _ _ _ _) q = let number : _≡_ {A = ℕ} 9 n = cc
 due-number (dues.jumping _ _ _ _ _) q = never (cc)
 due-number (dues.writing _ _ _ _ _) q = never (cc)
 
-step-number : {e : Elements} {n : ℕ} {a : Address} {r : Reply} {x : answer.Step} → answers.AnswerView e n a r x → (x .number ≡ 0 → ⊥) → 8 ≤ x .number
-step-number (answers.located _) h = absurd (h refl)
-step-number (answers.taken _) h = absurd (h refl)
-step-number (answers.positioned _ _) h = absurd (h refl)
-step-number (answers.failed _ _ _ _) h = absurd (h refl)
-step-number (answers.full _ _ _ _) h = omega arith
-step-number (answers.shortened _) h = absurd (h refl)
-step-number (answers.unlawful _) h = omega arith
+counted-step : {e : Elements} {f : ℕ} {x : answer.Step} → answers.CountedView e f x → (x .number ≡ 0 → ⊥) → 8 ≤ x .number
+counted-step (answers.tooMany _) h = omega arith
+counted-step (answers.counted _) h = absurd (h refl)
+
+failed-step : {e : Elements} {p skip : ℕ} {x : answer.Step} → answers.FailedView e p skip x → (x .number ≡ 0 → ⊥) → 8 ≤ x .number
+failed-step (answers.tooLow _) h = omega arith
+failed-step (answers.tooHigh _) h = omega arith
+failed-step (answers.failed _ _ _) h = absurd (h refl)
+failed-step (answers.full _ _ _) h = omega arith
 
 -- ---- the calls
 
@@ -133,16 +134,33 @@ module _ (s : Recording) where
       go (fetching.stopping _ _ _ m q) e = let number : m ≡ n = cc in ended-by n (omega (arith, due-number (dues.due-view (s .setup .depth) (s .elements)) q))
       go (fetching.finished _ _ _) e = never (cc)
 
+  header-left : (x : copies.Said) → ((m : ℕ) → x ≡ copies.refused m → 8 ≤ m) → Left (headerReplyBy x s)
+  header-left (copies.more _) h = accepted-by
+  header-left copies.complete h = accepted-by
+  header-left (copies.refused n) h = ended-by n (h n refl)
+
+  element-left : (x : answer.Step) → ((x .number ≡ 0 → ⊥) → 8 ≤ x .number) → Left (elementReplyBy x s)
+  element-left x h = pick-by Left (eqb (x .number) 0) (λ _. accepted-by) (λ e. ended-by _ (h (eqb-false _ _ e)))
+
+  -- by stage
+  stage-left : (c : copies.Said) (x : answer.Step) → ((m : ℕ) → c ≡ copies.refused m → 8 ≤ m) → ((x .number ≡ 0 → ⊥) → 8 ≤ x .number) → Left (stageReply s c x)
+  stage-left c x h k = go (replying.stage-view s c x)
+    where
+      go : {y : Result} → replying.StageView s c x y → Left y
+      go (replying.in-headers _) = header-left c h
+      go (replying.in-elements _) = element-left x k
+      go (replying.in-done _) = ended-by 8 (omega arith)
+
   pub refused-reply : (r : Reply) → Left (replyOf s r)
   refused-reply r = go (replying.reply-view s r)
     where
       go : {x : Result} → replying.ReplyView s r x → Left x
       go (replying.unasked _) = unchanged-by 7 (omega arith)
-      go (replying.busy _ _ _) = accepted-by
-      go (replying.copying _ _ _ _) = accepted-by
-      go (replying.opened _ _ _) = accepted-by
-      go (replying.finished _ _ _) = accepted-by
-      go (replying.uncopied _ _ n e) = ended-by n (copies-number (copying.answer-view (s .copies) (caseOf s r) r) e)
-      go (replying.stepping _ _ _) = accepted-by
-      go (replying.stopping _ _ h) = ended-by _ (step-number (answers.answer-view (s .elements) (caseOf s r) (at (commandAddress (s .exchange .command))) r) h)
-      go (replying.unforeseen _ _) = ended-by 8 (omega arith)
+      go (replying.busy _) = accepted-by
+      go (replying.located _) = stage-left _ _ (λ m e. never (cc)) (λ h. absurd (h refl))
+      go (replying.taken _) = stage-left _ _ (λ m e. never (cc)) (λ h. absurd (h refl))
+      go (replying.counted _) = stage-left _ _ (λ m e. counted-number (copying.counted-view (s .copies) (r .buffered)) e) (counted-step (answers.counted-view (s .elements) (r .buffered)))
+      go (replying.failed _) =
+          stage-left _ _ (λ m e. failed-number (copying.failed-view (s .copies) (r .position .0)) e) (failed-step (answers.failed-view (s .elements) (r .position .0) (r .skip)))
+      go (replying.overflowed _) = stage-left _ _ (λ m e. let number : _≡_ {A = ℕ} 8 m = cc in omega arith) (λ h. absurd (h refl))
+      go (replying.unlisted _) = ended-by 8 (omega arith)

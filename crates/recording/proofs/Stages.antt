@@ -1,9 +1,14 @@
 -- The stages in which headers are written, and those of elements and EOD. Assumes nothing.
-use mathlib.Core.Path.{_≡_}
+use mathlib.Core.Path.{_≡_, refl}
+use mathlib.Core.List.{[], _∷_}
+use denote.Enum.Declared.{tagOf}
+use types.Run.{OneOf, miss}
 use mathlib.Core.Logic.{_⊎_, inl, inr}
 use Rattle.geometry.proofs.Impossible.{never}
 use Rattle.recording.specs.declared.session.Recording.{Recording}
+use Rattle.recording.specs.declared.session.Stage.{Stage}
 use Rattle.recording.specs.declared.session.Stage.the-variants as S
+use Rattle.recording.proofs.session.Stage.{the-type}
 
 abbrev pub HeaderStage : Recording → Type 0
 HeaderStage s = (s .stage ≡ S.OpeningHeaders) ⊎ (s .stage ≡ S.ClosingHeaders)
@@ -24,3 +29,25 @@ header-not-done s (inr a) b = never (cc)
 pub element-not-done : {X : Type 0} (s : Recording) → ElementStage s → s .stage ≡ S.Done → X
 element-not-done s (inl a) b = never (cc)
 element-not-done s (inr a) b = never (cc)
+
+-- ---- the stages of an arm of a match, by their numbers
+
+pub header-tags : (s : Recording) → OneOf (0 ∷ (3 ∷ [])) (tagOf the-type (s .stage)) → HeaderStage s
+header-tags s = go (s .stage) refl
+  where
+    go : (k : Stage) → s .stage ≡ k → OneOf (0 ∷ (3 ∷ [])) (tagOf the-type k) → HeaderStage s
+    go S.OpeningHeaders e h = inl e
+    go S.Elements e h = absurd (miss (0 ∷ (3 ∷ [])) 1 tt h)
+    go S.Eod e h = absurd (miss (0 ∷ (3 ∷ [])) 2 tt h)
+    go S.ClosingHeaders e h = inr e
+    go S.Done e h = absurd (miss (0 ∷ (3 ∷ [])) 4 tt h)
+
+pub element-tags : (s : Recording) → OneOf (1 ∷ (2 ∷ [])) (tagOf the-type (s .stage)) → ElementStage s
+element-tags s = go (s .stage) refl
+  where
+    go : (k : Stage) → s .stage ≡ k → OneOf (1 ∷ (2 ∷ [])) (tagOf the-type k) → ElementStage s
+    go S.OpeningHeaders e h = absurd (miss (1 ∷ (2 ∷ [])) 0 tt h)
+    go S.Elements e h = inl e
+    go S.Eod e h = inr e
+    go S.ClosingHeaders e h = absurd (miss (1 ∷ (2 ∷ [])) 3 tt h)
+    go S.Done e h = absurd (miss (1 ∷ (2 ∷ [])) 4 tt h)

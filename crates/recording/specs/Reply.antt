@@ -1,25 +1,23 @@
 -- 01, "Replies": what a reply changes.
-use Prim.Native.Nat.{ℕ, _+_, _*_}
+use Prim.Native.Nat.{ℕ}
 use mathlib.Core.Bool.{_||_, not}
 use lib.Dec.{eqb}
 use Rattle.geometry.specs.Pick.{pick}
-use Rattle.drive.specs.Command.{commandCode, commandAddress}
-use Rattle.drive.specs.Senses.{meaningOf}
+use Rattle.geometry.specs.declared.address.Address.{Address}
+use Rattle.drive.specs.Command.{commandAddress}
+use Rattle.drive.specs.Cases as cases
+use Rattle.drive.specs.Cases.{locateGood, locateBusy, writeGood, writeBusy, writeFailed, writeOverflow, positionGood, positionBusy, positionFailed}
 use Rattle.drive.specs.Exchange as exchange
 use Rattle.drive.specs.declared.reply.Reply.{Reply}
 use Rattle.copies.specs.Copies as copies
 use Rattle.elements.specs.Elements as elements
 use Rattle.elements.specs.Answer as answer
-use Rattle.elements.specs.declared.state.Elements.{Elements}
 use Rattle.recording.specs.declared.session.Recording.{Recording}
 use Rattle.recording.specs.declared.session.Stage.{Stage}
 use Rattle.recording.specs.declared.session.Stage.the-variants as S
 use Rattle.recording.specs.Session.{Result, accepting, refusing, ending, withStage, withExchange, withCopies, withElements, settledOf}
 
--- the command's code and, as the low byte, the meaning of the sense triple
-abbrev pub caseOf : Recording → Reply → ℕ
-caseOf s r = commandCode (s .exchange .command) * 256 + meaningOf (r .key) (r .asc) (r .ascq)
-
+-- the reply is taken in
 abbrev pub answeredOf : Recording → Recording
 answeredOf s = withExchange s (exchange.answeredOf (s .exchange))
 
@@ -38,36 +36,66 @@ completedBy S.Done s = s
 abbrev pub completedOf : Recording → Recording
 completedOf s = completedBy (s .stage) s
 
+-- the session after a reply, given how far the header copies are
 abbrev pub headerReplyBy : copies.Said → Recording → Result
 headerReplyBy (copies.more c) s = accepting (withCopies (answeredOf s) c)
 headerReplyBy copies.complete s = accepting (settledOf (completedOf (answeredOf s)))
 headerReplyBy (copies.refused n) s = ending s n
 
-unfoldable pub headerReply : Recording → ℕ → Reply → Result
-headerReply s n r = headerReplyBy (copies.answerOf (s .copies) n r) s
+-- given the elements
+abbrev pub elementReplyBy : answer.Step → Recording → Result
+elementReplyBy x s = pick (eqb (x .number) 0) (accepting (settledOf (withElements (answeredOf s) (x .elements)))) (ending s (x .number))
 
-abbrev pub elementReplyBy : ℕ → Elements → Recording → Result
-elementReplyBy n e s = pick (eqb n 0) (accepting (settledOf (withElements (answeredOf s) e))) (ending s n)
+-- by stage, what a reply is to the header copies, and what it is to the elements and EOD; when all is done no reply is awaited
+abbrev pub stageReplyBy : Stage → copies.Said → answer.Step → Recording → Result
+stageReplyBy S.OpeningHeaders c e s = headerReplyBy c s
+stageReplyBy S.Elements c e s = elementReplyBy e s
+stageReplyBy S.Eod c e s = elementReplyBy e s
+stageReplyBy S.ClosingHeaders c e s = headerReplyBy c s
+stageReplyBy S.Done c e s = ending s 8
 
-abbrev pub elementStep : Recording → ℕ → Reply → answer.Step
-elementStep s n r = answer.answerOf (s .elements) n (elements.at (commandAddress (s .exchange .command))) r
+abbrev pub stageReply : Recording → copies.Said → answer.Step → Result
+stageReply s c e = stageReplyBy (s .stage) c e s
 
-unfoldable pub elementReply : Recording → ℕ → Reply → Result
-elementReply s n r = elementReplyBy (elementStep s n r .number) (elementStep s n r .elements) s
+-- the address of the command that is answered
+abbrev pub addressOf : Recording → Address
+addressOf s = elements.at (commandAddress (s .exchange .command))
 
-abbrev pub stageReplyBy : Stage → Recording → ℕ → Reply → Result
-stageReplyBy S.OpeningHeaders s n r = headerReply s n r
-stageReplyBy S.Elements s n r = elementReply s n r
-stageReplyBy S.Eod s n r = elementReply s n r
-stageReplyBy S.ClosingHeaders s n r = headerReply s n r
-stageReplyBy S.Done s n r = ending s 8
+-- LOCATE, good
+abbrev pub locatedOf : Recording → Result
+locatedOf s = stageReply s (copies.more (copies.locatedOf (s .copies))) (answer.kept (answer.locatedOf (s .elements) (addressOf s)))
 
-abbrev pub stageReply : Recording → ℕ → Reply → Result
-stageReply s n r = stageReplyBy (s .stage) s n r
+-- WRITE, good
+abbrev pub takenOf : Recording → Result
+takenOf s = stageReply s (copies.more (copies.takenOf (s .copies))) (answer.kept (answer.takenOf (s .elements)))
 
--- refusal 7 without a command; busy on any command; else by stage, in which every reply that is not listed gives refusal 8
+-- READ POSITION, good, with f frames still buffered
+abbrev pub countedOf : Recording → ℕ → Result
+countedOf s f = stageReply s (copies.countedOf (s .copies) f) (answer.countedOf (s .elements) f)
+
+-- 03/0C/00 with position p; headers ignore the skip
+abbrev pub failedOf : Recording → ℕ → ℕ → Result
+failedOf s p skip = stageReply s (copies.failedOf (s .copies) p) (answer.failedOf (s .elements) p skip)
+
+-- 0D/00/02 on a WRITE: listed for an element or EOD, not for a header
+abbrev pub overflowedOf : Recording → Result
+overflowedOf s = stageReply s (copies.refused 8) (answer.kept (answer.overflowedOf (s .elements) (addressOf s)))
+
+-- by the command and the meaning of its reply
+unfoldable pub answerOf : Recording → ℕ → Reply → Result
+answerOf s n r =
+    pick (eqb n writeBusy || (eqb n locateBusy || eqb n positionBusy)) (accepting (repeatedOf s))
+    (pick (eqb n locateGood) (locatedOf s)
+    (pick (eqb n writeGood) (takenOf s)
+    (pick (eqb n positionGood) (countedOf s (r .buffered))
+    (pick (eqb n writeFailed || eqb n positionFailed) (failedOf s (r .position .0) (r .skip))
+    (pick (eqb n writeOverflow) (overflowedOf s)
+    -- anything else, or a reply unlisted for its command
+    (ending s 8))))))
+
+abbrev pub caseOf : Recording → Reply → ℕ
+caseOf s r = cases.caseOf (s .exchange .command) r
+
+-- refusal 7 without a command
 unfoldable pub replyOf : Recording → Reply → Result
-replyOf s r =
-    pick (s .ended || not (s .exchange .awaiting)) (refusing s 7)
-    (pick (eqb (caseOf s r) 0x2B02 || (eqb (caseOf s r) 0x0A02 || eqb (caseOf s r) 0x3402)) (accepting (repeatedOf s))
-    (stageReply s (caseOf s r) r))
+replyOf s r = pick (s .ended || not (s .exchange .awaiting)) (refusing s 7) (answerOf s (caseOf s r) r)

@@ -1,28 +1,31 @@
 // Taking in a reply.
 ghost use mathlib.Core.Path.{_≡_};
+ghost use Rattle.copies.specs.Copies.{progressSaid};
+ghost use Rattle.elements.specs.Answer.{steppedSaid};
 ghost use Rattle.recording.specs.Session.{outcomeSaid};
-ghost use Rattle.recording.specs.Reply.{caseOf, answeredOf, repeatedOf, completedOf, headerReply, elementReply, stageReply, replyOf};
+ghost use Rattle.recording.specs.Reply.{answeredOf, repeatedOf, completedOf, headerReplyBy, elementReplyBy, addressOf, locatedOf, takenOf, countedOf, failedOf, overflowedOf, replyOf};
 use crate::session::Outcome;
 use crate::session::Recording;
 use crate::session::Stage;
 use copies::Progress;
+use drive::LOCATE_BUSY;
+use drive::LOCATE_GOOD;
+use drive::POSITION_BUSY;
+use drive::POSITION_FAILED;
+use drive::POSITION_GOOD;
 use drive::Reply;
+use drive::WRITE_BUSY;
+use drive::WRITE_FAILED;
+use drive::WRITE_GOOD;
+use drive::WRITE_OVERFLOW;
 use drive::address;
-use drive::code;
-use drive::meaning;
+use drive::case_of;
+use elements::Stepped;
+use geometry::Address;
 use geometry::Refusal;
 use geometry::Verdict;
 
 impl Recording {
-    // The command's code and, as the low byte, the meaning of the reply's sense triple.
-    fn case(self, reply: Reply) -> u16
-        ensures { λ r. ⌜ r ≡ caseOf self reply ⌝ }
-    {
-        let exchange = self.exchange;
-        let c = exchange.command;
-        (code(c) as u16) * 256 + (meaning(reply.key, reply.asc, reply.ascq) as u16)
-    }
-
     fn answered(mut self) -> Recording
         ensures { λ r. ⌜ r ≡ answeredOf self ⌝ }
     {
@@ -60,11 +63,10 @@ impl Recording {
         }
     }
 
-    fn header_reply(mut self, case: u16, reply: Reply) -> Outcome
-        ensures { λ r. ⌜ outcomeSaid r ≡ headerReply self «case» reply ⌝ }
+    // Goes on by how far the header copies are.
+    fn header_reply(mut self, progress: Progress) -> Outcome
+        ensures { λ r. ⌜ outcomeSaid r ≡ headerReplyBy (progressSaid progress) self ⌝ }
     {
-        let copies = self.copies;
-        let progress = copies.answer(case, reply);
         match progress {
             Progress::More(c) => {
                 self.copies = c;
@@ -75,13 +77,10 @@ impl Recording {
         }
     }
 
-    fn element_reply(mut self, case: u16, reply: Reply) -> Outcome
-        ensures { λ r. ⌜ outcomeSaid r ≡ elementReply self «case» reply ⌝ }
+    // Goes on with the elements.
+    fn element_reply(mut self, stepped: Stepped) -> Outcome
+        ensures { λ r. ⌜ outcomeSaid r ≡ elementReplyBy (steppedSaid stepped) self ⌝ }
     {
-        let elements = self.elements;
-        let exchange = self.exchange;
-        let c = exchange.command;
-        let stepped = elements.answer(case, address(c), reply);
         let verdict = stepped.verdict;
         let next = stepped.elements;
         match verdict {
@@ -93,15 +92,85 @@ impl Recording {
         }
     }
 
-    fn stage_reply(self, case: u16, reply: Reply) -> Outcome
-        ensures { λ r. ⌜ outcomeSaid r ≡ stageReply self «case» reply ⌝ }
+    // The address of the command that is answered.
+    fn address(self) -> Address
+        ensures { λ r. ⌜ r ≡ addressOf self ⌝ }
     {
+        let exchange = self.exchange;
+        let c = exchange.command;
+        address(c)
+    }
+
+    fn located(self) -> Outcome
+        ensures { λ r. ⌜ outcomeSaid r ≡ locatedOf self ⌝ }
+    {
+        let copies = self.copies;
+        let elements = self.elements;
         let stage = self.stage;
         match stage {
-            Stage::OpeningHeaders => self.header_reply(case, reply),
-            Stage::Elements => self.element_reply(case, reply),
-            Stage::Eod => self.element_reply(case, reply),
-            Stage::ClosingHeaders => self.header_reply(case, reply),
+            Stage::OpeningHeaders | Stage::ClosingHeaders =>
+                self.header_reply(Progress::More(copies.located())),
+            Stage::Elements | Stage::Eod => self.element_reply(
+                elements.located(self.address()).keep(),
+            ),
+            Stage::Done => self.end(Refusal::Reply),
+        }
+    }
+
+    fn taken(self) -> Outcome
+        ensures { λ r. ⌜ outcomeSaid r ≡ takenOf self ⌝ }
+    {
+        let copies = self.copies;
+        let elements = self.elements;
+        let stage = self.stage;
+        match stage {
+            Stage::OpeningHeaders | Stage::ClosingHeaders =>
+                self.header_reply(Progress::More(copies.taken())),
+            Stage::Elements | Stage::Eod => self.element_reply(elements.taken().keep()),
+            Stage::Done => self.end(Refusal::Reply),
+        }
+    }
+
+    fn counted(self, buffered: u32) -> Outcome
+        ensures { λ r. ⌜ outcomeSaid r ≡ countedOf self buffered ⌝ }
+    {
+        let copies = self.copies;
+        let elements = self.elements;
+        let stage = self.stage;
+        match stage {
+            Stage::OpeningHeaders | Stage::ClosingHeaders => self.header_reply(copies.counted(
+                buffered,
+            )),
+            Stage::Elements | Stage::Eod => self.element_reply(elements.counted(buffered)),
+            Stage::Done => self.end(Refusal::Reply),
+        }
+    }
+
+    // Headers ignore the skip.
+    fn failed(self, p: Address, skip: u8) -> Outcome
+        ensures { λ r. ⌜ outcomeSaid r ≡ failedOf self (p .0) skip ⌝ }
+    {
+        let copies = self.copies;
+        let elements = self.elements;
+        let stage = self.stage;
+        match stage {
+            Stage::OpeningHeaders | Stage::ClosingHeaders => self.header_reply(copies.failed(p)),
+            Stage::Elements | Stage::Eod => self.element_reply(elements.failed(p, skip)),
+            Stage::Done => self.end(Refusal::Reply),
+        }
+    }
+
+    // Listed for an element or EOD, not for a header.
+    fn overflowed(self) -> Outcome
+        ensures { λ r. ⌜ outcomeSaid r ≡ overflowedOf self ⌝ }
+    {
+        let elements = self.elements;
+        let stage = self.stage;
+        match stage {
+            Stage::OpeningHeaders | Stage::ClosingHeaders => self.end(Refusal::Reply),
+            Stage::Elements | Stage::Eod => self.element_reply(
+                elements.overflowed(self.address()).keep(),
+            ),
             Stage::Done => self.end(Refusal::Reply),
         }
     }
@@ -114,11 +183,26 @@ impl Recording {
         if self.ended | !exchange.awaiting {
             return self.refuse(Refusal::Phase);
         }
-        let case = self.case(reply);
+        let c = exchange.command;
+        let case = case_of(c, reply);
         match case {
-            // LOCATE, WRITE and READ POSITION, busy
-            0x2B02 | 0x0A02 | 0x3402 => self.repeated().accepted(),
-            _ => self.stage_reply(case, reply),
+            // WRITE, LOCATE and READ POSITION, 02/04/01 and 02/04/08: the same command again
+            WRITE_BUSY | LOCATE_BUSY | POSITION_BUSY => self.repeated().accepted(),
+            // LOCATE, good: writing goes on at its address
+            LOCATE_GOOD => self.located(),
+            // WRITE, good: the drive has taken a frame
+            WRITE_GOOD => self.taken(),
+            // READ POSITION, good: f frames are still buffered, those before them are on tape
+            POSITION_GOOD => self.counted(reply.buffered),
+            // WRITE and READ POSITION, 03/0C/00: frames before p are on tape, from p on they are due again
+            WRITE_FAILED | POSITION_FAILED => {
+                let p = reply.position;
+                self.failed(p, reply.skip)
+            }
+            // WRITE, 0D/00/02: not executed, and END is the address before it
+            WRITE_OVERFLOW => self.overflowed(),
+            // anything else, or a reply unlisted for its command
+            _ => self.end(Refusal::Reply),
         }
     }
 }

@@ -17,7 +17,7 @@ use Rattle.frame.specs.declared.header.Header.{Header}
 use Rattle.archive.specs.Conduct.{Drive, AtRest, empty, stopped}
 use Rattle.archive.specs.Tape.{Tape}
 use Rattle.copies.specs.Copies as copying
-use Rattle.copies.specs.Copies.{nextAddress, oldestAddress, firstAddress, takenOf, locatedOf, confirmedOf, failedAt, nextGroup, positionedOf, failedOf}
+use Rattle.copies.specs.Copies.{nextAddress, oldestAddress, firstAddress, takenOf, locatedOf, confirmedOf, failedAt, nextGroup, countedOf, failedOf}
 use Rattle.copies.specs.declared.state.Copies.{Copies}
 use Rattle.copies.proofs.AnswerView as view
 use Rattle.copies.proofs.Counts.{CountsOf, taken-counts, taken-exact, confirmed-counts, confirmed-exact, failed-counts}
@@ -119,8 +119,8 @@ module _ (c : Copies) (d : Drive) (n : CountsOf c) where
         kept = ⊎-elim (λ z. inl (omega arith)) (λ y. inr (copy-higher (omega arith) y)) (s .kept);
       })
 
-  pub counted-next : (f : ℕ) → length (d .buffer) ≤ f → CopyLink c d 0 → Next (c .header) d (positionedOf c f)
-  unfolding positionedOf
+  pub counted-next : (f : ℕ) → length (d .buffer) ≤ f → CopyLink c d 0 → Next (c .header) d (countedOf c f)
+  unfolding countedOf
   counted-next f bound l =
       pick-by (λ (s : copying.Said). Next (c .header) d s) (ltb (c .outstanding) f) (λ _. ends 8)
       (λ e.

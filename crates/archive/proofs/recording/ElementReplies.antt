@@ -13,6 +13,7 @@ use Rattle.geometry.specs.Cartridge.{isUser}
 use Rattle.geometry.proofs.TestLaws.{either-right}
 use Rattle.geometry.proofs.Impossible.{never}
 use Rattle.drive.specs.Command.{commandAddress}
+use Rattle.drive.specs.Cases.{locateGood, locateBusy, writeGood, writeBusy, writeFailed, writeOverflow, positionGood, positionBusy, positionFailed}
 use Rattle.drive.specs.Listed.{Means}
 use Rattle.archive.specs.Conduct.{AtRest}
 use Rattle.drive.specs.Senses.{busy}
@@ -24,14 +25,14 @@ use Rattle.copies.proofs.DueAddress.{start-placed}
 use Rattle.elements.specs.Elements as counting
 use Rattle.elements.specs.Answer as answer
 use Rattle.elements.specs.declared.state.Elements.{Elements}
-use Rattle.recording.specs.Session.{Result, windowOf, ending, withElements, closingHeader, closingStarted, settledOf}
-use Rattle.recording.specs.Reply.{caseOf, answeredOf, repeatedOf, elementReplyBy, elementStep, elementReply, stageReplyBy, stageReply, replyOf}
+use Rattle.recording.specs.Session.{Result, windowOf, accepting, ending, withElements, closingHeader, closingStarted, settledOf}
+use Rattle.recording.specs.Reply.{caseOf, answeredOf, repeatedOf, elementReplyBy, answerOf, replyOf}
 use Rattle.recording.specs.declared.session.Recording.{Recording}
 use Rattle.recording.specs.declared.session.Stage.{Stage}
 use Rattle.recording.specs.declared.session.Stage.the-variants as S
 use Rattle.recording.proofs.Stages.{HeaderStage, ElementStage, element-not-done}
 use Rattle.recording.proofs.Kept.{heldOf}
-use Rattle.recording.proofs.ReplyView.{isBusy}
+use Rattle.recording.proofs.ReplyView.{by-elements, reply-so}
 use Rattle.archive.specs.Recordings as recordings
 use Rattle.archive.specs.Recordings.{World, Element}
 use Rattle.archive.specs.Demand.{Within}
@@ -53,7 +54,7 @@ use Rattle.archive.proofs.recording.ElementSteps.{Step, Reached, taken-
 use Rattle.archive.proofs.recording.Fetches.{reask}
 use Rattle.archive.proofs.recording.Accepts.{settled-cases}
 use Rattle.archive.proofs.recording.Closes.{eod-live}
-use Rattle.archive.proofs.recording.HeaderReplies.{case-is, reply-so, reply-busy, repliedWorld, ends-so}
+use Rattle.archive.proofs.recording.HeaderReplies.{case-is, asked-so, repliedWorld, ends-so}
 use Rattle.archive.proofs.recording.Invariant as inv
 use Rattle.archive.proofs.recording.Invariant.{totalOf, spareOf, Counted, Course, Content, Live, Safe, Inv, live}
 use Rattle.archive.proofs.recording.Setting.{Setting}
@@ -212,25 +213,20 @@ module _ {last pass : ℕ} {premises : Type 0} (w : World) (r : Reply) (set : Se
   -- ---- by what the drive gave
 
   module _ (again : w .session .exchange .again ≡ false) (asked : w .session .exchange .awaiting ≡ true) (which : Ends) where
-    in-stage : (n : ℕ) → stageReply (w .session) n r ≡ elementReply (w .session) n r
-    in-stage n = ⊎-elim (λ q. ap (λ (x : Stage). stageReplyBy x (w .session) n r) q) (λ q. ap (λ (x : Stage). stageReplyBy x (w .session) n r) q) st
-
-    reached-so : {x : answer.Step} → Reached last (w .session) (w .drive) (l .k) (l .edge) x → Safe last (w .drive) → After (elementReplyBy (x .number) (x .elements) (w .session))
+    reached-so : {x : answer.Step} → Reached last (w .session) (w .drive) (l .k) (l .edge) x → Safe last (w .drive) → After (elementReplyBy x (w .session))
     reached-so (steps.goes e s) safe = settles again which e s
     reached-so (steps.unlawful e) safe = ends-so w r set wr l 8 (element-not-done (w .session) st) safe
     reached-so (steps.full e) safe = ends-so w r set wr l 9 (element-not-done (w .session) st) safe
 
-    by : {x : answer.Step} (n : ℕ) → caseOf (w .session) r ≡ n → isBusy n ≡ false → elementStep (w .session) n r ≡ x → Reached last (w .session) (w .drive) (l .k) (l .edge) x → Safe last (w .drive) → After (replyOf (w .session) r)
-    unfolding elementReply
-    by n c b a x safe =
-        subst After (sym (reply-so (w .session) r (l .going) asked n c b ∙ in-stage n ∙ ap (λ (y : answer.Step). elementReplyBy (y .number) (y .elements) (w .session)) a)) (reached-so x safe)
+    by : {x : answer.Step} (n : ℕ) → caseOf (w .session) r ≡ n → answerOf (w .session) n r ≡ elementReplyBy x (w .session) → Reached last (w .session) (w .drive) (l .k) (l .edge) x → Safe last (w .drive) → After (replyOf (w .session) r)
+    by n e a x safe = subst After (sym (reply-so (w .session) r (asked-so (w .session) r (l .going) asked) e ∙ a)) (reached-so x safe)
 
     low : w .session .elements .pending ≤ 64
     low = let a = l .counted .windowed in let b = l .counted .wide in omega arith
 
-    repeated : {c : Command} (n : ℕ) → w .session .exchange .command ≡ c → caseOf (w .session) r ≡ n → isBusy n ≡ true → Asks last (heldOf (w .session)) (w .session .elements .pending) (w .drive) (l .k) (l .edge) c → After (replyOf (w .session) r)
+    repeated : {c : Command} (n : ℕ) → w .session .exchange .command ≡ c → caseOf (w .session) r ≡ n → answerOf (w .session) n r ≡ accepting (repeatedOf (w .session)) → Asks last (heldOf (w .session)) (w .session .elements .pending) (w .drive) (l .k) (l .edge) c → After (replyOf (w .session) r)
     repeated n e z b y =
-        subst After (sym (reply-busy (w .session) r (l .going) asked n z b))
+        subst After (sym (reply-so (w .session) r (asked-so (w .session) r (l .going) asked) z ∙ b))
         (live wr (record {
           k = l .k;
           edge = l .edge;
@@ -250,30 +246,31 @@ module _ {last pass : ℕ} {premises : Type 0} (w : World) (r : Reply) (set : Se
         course (ending-one q c one) = inv.ending q c one (elements.again refl refl asks)
 
     busy-by : {c : Command} → Means r busy → w .session .exchange .command ≡ c → Asks last (heldOf (w .session)) (w .session .elements .pending) (w .drive) (l .k) (l .edge) c → After (replyOf (w .session) r)
-    busy-by m e (elements.writes a p d o lo y) = repeated 0x0A02 e (case-is (w .session) r (l .going) asked e m) refl (elements.writes a p d o lo y)
-    busy-by m e (elements.asks y) = repeated 0x3402 e (case-is (w .session) r (l .going) asked e m) refl (elements.asks y)
-    busy-by m e (elements.moves a y) = repeated 0x2B02 e (case-is (w .session) r (l .going) asked e m) refl (elements.moves a y)
+    unfolding answerOf
+    busy-by m e (elements.writes a p d o lo y) = repeated writeBusy e (case-is (w .session) r (l .going) asked e m) refl (elements.writes a p d o lo y)
+    busy-by m e (elements.asks y) = repeated positionBusy e (case-is (w .session) r (l .going) asked e m) refl (elements.asks y)
+    busy-by m e (elements.moves a y) = repeated locateBusy e (case-is (w .session) r (l .going) asked e m) refl (elements.moves a y)
 
     small : last + 65 < 2 ^ 32
     small = set .small
 
     element-replies : (c : Command) → w .session .exchange .command ≡ c → Answered last (heldOf (w .session)) (w .session .elements .pending) (w .drive) (l .k) (l .edge) r c → After (replyOf (w .session) r)
-    unfolding answer.answerOf
+    unfolding answerOf
     element-replies c e (elements.taken a m due x) =
-        by 0x0A01 (case-is (w .session) r (l .going) asked e m) refl refl (steps.goes _ (taken-step last (w .session) (w .drive) (l .k) (l .edge) small again (l .counted .held) low (l .counted .room) due x)) (link-safe x)
+        by writeGood (case-is (w .session) r (l .going) asked e m) (by-elements (w .session) _ _ st) (steps.goes _ (taken-step last (w .session) (w .drive) (l .k) (l .edge) small again (l .counted .held) low (l .counted .room) due x)) (link-safe x)
     element-replies c e (elements.counted m b x) =
-        by 0x3401 (case-is (w .session) r (l .going) asked e m) refl refl (counted-step last (w .session) (w .drive) (l .k) (l .edge) small again (l .counted .held) low (l .counted .room) x (r .buffered) b) (link-safe x)
+        by positionGood (case-is (w .session) r (l .going) asked e m) (by-elements (w .session) _ _ st) (counted-step last (w .session) (w .drive) (l .k) (l .edge) small again (l .counted .held) low (l .counted .room) x (r .buffered) b) (link-safe x)
     element-replies c e (elements.failed-write a m f p x) =
-        by 0x0A03 (case-is (w .session) r (l .going) asked e m) refl refl (failed-step last (w .session) (w .drive) (l .k) (l .edge) small again (l .counted .held) low (l .counted .room) x (r .position .0) (r .skip) p f) (link-safe x)
+        by writeFailed (case-is (w .session) r (l .going) asked e m) (by-elements (w .session) _ _ st) (failed-step last (w .session) (w .drive) (l .k) (l .edge) small again (l .counted .held) low (l .counted .room) x (r .position .0) (r .skip) p f) (link-safe x)
     element-replies c e (elements.failed-position m f p x) =
-        by 0x3403 (case-is (w .session) r (l .going) asked e m) refl refl (failed-step last (w .session) (w .drive) (l .k) (l .edge) small again (l .counted .held) low (l .counted .room) x (r .position .0) (r .skip) p f) (link-safe x)
+        by positionFailed (case-is (w .session) r (l .going) asked e m) (by-elements (w .session) _ _ st) (failed-step last (w .session) (w .drive) (l .k) (l .edge) small again (l .counted .held) low (l .counted .room) x (r .position .0) (r .skip) p f) (link-safe x)
     element-replies c e (elements.filled a m lo x) =
-        by 0x0A04 (case-is (w .session) r (l .going) asked e m) refl (ap (λ (y : Command). kept-short y) e) (steps.goes _ (filled-step last (w .session) (w .drive) (l .k) (l .edge) small again (l .counted .held) low (l .counted .room) a lo x)) (link-safe x)
+        by writeOverflow (case-is (w .session) r (l .going) asked e m) (by-elements (w .session) _ _ st ∙ ap (λ (y : Command). elementReplyBy (kept-short y) (w .session)) e) (steps.goes _ (filled-step last (w .session) (w .drive) (l .k) (l .edge) small again (l .counted .held) low (l .counted .room) a lo x)) (link-safe x)
       where
         kept-short : Command → answer.Step
-        kept-short y = answer.kept (answer.shortenedOf (w .session .elements) (counting.at (commandAddress y)))
+        kept-short y = answer.kept (answer.overflowedOf (w .session .elements) (counting.at (commandAddress y)))
     element-replies c e (elements.moved a m none-left f p x) =
-        by 0x2B01 (case-is (w .session) r (l .going) asked e m) refl (ap (λ (y : Command). kept-located y) e) (steps.goes _ (moved-step last (w .session) (w .drive) (l .k) (l .edge) small again (l .counted .held) low (l .counted .room) a none-left f p x)) (rests-safe (x .rests))
+        by locateGood (case-is (w .session) r (l .going) asked e m) (by-elements (w .session) _ _ st ∙ ap (λ (y : Command). elementReplyBy (kept-located y) (w .session)) e) (steps.goes _ (moved-step last (w .session) (w .drive) (l .k) (l .edge) small again (l .counted .held) low (l .counted .room) a none-left f p x)) (rests-safe (x .rests))
       where
         kept-located : Command → answer.Step
         kept-located y = answer.kept (answer.locatedOf (w .session .elements) (counting.at (commandAddress y)))

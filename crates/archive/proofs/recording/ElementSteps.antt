@@ -18,7 +18,7 @@ use Rattle.archive.specs.Conduct.{Drive, AtRest, empty, stopped}
 use Rattle.elements.specs.Elements as counting
 use Rattle.elements.specs.Elements.{at, baseOf, numberOf}
 use Rattle.elements.specs.Answer as answer
-use Rattle.elements.specs.Answer.{kept, refusing, locatedOf, takenOf, confirmedOf, relocatedOf, shortenedOf, failedTo, positionedOf, failedOf}
+use Rattle.elements.specs.Answer.{kept, refusing, locatedOf, takenOf, confirmedOf, relocatedOf, overflowedOf, failedTo, countedOf, failedOf}
 use Rattle.elements.specs.declared.state.Elements.{Elements}
 use Rattle.recording.specs.Session.{withElements}
 use Rattle.recording.specs.Reply.{answeredOf}
@@ -83,7 +83,7 @@ module _ (last : ℕ) (s : Recording) (d : Drive) (k edge : ℕ) (small : last +
         all = λ p z. absurd (omega arith);
       }
 
-  pub filled-step : (a : Address) → a .0 ≤ last → Linked last (heldOf s) d k edge 0 → Step last s d k edge (shortenedOf (s .elements) a)
+  pub filled-step : (a : Address) → a .0 ≤ last → Linked last (heldOf s) d k edge 0 → Step last s d k edge (overflowedOf (s .elements) a)
   filled-step a below l = record {
     n = 0;
     tried = edge;
@@ -138,8 +138,8 @@ module _ (last : ℕ) (s : Recording) (d : Drive) (k edge : ℕ) (small : last +
         let spread = l .spread in
         mod-eq-of-lt (omega arith)
 
-    pub counted-step : (f : ℕ) → length (d .buffer) ≤ f → Reached last s d k edge (positionedOf (s .elements) f)
-    unfolding positionedOf confirmedOf
+    pub counted-step : (f : ℕ) → length (d .buffer) ≤ f → Reached last s d k edge (countedOf (s .elements) f)
+    unfolding countedOf confirmedOf
     counted-step f bound =
         pick-by (Reached last s d k edge) (ltb (s .elements .outstanding) f) (λ _. unlawful (s .elements))
         (λ x.

@@ -1,11 +1,10 @@
 -- A reply in a header stage keeps the invariant. Assumes nothing.
 use Prim.Native.Nat.{ℕ, _+_, _*_, _≤_, _<_}
 use mathlib.Core.Path.{_≡_, refl, sym, ap, subst, _∙_}
-use mathlib.Core.Bool.{true, false, not}
+use mathlib.Core.Bool.{true, false, not, _||_}
 use mathlib.Core.Logic.{_⊎_, inl, inr, ⊎-elim}
 use native.Mathlib.Omega.{arith}
 use lib.ListN.{length}
-use Rattle.geometry.proofs.PickLaws.{pick-t, pick-f}
 use Rattle.geometry.proofs.TestLaws.{neither}
 use Rattle.geometry.proofs.Impossible.{never, clash}
 use Rattle.frame.specs.declared.header.Header.{Header}
@@ -13,17 +12,18 @@ use Rattle.drive.specs.Command.{commandCode}
 use Rattle.drive.specs.Listed.{Means}
 use Rattle.archive.specs.Conduct.{AtRest, empty, stopped}
 use Rattle.drive.specs.Senses.{meaningOf, busy}
+use Rattle.drive.specs.Cases.{locateGood, locateBusy, writeGood, writeBusy, writeFailed, positionGood, positionBusy, positionFailed}
 use Rattle.drive.specs.declared.command.Command.{Command}
 use Rattle.drive.specs.declared.reply.Reply.{Reply}
 use Rattle.copies.specs.Copies as copying
 use Rattle.elements.specs.declared.state.Elements.{Elements}
 use Rattle.recording.specs.Session.{Result, accepting, ending, withStage, withCopies, settledOf}
-use Rattle.recording.specs.Reply.{caseOf, answeredOf, repeatedOf, completedBy, headerReplyBy, headerReply, stageReplyBy, stageReply, replyOf}
+use Rattle.recording.specs.Reply.{caseOf, answeredOf, repeatedOf, completedBy, headerReplyBy, answerOf, replyOf}
 use Rattle.recording.specs.declared.session.Recording.{Recording}
 use Rattle.recording.specs.declared.session.Stage.{Stage}
 use Rattle.recording.specs.declared.session.Stage.the-variants as S
 use Rattle.recording.proofs.Stages.{HeaderStage, header-not-element}
-use Rattle.recording.proofs.ReplyView.{isBusy}
+use Rattle.recording.proofs.ReplyView.{by-headers, reply-so}
 use Rattle.archive.specs.Recordings as recordings
 use Rattle.archive.specs.Recordings.{World}
 use Rattle.archive.specs.Demand.{Within}
@@ -50,13 +50,8 @@ module _ (s : Recording) (r : Reply) (going : s .ended ≡ false) (asked : s .ex
   pub case-is : {c : Command} {m : ℕ} → s .exchange .command ≡ c → Means r m → caseOf s r ≡ commandCode c * 256 + m
   case-is {c} e means = ap (λ (x : Command). commandCode x * 256 + meaningOf (r .key) (r .asc) (r .ascq)) e ∙ ap (λ (x : ℕ). commandCode c * 256 + x) means
 
-  pub reply-so : (n : ℕ) → caseOf s r ≡ n → isBusy n ≡ false → replyOf s r ≡ stageReply s n r
-  unfolding replyOf
-  reply-so n e b = pick-f _ (neither _ _ going (ap not asked)) ∙ pick-f _ (ap isBusy e ∙ b) ∙ ap (λ (x : ℕ). stageReply s x r) e
-
-  pub reply-busy : (n : ℕ) → caseOf s r ≡ n → isBusy n ≡ true → replyOf s r ≡ accepting (repeatedOf s)
-  unfolding replyOf
-  reply-busy n e b = pick-f _ (neither _ _ going (ap not asked)) ∙ pick-t _ (ap isBusy e ∙ b)
+  pub asked-so : (s .ended || not (s .exchange .awaiting)) ≡ false
+  asked-so = neither _ _ going (ap not asked)
 
 abbrev pub repliedWorld : World → Recording → World
 repliedWorld w s = record { session = s; window = w .window; unaltered = w .unaltered; drive = w .drive; flight = recordings.none; accepted = w .accepted; reported = w .reported }
@@ -212,30 +207,26 @@ module _ {last pass : ℕ} {premises : Type 0} (w : World) (r : Reply) (set : Se
   module _ (st : HeaderStage (w .session)) (again : w .session .exchange .again ≡ false) (asked : w .session .exchange .awaiting ≡ true) (agree : CopiesAgree (w .session) (w .drive) (w .flight))
       (onward : (s : copying.Said) → Next (w .session .copies .header) (w .drive) s → Safe last (w .drive) → After (headerReplyBy s (w .session)))
       (repeats : CopyAsks (w .session .copies) (w .drive) (w .session .exchange .command) → After (accepting (repeatedOf (w .session)))) where
-    in-stage : (n : ℕ) → stageReply (w .session) n r ≡ headerReplyBy (copying.answerOf (w .session .copies) n r) (w .session)
-    unfolding headerReply
-    in-stage n = ⊎-elim (λ q. ap (λ (x : Stage). stageReplyBy x (w .session) n r) q) (λ q. ap (λ (x : Stage). stageReplyBy x (w .session) n r) q) st
+    by : {s : copying.Said} (n : ℕ) → caseOf (w .session) r ≡ n → answerOf (w .session) n r ≡ headerReplyBy s (w .session) → Next (w .session .copies .header) (w .drive) s → Safe last (w .drive) → After (replyOf (w .session) r)
+    by {s} n e a x safe = subst After (sym (reply-so (w .session) r (asked-so (w .session) r (l .going) asked) e ∙ a)) (onward s x safe)
 
-    by : {s : copying.Said} (n : ℕ) → caseOf (w .session) r ≡ n → isBusy n ≡ false → copying.answerOf (w .session .copies) n r ≡ s → Next (w .session .copies .header) (w .drive) s → Safe last (w .drive) → After (replyOf (w .session) r)
-    by {s} n e b a x safe =
-        subst After (sym (reply-so (w .session) r (l .going) asked n e b ∙ in-stage n ∙ ap (λ y. headerReplyBy y (w .session)) a)) (onward s x safe)
-
-    repeated : {c : Command} (n : ℕ) → w .session .exchange .command ≡ c → caseOf (w .session) r ≡ n → isBusy n ≡ true → CopyAsks (w .session .copies) (w .drive) c → After (replyOf (w .session) r)
-    repeated n e z b y = subst After (sym (reply-busy (w .session) r (l .going) asked n z b)) (repeats (subst (λ (i : Command). CopyAsks (w .session .copies) (w .drive) i) (sym e) y))
+    repeated : {c : Command} (n : ℕ) → w .session .exchange .command ≡ c → caseOf (w .session) r ≡ n → answerOf (w .session) n r ≡ accepting (repeatedOf (w .session)) → CopyAsks (w .session .copies) (w .drive) c → After (replyOf (w .session) r)
+    repeated n e z b y = subst After (sym (reply-so (w .session) r (asked-so (w .session) r (l .going) asked) z ∙ b)) (repeats (subst (λ (i : Command). CopyAsks (w .session .copies) (w .drive) i) (sym e) y))
 
     busy-by : {c : Command} → Means r busy → w .session .exchange .command ≡ c → CopyAsks (w .session .copies) (w .drive) c → After (replyOf (w .session) r)
-    busy-by m e (copies.writes a p left y) = repeated 0x0A02 e (case-is (w .session) r (l .going) asked e m) refl (copies.writes a p left y)
-    busy-by m e (copies.asks y) = repeated 0x3402 e (case-is (w .session) r (l .going) asked e m) refl (copies.asks y)
-    busy-by m e (copies.seeks a p y) = repeated 0x2B02 e (case-is (w .session) r (l .going) asked e m) refl (copies.seeks a p y)
+    unfolding answerOf
+    busy-by m e (copies.writes a p left y) = repeated writeBusy e (case-is (w .session) r (l .going) asked e m) refl (copies.writes a p left y)
+    busy-by m e (copies.asks y) = repeated positionBusy e (case-is (w .session) r (l .going) asked e m) refl (copies.asks y)
+    busy-by m e (copies.seeks a p y) = repeated locateBusy e (case-is (w .session) r (l .going) asked e m) refl (copies.seeks a p y)
 
     header-replies : (c : Command) → w .session .exchange .command ≡ c → CopyAnswered (w .session .copies) (w .drive) r c → After (replyOf (w .session) r)
-    unfolding copying.answerOf
-    header-replies c e (copies.taken a m x) = by 0x0A01 (case-is (w .session) r (l .going) asked e m) refl refl (taken-next (w .session .copies) (w .drive) (agree .counts) x) (answered-safe {r = r} (agree .counts) (copies.taken a m x))
-    header-replies c e (copies.counted m b x) = by 0x3401 (case-is (w .session) r (l .going) asked e m) refl refl (counted-next (w .session .copies) (w .drive) (agree .counts) (r .buffered) b x) (answered-safe {r = r} (agree .counts) (copies.counted m b x))
-    header-replies c e (copies.failed-write a m f p x) = by 0x0A03 (case-is (w .session) r (l .going) asked e m) refl refl (failed-next (w .session .copies) (w .drive) (agree .counts) (r .position .0) p f x) (inv.halted f)
-    header-replies c e (copies.failed-position m f p x) = by 0x3403 (case-is (w .session) r (l .going) asked e m) refl refl (failed-next (w .session .copies) (w .drive) (agree .counts) (r .position .0) p f x) (inv.halted f)
+    unfolding answerOf
+    header-replies c e (copies.taken a m x) = by writeGood (case-is (w .session) r (l .going) asked e m) (by-headers (w .session) _ _ st) (taken-next (w .session .copies) (w .drive) (agree .counts) x) (answered-safe {r = r} (agree .counts) (copies.taken a m x))
+    header-replies c e (copies.counted m b x) = by positionGood (case-is (w .session) r (l .going) asked e m) (by-headers (w .session) _ _ st) (counted-next (w .session .copies) (w .drive) (agree .counts) (r .buffered) b x) (answered-safe {r = r} (agree .counts) (copies.counted m b x))
+    header-replies c e (copies.failed-write a m f p x) = by writeFailed (case-is (w .session) r (l .going) asked e m) (by-headers (w .session) _ _ st) (failed-next (w .session .copies) (w .drive) (agree .counts) (r .position .0) p f x) (inv.halted f)
+    header-replies c e (copies.failed-position m f p x) = by positionFailed (case-is (w .session) r (l .going) asked e m) (by-headers (w .session) _ _ st) (failed-next (w .session .copies) (w .drive) (agree .counts) (r .position .0) p f x) (inv.halted f)
     header-replies c e (copies.moved a m p none-left f at x) =
-        by 0x2B01 (case-is (w .session) r (l .going) asked e m) refl refl (located-next (w .session .copies) (w .drive) (agree .counts) (agree .placed) x none-left (at ∙ p)) (answered-safe {r = r} (agree .counts) (copies.moved a m p none-left f at x))
+        by locateGood (case-is (w .session) r (l .going) asked e m) (by-headers (w .session) _ _ st) (located-next (w .session .copies) (w .drive) (agree .counts) (agree .placed) x none-left (at ∙ p)) (answered-safe {r = r} (agree .counts) (copies.moved a m p none-left f at x))
     header-replies c e (copies.waits k m x) = busy-by m e x
 
   pub opening-replies : (q : w .session .stage ≡ S.OpeningHeaders) → inv.Unstarted last (w .session .elements) (l .k) (l .edge) → CopiesAgree (w .session) (w .drive) (w .flight) → Copying (w .session) (w .drive) (recordings.answered r) → After (replyOf (w .session) r)

@@ -28,7 +28,7 @@ use Rattle.recording.specs.Open.{fresh, openWith, openBlankOf}
 use Rattle.recording.specs.Session.{accepting, refusing, settledOf}
 use Rattle.recording.specs.Accept.{blockOf, filemarkOf, closeOf}
 use Rattle.recording.specs.Fetch.{decisionOf, awaits, writtenFrame, writtenElement, elementOf}
-use Rattle.recording.specs.Reply.{repeatedOf, elementReply, replyOf}
+use Rattle.recording.specs.Reply.{repeatedOf, answerOf, replyOf}
 use Rattle.recording.specs.declared.session.Recording.{Recording}
 use Rattle.archive.specs.Headers.{Newest, NoHeader}
 use Rattle.archive.specs.Recordings.{block, World, Call, accept-block, accept-filemark, close, fetch, reply, Runs, started}
@@ -96,34 +96,34 @@ eodOnTape = answer.confirmedOf eodTaken 1
 -- ---- the calls, by what happens
 
 block-located : Step (writing firstOpening blockAccepted ReadPosition) (Locate (at 10)) good (writing firstOpening located (Locate (at 10)))
-unfolding decisionOf dueOf replyOf elementReply answer.answerOf settledOf meaningIn
+unfolding decisionOf dueOf replyOf answerOf settledOf meaningIn
 block-located = record { free = refl; sized = refl; decided = refl; replied = refl }
 
 abbrev repeating : Recording
 repeating = repeatedOf (awaits (writing firstOpening located (Locate (at 10))) (Write (at 10)))
 
 write-busy : Step (writing firstOpening located (Locate (at 10))) (Write (at 10)) busy repeating
-unfolding decisionOf dueOf replyOf meaningIn
+unfolding decisionOf dueOf replyOf answerOf meaningIn
 write-busy = record { free = refl; sized = refl; decided = refl; replied = refl }
 
 write-repeated : Step repeating (Write (at 10)) good (writing firstOpening blockTaken (Write (at 10)))
-unfolding decisionOf replyOf elementReply answer.answerOf settledOf meaningIn
+unfolding decisionOf replyOf answerOf settledOf meaningIn
 write-repeated = record { free = refl; sized = refl; decided = refl; replied = refl }
 
 write-failed : Step (writing firstOpening blockTaken (Write (at 10))) ReadPosition firstError (writing firstOpening blockFailed ReadPosition)
-unfolding decisionOf dueOf replyOf elementReply answer.answerOf answer.failedOf answer.confirmedOf trailOf settledOf meaningIn
+unfolding decisionOf dueOf replyOf answerOf answer.failedOf answer.confirmedOf trailOf settledOf meaningIn
 write-failed = record { free = refl; sized = refl; decided = refl; replied = refl }
 
 block-relocated : Step (writing firstOpening blockFailed ReadPosition) (Locate (at 44)) good (writing firstOpening relocated (Locate (at 44)))
-unfolding decisionOf dueOf replyOf elementReply answer.answerOf answer.confirmedOf settledOf meaningIn
+unfolding decisionOf dueOf replyOf answerOf answer.confirmedOf settledOf meaningIn
 block-relocated = record { free = refl; sized = refl; decided = refl; replied = refl }
 
 block-retaken : Step (writing firstOpening relocated (Locate (at 44))) (Write (at 44)) good (writing firstOpening blockRetaken (Write (at 44)))
-unfolding decisionOf dueOf replyOf elementReply answer.answerOf answer.confirmedOf settledOf meaningIn
+unfolding decisionOf dueOf replyOf answerOf answer.confirmedOf settledOf meaningIn
 block-retaken = record { free = refl; sized = refl; decided = refl; replied = refl }
 
 block-confirmed : Step (writing firstOpening blockRetaken (Write (at 44))) ReadPosition good (writing firstOpening blockOnTape ReadPosition)
-unfolding decisionOf dueOf replyOf elementReply answer.answerOf answer.positionedOf answer.confirmedOf settledOf meaningIn
+unfolding decisionOf dueOf replyOf answerOf answer.countedOf answer.confirmedOf settledOf meaningIn
 block-confirmed = record { free = refl; sized = refl; decided = refl; replied = refl }
 
 -- the window is full until the block is on tape
@@ -136,11 +136,11 @@ unfolding filemarkOf answer.confirmedOf
 filemark-in-time = refl
 
 filemark-taken : Step (writing firstOpening filemarkAccepted ReadPosition) (Write (at 45)) good (writing firstOpening filemarkTaken (Write (at 45)))
-unfolding decisionOf dueOf replyOf elementReply answer.answerOf answer.confirmedOf settledOf meaningIn
+unfolding decisionOf dueOf replyOf answerOf answer.confirmedOf settledOf meaningIn
 filemark-taken = record { free = refl; sized = refl; decided = refl; replied = refl }
 
 filemark-confirmed : Step (writing firstOpening filemarkTaken (Write (at 45))) ReadPosition good (writing firstOpening filemarkOnTape ReadPosition)
-unfolding decisionOf dueOf replyOf elementReply answer.answerOf answer.positionedOf answer.confirmedOf settledOf meaningIn
+unfolding decisionOf dueOf replyOf answerOf answer.countedOf answer.confirmedOf settledOf meaningIn
 filemark-confirmed = record { free = refl; sized = refl; decided = refl; replied = refl }
 
 close-called : closeOf (writing firstOpening filemarkOnTape ReadPosition) ≡ accepting (ending firstOpening eodDue ReadPosition)
@@ -152,11 +152,11 @@ unfolding closeOf
 close-called-twice = refl
 
 eod-taken : Step (ending firstOpening eodDue ReadPosition) (Write (at 46)) good (ending firstOpening eodTaken (Write (at 46)))
-unfolding decisionOf dueOf replyOf elementReply answer.answerOf answer.confirmedOf settledOf meaningIn
+unfolding decisionOf dueOf replyOf answerOf answer.confirmedOf settledOf meaningIn
 eod-taken = record { free = refl; sized = refl; decided = refl; replied = refl }
 
 eod-confirmed : Step (ending firstOpening eodTaken (Write (at 46))) ReadPosition good (closing firstClosing eodOnTape)
-unfolding decisionOf dueOf replyOf elementReply answer.answerOf answer.positionedOf answer.confirmedOf settledOf meaningIn
+unfolding decisionOf dueOf replyOf answerOf answer.countedOf answer.confirmedOf settledOf meaningIn
 eod-confirmed = record { free = refl; sized = refl; decided = refl; replied = refl }
 
 -- ---- the tape, by what was written

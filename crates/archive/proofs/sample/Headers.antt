@@ -26,7 +26,7 @@ use Rattle.recording.specs.Open.{fresh}
 use Rattle.recording.specs.Session.{accepting, settledOf}
 use Rattle.recording.specs.Fetch as decision
 use Rattle.recording.specs.Fetch.{decisionOf, writtenFrame}
-use Rattle.recording.specs.Reply.{headerReply, replyOf}
+use Rattle.recording.specs.Reply.{answerOf, replyOf}
 use Rattle.recording.specs.declared.session.Recording.{Recording}
 use Rattle.recording.specs.declared.session.Stage.{Stage}
 use Rattle.recording.specs.declared.session.Stage.the-variants as S
@@ -106,7 +106,7 @@ module _ (closed : Bool) (e : Elements) (h : Header) (group confirmed : ℕ) (c 
   toWrite copy = Write (at (headerAddress group copy))
 
   group-located : (opening : Bool) → Step (among opening closed e h group confirmed c 0 true) toLocate good (among opening closed e h group confirmed toLocate 0 false)
-  unfolding decisionOf copies.commandOf replyOf headerReply copies.answerOf meaningIn
+  unfolding decisionOf copies.commandOf replyOf answerOf meaningIn
   group-located true = record { free = refl; sized = refl; decided = refl; replied = refl }
   group-located false = record { free = refl; sized = refl; decided = refl; replied = refl }
 
@@ -118,7 +118,7 @@ module _ (closed : Bool) (e : Elements) (h : Header) (group confirmed : ℕ) (c 
     one-more = mod-eq-of-lt (omega arith)
 
     copy-taken : (opening : Bool) → Step (among opening closed e h group confirmed c copy false) (toWrite copy) good (among opening closed e h group confirmed (toWrite copy) (copy + 1) false)
-    unfolding decisionOf copies.commandOf replyOf headerReply copies.answerOf meaningIn
+    unfolding decisionOf copies.commandOf replyOf answerOf meaningIn
     copy-taken true = record { free = refl; sized = refl; decided = rw room; replied = ap (λ n. accepting (among true closed e h group confirmed (toWrite copy) n false)) one-more }
     copy-taken false = record { free = refl; sized = refl; decided = rw room; replied = ap (λ n. accepting (among false closed e h group confirmed (toWrite copy) n false)) one-more }
 
@@ -130,12 +130,12 @@ module _ (closed : Bool) (e : Elements) (h : Header) (group confirmed : ℕ) (c 
 module _ (closed : Bool) (e : Elements) (h : Header) where
   -- READ POSITION finds nothing buffered: the second group follows the first, the next stage the second
   first-group-through : (b : Bool) (c : Command) → Step (among b closed e h 0 0 c 5 false) ReadPosition good (among b closed e h 1 5 ReadPosition 0 true)
-  unfolding decisionOf copies.commandOf replyOf headerReply copies.answerOf copies.positionedOf copies.onwardOf meaningIn
+  unfolding decisionOf copies.commandOf replyOf answerOf copies.countedOf copies.onwardOf meaningIn
   first-group-through true c = record { free = refl; sized = refl; decided = refl; replied = refl }
   first-group-through false c = record { free = refl; sized = refl; decided = refl; replied = refl }
 
   second-group-through : (b : Bool) (c : Command) → Step (among b closed e h 1 5 c 5 false) ReadPosition good (settledOf (behind b closed e h))
-  unfolding decisionOf copies.commandOf replyOf headerReply copies.answerOf copies.positionedOf copies.onwardOf meaningIn
+  unfolding decisionOf copies.commandOf replyOf answerOf copies.countedOf copies.onwardOf meaningIn
   second-group-through true c = record { free = refl; sized = refl; decided = refl; replied = refl }
   second-group-through false c = record { free = refl; sized = refl; decided = refl; replied = refl }
 

@@ -31,7 +31,7 @@ use Rattle.recording.specs.Open.{fresh, isExhausted, renewed, openWith, openOn,
 use Rattle.recording.specs.Session.{accepting, settledOf}
 use Rattle.recording.specs.Accept.{filemarkOf, closeOf}
 use Rattle.recording.specs.Fetch.{decisionOf, writtenFrame, writtenElement, elementOf}
-use Rattle.recording.specs.Reply.{elementReply, replyOf}
+use Rattle.recording.specs.Reply.{answerOf, replyOf}
 use Rattle.archive.specs.Headers.{Newest}
 use Rattle.archive.specs.Recordings.{World, Call, accept-filemark, close, fetch, reply, Runs, started}
 use Rattle.archive.specs.Demand.{NoneBears, newPass, on-header, Promised, Readable, Demand3}
@@ -93,15 +93,15 @@ unfolding filemarkOf
 filemark-in-time = refl
 
 filemark-located : Step (writing secondOpening filemarkAccepted ReadPosition) (Locate (at 10)) good (writing secondOpening located (Locate (at 10)))
-unfolding decisionOf dueOf replyOf elementReply answer.answerOf settledOf meaningIn
+unfolding decisionOf dueOf replyOf answerOf settledOf meaningIn
 filemark-located = record { free = refl; sized = refl; decided = refl; replied = refl }
 
 filemark-taken : Step (writing secondOpening located (Locate (at 10))) (Write (at 10)) good (writing secondOpening filemarkTaken (Write (at 10)))
-unfolding decisionOf dueOf replyOf elementReply answer.answerOf settledOf meaningIn
+unfolding decisionOf dueOf replyOf answerOf settledOf meaningIn
 filemark-taken = record { free = refl; sized = refl; decided = refl; replied = refl }
 
 filemark-confirmed : Step (writing secondOpening filemarkTaken (Write (at 10))) ReadPosition good (writing secondOpening filemarkOnTape ReadPosition)
-unfolding decisionOf dueOf replyOf elementReply answer.answerOf answer.positionedOf answer.confirmedOf settledOf meaningIn
+unfolding decisionOf dueOf replyOf answerOf answer.countedOf answer.confirmedOf settledOf meaningIn
 filemark-confirmed = record { free = refl; sized = refl; decided = refl; replied = refl }
 
 close-called : closeOf (writing secondOpening filemarkOnTape ReadPosition) ≡ accepting (ending secondOpening eodDue ReadPosition)
@@ -109,23 +109,23 @@ unfolding closeOf settledOf answer.confirmedOf
 close-called = refl
 
 eod-taken : Step (ending secondOpening eodDue ReadPosition) (Write (at 11)) good (ending secondOpening eodTaken (Write (at 11)))
-unfolding decisionOf dueOf replyOf elementReply answer.answerOf answer.confirmedOf settledOf meaningIn
+unfolding decisionOf dueOf replyOf answerOf answer.confirmedOf settledOf meaningIn
 eod-taken = record { free = refl; sized = refl; decided = refl; replied = refl }
 
 eod-failed : Step (ending secondOpening eodTaken (Write (at 11))) ReadPosition secondError (ending secondOpening eodFailed ReadPosition)
-unfolding decisionOf dueOf replyOf elementReply answer.answerOf answer.failedOf answer.confirmedOf trailOf settledOf meaningIn
+unfolding decisionOf dueOf replyOf answerOf answer.failedOf answer.confirmedOf trailOf settledOf meaningIn
 eod-failed = record { free = refl; sized = refl; decided = refl; replied = refl }
 
 eod-relocated : Step (ending secondOpening eodFailed ReadPosition) (Locate (at 45)) good (ending secondOpening relocated (Locate (at 45)))
-unfolding decisionOf dueOf replyOf elementReply answer.answerOf answer.confirmedOf settledOf meaningIn
+unfolding decisionOf dueOf replyOf answerOf answer.confirmedOf settledOf meaningIn
 eod-relocated = record { free = refl; sized = refl; decided = refl; replied = refl }
 
 eod-retaken : Step (ending secondOpening relocated (Locate (at 45))) (Write (at 45)) good (ending secondOpening eodRetaken (Write (at 45)))
-unfolding decisionOf dueOf replyOf elementReply answer.answerOf answer.confirmedOf settledOf meaningIn
+unfolding decisionOf dueOf replyOf answerOf answer.confirmedOf settledOf meaningIn
 eod-retaken = record { free = refl; sized = refl; decided = refl; replied = refl }
 
 eod-confirmed : Step (ending secondOpening eodRetaken (Write (at 45))) ReadPosition good (closing secondClosing eodOnTape)
-unfolding decisionOf dueOf replyOf elementReply answer.answerOf answer.positionedOf answer.confirmedOf settledOf meaningIn
+unfolding decisionOf dueOf replyOf answerOf answer.countedOf answer.confirmedOf settledOf meaningIn
 eod-confirmed = record { free = refl; sized = refl; decided = refl; replied = refl }
 
 -- ---- the tape, by what was written

@@ -31,16 +31,16 @@ add-next c = omega (arith, header-bound (c .before .before .before .before .befo
 returns : tie.Need-returns
 unfolding failedOf
 returns c =
-    let a = c .before .before .before .before .before .before .args in
-    sym (pick-t _ (lt-ltb (a .p) (oldestAddress (a .self)) (omega arith)))
+    let a = c .before .before .before .before .before .before .before .args in
+    sym (pick-t _ (lt-ltb (a .p .0) (oldestAddress (a .self)) (omega arith)))
 
 returns-2 : tie.Need-returns-2
 unfolding failedOf
 returns-2 c =
-    let a = c .before .before .before .before .before .before .before .args in
+    let a = c .before .before .before .before .before .before .before .before .before .args in
     sym
-    (pick-f _ (le-ltb (a .p) (oldestAddress (a .self)) (omega arith))
-    ∙ pick-t _ (le-leb (nextAddress (a .self)) (a .p) (omega arith)))
+    (pick-f _ (le-ltb (a .p .0) (oldestAddress (a .self)) (omega arith))
+    ∙ pick-t _ (le-leb (nextAddress (a .self)) (a .p .0) (omega arith)))
 
 cast-n : tie.Need-cast-n
 cast-n c = search needs
@@ -60,17 +60,17 @@ onward-requires c κs = search needs
 returns-3 : tie.Need-returns-3
 unfolding failedOf
 returns-3 c =
-    let a = c .before .before .before .before .before .before .before .before .before .before .args in
-    let start = c .before .before .before .before .before .before .before .before .before .header-address in
-    let before = c .before .before .before .before .before .before .before .before .less in
+    let a = c .before .before .before .before .before .before .before .before .before .before .before .before .before .before .args in
+    let start = c .before .before .before .before .before .before .before .before .before .before .before .before .before .header-address in
+    let before = c .before .before .before .before .before .before .before .before .before .before .before .before .less in
     c .onward .ensures
     ∙ ap onwardOf
     (c .before .failed-at .ensures
-    ∙ ap (λ (x : ℕ). failedAt (a .self) (a .p - (x + before .result)) (a .p - x)) (start .ensures)
-    ∙ ap (λ (x : ℕ). failedAt (a .self) (a .p - (firstAddress (a .self) + x)) (a .p - firstAddress (a .self))) (before .ensures))
+    ∙ ap (λ (x : ℕ). failedAt (a .self) (a .p .0 - (x + before .result)) (a .p .0 - x)) (start .ensures)
+    ∙ ap (λ (x : ℕ). failedAt (a .self) (a .p .0 - (firstAddress (a .self) + x)) (a .p .0 - firstAddress (a .self))) (before .ensures))
     ∙ sym
-    (pick-f _ (le-ltb (a .p) (oldestAddress (a .self)) (omega arith))
-    ∙ pick-f _ (lt-leb (nextAddress (a .self)) (a .p) (omega arith)))
+    (pick-f _ (le-ltb (a .p .0) (oldestAddress (a .self)) (omega arith))
+    ∙ pick-f _ (lt-leb (nextAddress (a .self)) (a .p .0) (omega arith)))
 
 pub failed-spec : {M : Type 1} → statement M
 failed-spec =

@@ -23,6 +23,4 @@ returns : tie.Need-returns
 returns c = simp (c .wrapping-add-u16 .ensures, place-same)
 
 pub accept-spec : {M : Type 1} → statement M
-accept-spec =
-    tie.close
-    (tie.spec cast-at add-at cast-at-2 element-write-self wrapping-add-u16-requires returns)
+accept-spec = tie.close (tie.spec cast-at add-at cast-at-2 element-write-self wrapping-add-u16-requires returns)

@@ -30,6 +30,4 @@ unfolding confirmedOf
 returns c = simp (ap seq (c .before .before .before .before .before .before .number .ensures), c .before .before .before .before .before .less .ensures, c .before .before .before .before .before .before .before .trail-after .ensures, c .before .before .before .before .before .before .before .before .base .ensures)
 
 pub confirmed-spec : {M : Type 1} → statement M
-confirmed-spec =
-    tie.close
-    (tie.spec base-requires trail-after-requires number-requires less-requires sub-t9 returns)
+confirmed-spec = tie.close (tie.spec base-requires trail-after-requires number-requires less-requires sub-t9 returns)

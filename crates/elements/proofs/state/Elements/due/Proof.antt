@@ -67,14 +67,4 @@ returns-7 c =
     ∙ pick-f _ (ne-eqb _ _ (c .if6 .left)))
 
 pub due-spec : {M : Type 1} → statement M
-due-spec =
-    tie.close
-    (tie.spec
-    returns
-    returns-2
-    returns-3
-    must-confirm-requires
-    returns-4
-    returns-5
-    returns-6
-    returns-7)
+due-spec = tie.close (tie.spec returns returns-2 returns-3 must-confirm-requires returns-4 returns-5 returns-6 returns-7)

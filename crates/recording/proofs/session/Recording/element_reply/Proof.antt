@@ -1,15 +1,13 @@
 -- `recording::session::Recording::element_reply` meets its contract: an accepted step has number 0, a refused one another. Assumes nothing.
-use Prim.Native.Nat.{ℕ}
 use mathlib.Core.Bool.{false}
 use mathlib.Core.Path.{_≡_, _∙_, refl, sym, ap}
 use lib.Dec.{eqb}
 use Rattle.geometry.proofs.PickLaws.{pick-f}
 use Rattle.geometry.specs.declared.refusal.Refusal.the-variants as R
 use Rattle.geometry.specs.declared.refusal.Refusal.{Refusal}
-use Rattle.geometry.specs.Refused.{refusalNumber, verdictNumber}
-use Rattle.elements.specs.Answer as answer
-use Rattle.elements.specs.Elements.{at}
-use Rattle.recording.specs.Reply.{elementReplyBy, elementReply}
+use Rattle.geometry.specs.Refused.{refusalNumber}
+use Rattle.elements.specs.Answer.{steppedSaid}
+use Rattle.recording.specs.Reply.{elementReplyBy}
 use Rattle.recording.specs.Session.{accepting, settledOf}
 use Rattle.recording.proofs.session.Recording.element_reply.Statement.{statement}
 use Rattle.recording.proofs.session.Recording.element_reply.Tie as tie
@@ -28,12 +26,6 @@ refused R.TapeFull = refl
 refused R.Missing = refl
 refused R.Foreign = refl
 refused R.NotFound = refl
-
-address-requires : tie.Need-address-requires
-address-requires c κs = tt
-
-answer-requires : tie.Need-answer-requires
-answer-requires c κs = tt
 
 enum-told : tie.Need-enum-told
 enum-told c = c .match .keys1
@@ -54,31 +46,21 @@ end-requires : tie.Need-end-requires
 end-requires c κs = tt
 
 returns : tie.Need-returns
-unfolding elementReply
 returns c =
-    let a = c .before .before .before .before .before .before .before .before .before .before .args in
-    let next = c .before .before .before .before .before .before .answer .result .elements in
     c .accepted .ensures
     ∙ ap accepting (c .before .settle .ensures ∙ ap settledOf (c .before .before .answered .ensures))
-    ∙ sym (ap (λ v. elementReplyBy (verdictNumber v) next (a .self)) (c .before .before .before .enum-told .given .1))
-    ∙ ap (λ (x : answer.Step). elementReplyBy (x .number) (x .elements) (a .self)) (c .before .before .before .before .before .before .answer .ensures ∙ ap (λ (n : ℕ). answer.answerOf (a .self .elements) (a .case) (at n) (a .reply)) (c .before .before .before .before .before .before .before .address .ensures))
+    ∙ sym (ap (λ v. elementReplyBy (steppedSaid (record { elements = c .before .before .before .before .before .before .args .stepped .elements; verdict = v })) (c .before .before .before .before .before .before .args .self)) (c .before .before .before .enum-told .given .1))
 
 returns-2 : tie.Need-returns-2
-unfolding elementReply
 returns-2 c =
-    let a = c .before .before .before .before .before .before .before .before .before .args in
-    let next = c .before .before .before .before .before .answer .result .elements in
     c .end .ensures
     ∙ sym (pick-f _ (refused (c .before .before .verdict .given .0 .0)))
-    ∙ sym (ap (λ v. elementReplyBy (verdictNumber v) next (a .self)) (c .before .before .verdict .given .1))
-    ∙ ap (λ (x : answer.Step). elementReplyBy (x .number) (x .elements) (a .self)) (c .before .before .before .before .before .answer .ensures ∙ ap (λ (n : ℕ). answer.answerOf (a .self .elements) (a .case) (at n) (a .reply)) (c .before .before .before .before .before .before .address .ensures))
+    ∙ sym (ap (λ v. elementReplyBy (steppedSaid (record { elements = c .before .before .before .before .before .args .stepped .elements; verdict = v })) (c .before .before .before .before .before .args .self)) (c .before .before .verdict .given .1))
 
 pub element-reply-spec : {M : Type 1} → statement M
 element-reply-spec =
     tie.close
     (tie.spec
-    address-requires
-    answer-requires
     enum-told
     answered-requires
     settle-requires

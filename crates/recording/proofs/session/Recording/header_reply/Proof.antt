@@ -1,13 +1,10 @@
 -- `recording::session::Recording::header_reply` meets its contract: each case of the progress is its case of the definition. Assumes nothing.
 use mathlib.Core.Path.{_∙_, sym, ap}
 use Rattle.copies.specs.Copies.{progressSaid}
-use Rattle.recording.specs.Reply.{completedOf, headerReplyBy, headerReply}
+use Rattle.recording.specs.Reply.{completedOf, headerReplyBy}
 use Rattle.recording.specs.Session.{accepting, settledOf}
 use Rattle.recording.proofs.session.Recording.header_reply.Statement.{statement}
 use Rattle.recording.proofs.session.Recording.header_reply.Tie as tie
-
-answer-requires : tie.Need-answer-requires
-answer-requires c κs = tt
 
 enum-known-progress : tie.Need-enum-known-progress
 enum-known-progress c = c .match .keys1
@@ -40,35 +37,26 @@ end-requires : tie.Need-end-requires
 end-requires c κs = tt
 
 returns : tie.Need-returns
-unfolding headerReply
 returns c =
-    let s = c .before .before .before .before .before .before .before .args .self in
     c .accepted .ensures
     ∙ ap accepting (c .before .answered .ensures)
-    ∙ ap (λ p. headerReplyBy p s) (sym (ap progressSaid (c .before .before .before .progress .given .1)) ∙ c .before .before .before .before .before .answer .ensures)
+    ∙ sym (ap (λ p. headerReplyBy (progressSaid p) (c .before .before .before .before .before .args .self)) (c .before .before .before .progress .given .1))
 
 returns-2 : tie.Need-returns-2
-unfolding headerReply
 returns-2 c =
-    let s = c .before .before .before .before .before .before .before .before .args .self in
     c .accepted2 .ensures
-    ∙ ap accepting
-    (c .before .settle .ensures
-    ∙ ap settledOf (c .before .before .completed .ensures ∙ ap completedOf (c .before .before .before .answered2 .ensures)))
-    ∙ ap (λ p. headerReplyBy p s) (sym (ap progressSaid (c .before .before .before .before .enum-told .given .1)) ∙ c .before .before .before .before .before .before .answer .ensures)
+    ∙ ap accepting (c .before .settle .ensures ∙ ap settledOf (c .before .before .completed .ensures ∙ ap completedOf (c .before .before .before .answered2 .ensures)))
+    ∙ sym (ap (λ p. headerReplyBy (progressSaid p) (c .before .before .before .before .before .before .args .self)) (c .before .before .before .before .enum-told .given .1))
 
 returns-3 : tie.Need-returns-3
-unfolding headerReply
 returns-3 c =
-    let s = c .before .before .before .before .before .before .args .self in
     c .end .ensures
-    ∙ ap (λ p. headerReplyBy p s) (sym (ap progressSaid (c .before .before .progress2 .given .1)) ∙ c .before .before .before .before .answer .ensures)
+    ∙ sym (ap (λ p. headerReplyBy (progressSaid p) (c .before .before .before .before .args .self)) (c .before .before .progress2 .given .1))
 
 pub header-reply-spec : {M : Type 1} → statement M
 header-reply-spec =
     tie.close
     (tie.spec
-    answer-requires
     enum-known-progress
     answered-requires
     accepted-requires

@@ -1,17 +1,17 @@
--- `copies::state::Copies::positioned` meets its contract. Assumes nothing.
+-- `copies::state::Copies::counted` meets its contract. Assumes nothing.
 use mathlib.Core.Path.{_∙_, sym, ap}
 use borrow.Author.Tests.{lt-ltb, le-ltb}
 use borrow.Author.Needs.{needs}
 use Rattle.geometry.proofs.PickLaws.{pick-t, pick-f}
-use Rattle.copies.specs.Copies.{onwardOf, positionedOf}
-use Rattle.copies.proofs.state.Copies.positioned.Statement.{statement}
-use Rattle.copies.proofs.state.Copies.positioned.Tie as tie
+use Rattle.copies.specs.Copies.{onwardOf, countedOf}
+use Rattle.copies.proofs.state.Copies.counted.Statement.{statement}
+use Rattle.copies.proofs.state.Copies.counted.Tie as tie
 
 cast-if1 : tie.Need-cast-if1
 cast-if1 c = search needs
 
 returns : tie.Need-returns
-unfolding positionedOf
+unfolding countedOf
 returns c = sym (pick-t _ (lt-ltb _ _ (c .if1 .taken)))
 
 cast-n : tie.Need-cast-n
@@ -27,12 +27,11 @@ onward-requires : tie.Need-onward-requires
 onward-requires c κs = search needs
 
 returns-2 : tie.Need-returns-2
-unfolding positionedOf
+unfolding countedOf
 returns-2 c =
     c .onward .ensures
     ∙ ap onwardOf (c .before .confirmed .ensures)
     ∙ sym (pick-f _ (le-ltb _ _ (c .before .before .before .if1 .left)))
 
-pub positioned-spec : {M : Type 1} → statement M
-positioned-spec =
-    tie.close (tie.spec cast-if1 returns cast-n sub-n confirmed-requires onward-requires returns-2)
+pub counted-spec : {M : Type 1} → statement M
+counted-spec = tie.close (tie.spec cast-if1 returns cast-n sub-n confirmed-requires onward-requires returns-2)

@@ -1,11 +1,11 @@
--- `elements::state::Elements::positioned` meets its contract: by what its callees promise, on either side of its test. Assumes nothing.
+-- `elements::state::Elements::counted` meets its contract: by what its callees promise, on either side of its test. Assumes nothing.
 use mathlib.Core.Path.{_∙_, sym, ap}
 use native.Mathlib.Omega.{arith}
 use borrow.Author.Tests.{lt-ltb, le-ltb}
 use Rattle.geometry.proofs.PickLaws.{pick-t, pick-f}
-use Rattle.elements.specs.Answer.{kept, positionedOf}
-use Rattle.elements.proofs.state.Elements.positioned.Statement.{statement}
-use Rattle.elements.proofs.state.Elements.positioned.Tie as tie
+use Rattle.elements.specs.Answer.{kept, countedOf}
+use Rattle.elements.proofs.state.Elements.counted.Statement.{statement}
+use Rattle.elements.proofs.state.Elements.counted.Tie as tie
 
 cast-if1 : tie.Need-cast-if1
 cast-if1 c = omega arith
@@ -14,7 +14,7 @@ refuse-requires : tie.Need-refuse-requires
 refuse-requires c κs = tt
 
 returns : tie.Need-returns
-unfolding positionedOf
+unfolding countedOf
 returns c = c .refuse .ensures ∙ sym (pick-t _ (lt-ltb _ _ (c .before .if1 .taken)))
 
 cast-n : tie.Need-cast-n
@@ -30,19 +30,9 @@ keep-requires : tie.Need-keep-requires
 keep-requires c κs = tt
 
 returns-2 : tie.Need-returns-2
-unfolding positionedOf
+unfolding countedOf
 returns-2 c =
     c .keep .ensures ∙ ap kept (c .before .confirmed .ensures) ∙ sym (pick-f _ (le-ltb _ _ (c .before .before .before .if1 .left)))
 
-pub positioned-spec : {M : Type 1} → statement M
-positioned-spec =
-    tie.close
-    (tie.spec
-    cast-if1
-    refuse-requires
-    returns
-    cast-n
-    sub-n
-    confirmed-requires
-    keep-requires
-    returns-2)
+pub counted-spec : {M : Type 1} → statement M
+counted-spec = tie.close (tie.spec cast-if1 refuse-requires returns cast-n sub-n confirmed-requires keep-requires returns-2)
