@@ -54,10 +54,10 @@ sent-command w lent frame n a e =
 
 -- ---- a reading
 
-pub read-command : (s : Reading) (n a : ℕ) → reading.fetchOf s .said ≡ reading.command n a → Names n a (reading.fetchOf s .session .command)
+pub read-command : (s : Reading) (n a : ℕ) → reading.fetchOf s .said ≡ reading.command n a → Names n a (reading.fetchOf s .session .exchange .command)
 read-command s n a = go (reading-view.fetch-view s)
   where
-    go : {f : reading.Fetching} → reading-view.FetchView s f → f .said ≡ reading.command n a → Names n a (f .session .command)
+    go : {f : reading.Fetching} → reading-view.FetchView s f → f .said ≡ reading.command n a → Names n a (f .session .exchange .command)
     go (reading-view.wrong-phase _) e = never (cc)
     go (reading-view.repeats _ _) e = record { number-is = cc; address-is = cc }
     go (reading-view.ends _ _ _) e = never (cc)
@@ -66,5 +66,5 @@ read-command s n a = go (reading-view.fetch-view s)
     go (reading-view.crosses _ _ _ _) e = record { number-is = cc; address-is = cc }
     go (reading-view.reads _ _ _ _) e = record { number-is = cc; address-is = cc }
 
-pub sent-read : (w : readings.World) (n a : ℕ) → reading.fetchOf (w .session) .said ≡ reading.command n a → readings.afterFetch w .flight ≡ readings.sent (readings.afterFetch w .session .command)
+pub sent-read : (w : readings.World) (n a : ℕ) → reading.fetchOf (w .session) .said ≡ reading.command n a → readings.afterFetch w .flight ≡ readings.sent (readings.afterFetch w .session .exchange .command)
 sent-read w n a e = ap (λ (x : reading.Said). readings.flightAfter x (w .flight)) e ∙ ap (λ (c : Command). readings.sent c) (named (read-command (w .session) n a e))

@@ -1,3 +1,8 @@
-pub mod Invariant
 pub mod Facts
-pub mod Steps
+pub mod Bound
+pub mod Invariant
+pub mod Serves
+pub mod Fetches
+pub mod Replies
+pub mod Calls
+pub mod Promises

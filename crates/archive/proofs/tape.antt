@@ -2,8 +2,8 @@ pub mod Basics
 pub mod Places
 pub mod UserPlaces
 pub mod WindowLaws
-pub mod WrittenFrames
 pub mod Stands
+pub mod WrittenFrames
 pub mod StandsLaws
 pub mod Scan
 pub mod ScanLaws

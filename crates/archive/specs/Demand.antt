@@ -61,11 +61,11 @@ GivesCommand (fetch.refused n) = ⊥
 pub record Faithful (last : ℕ) (accepted : List Element) (w : readings.World) : Type 0 where
   -- the deliveries are the first so many of what was accepted
   pub count : ℕ
-  pub in-order : w .deliveries ≡ take count accepted
+  pub in-order : w .notes .deliveries ≡ take count accepted
   -- nothing is refused with 8 or more
-  pub never-refused : w .refused ≡ false
+  pub never-refused : w .notes .refused ≡ 0
   -- until the end each fetch with no reply awaited gives a command
-  pub goes-on : w .end ≡ false → w .flight ≡ readings.none → GivesCommand (fetch.fetchOf (w .session) .said)
+  pub goes-on : w .notes .end ≡ false → w .flight ≡ readings.none → GivesCommand (fetch.fetchOf (w .session) .said)
   -- and the drive's answer, once given, is taken in with a lent frame of 33,280 bytes
   pub taken : (r : Reply) (given : Option (List ℕ)) (lent : List ℕ) → w .flight ≡ readings.answered r given → readings.LentWith given lent
       → length lent ≡ 33280 → readings.refusal (w .session) (readings.replying r lent) ≡ 0
@@ -74,10 +74,10 @@ pub record Faithful (last : ℕ) (accepted : List Element) (w : readings.World) 
   -- no second command before the reply
   pub alone : (w .flight ≡ readings.none → ⊥) → readings.refusal (w .session) readings.fetching ≡ 7
   -- the replies taken in are bounded, busy ones aside
-  pub bounded : w .replies ≤ replyBound last
+  pub bounded : w .notes .replies ≤ replyBound last
   -- at the end all of them are delivered, and a fetch says so again
-  pub complete : w .end ≡ true → w .deliveries ≡ accepted
-  pub says-again : w .end ≡ true → fetch.fetchOf (w .session) .said ≡ fetch.end
+  pub complete : w .notes .end ≡ true → w .notes .deliveries ≡ accepted
+  pub says-again : w .notes .end ≡ true → fetch.fetchOf (w .session) .said ≡ fetch.end
 
 -- what holds of a cartridge: it holds a newest header, a reading opens on it, and every reading on a newest header is faithful
 pub record Readable (g : Geometry) (last : ℕ) (t : Tape) (accepted : List Element) : Type 0 where

@@ -4,4 +4,5 @@ pub mod Headers
 pub mod Recordings
 pub mod Readings
 pub mod Demand
+pub mod Fold
 pub mod Sample

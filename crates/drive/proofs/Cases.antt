@@ -1,36 +1,14 @@
 -- The number of a case, a command's code × 256 + the meaning of its reply, tells both. Assumes nothing.
-use Prim.Native.Nat.{ℕ, _+_, _*_, _≤_, _<_}
-use mathlib.Core.Path.{_≡_, refl, subst}
-use mathlib.Core.Bool.{Bool, true, false}
+use Prim.Native.Nat.{ℕ, _+_, _*_, _<_}
+use mathlib.Core.Path.{_≡_, refl}
 use native.Mathlib.Omega.{arith}
-use borrow.Author.Tests.{eqb-true, eqb-false}
-use lib.Dec.{eqb, leb, leb→le}
-use lib.ListN.{length}
 use Rattle.geometry.specs.declared.address.Address.{Address}
-use Rattle.geometry.proofs.Table.{at-index}
 use Rattle.drive.specs.Command.{commandCode, commandAddress, commandBy}
-use Rattle.drive.specs.Senses.{other, endOfMedium, senses, meaningOf}
+use Rattle.drive.specs.Senses.{meaningOf}
 use Rattle.drive.specs.declared.command.Command.{Command}
 use Rattle.drive.specs.declared.command.Command.the-variants.{Read, Write, Locate, ReadPosition}
 use Rattle.drive.specs.declared.reply.Reply.{Reply}
-use Rattle.drive.proofs.SenseLaws.{entryAt, listed}
-
-numbered : ℕ → Bool
-numbered k = leb (entryAt k .meaning) endOfMedium
-
--- no meaning is above the last one
-pub meaning-bound : (key asc ascq : ℕ) → meaningOf key asc ascq ≤ endOfMedium
-unfolding numbered
-meaning-bound key asc ascq = go (eqb m other) refl
-  where
-    m : ℕ
-    m = meaningOf key asc ascq
-
-    go : (b : Bool) → eqb m other ≡ b → m ≤ endOfMedium
-    go true e = omega (arith, eqb-true m other e)
-    go false e =
-        let l = listed key asc ascq m refl (eqb-false m other e) in
-        subst (λ (n : ℕ). n ≤ endOfMedium) (l .meant) (leb→le _ _ (at-index (length senses) numbered tt (l .index) (l .below)))
+use Rattle.drive.proofs.SenseLaws.{meaning-bound}
 
 pub case-parts : (c : Command) (r : Reply) (code meaning : ℕ) → meaning < 256 → commandCode c * 256 + meaningOf (r .key) (r .asc) (r .ascq) ≡ code * 256 + meaning → (commandCode c ≡ code) × (meaningOf (r .key) (r .asc) (r .ascq) ≡ meaning)
 case-parts c r code meaning h e =

@@ -1,19 +1,19 @@
 -- The table of sense triples: each listed triple has its own meaning, and only listed ones have one. Assumes nothing.
-use Prim.Native.Nat.{ℕ, suc, _+_, _<_}
+use Prim.Native.Nat.{ℕ, suc, _+_, _≤_, _<_}
 use mathlib.Core.Path.{_≡_, refl, ap, sym, subst, _∙_}
 use mathlib.Core.Bool.{Bool, true, false, _&&_, _||_, not, and-eq-true-iff}
 use mathlib.Core.List.{List, [], _∷_}
 use native.Mathlib.Omega.{arith}
 use native.Mathlib.Numerals.{add-one}
-use lib.Dec.{T, eqb, ltb, eqb→eq, ltb→lt}
+use lib.Dec.{T, eqb, ltb, leb, eqb→eq, ltb→lt, leb→le}
 use lib.ListN.{length, getD, drop}
 use lib.Seq.{drop-cons}
-use borrow.Author.Tests.{eq-eqb, eqb-true}
+use borrow.Author.Tests.{eq-eqb, eqb-true, eqb-false}
 use Rattle.geometry.specs.Pick.{pick}
 use Rattle.geometry.proofs.PickLaws.{pick-t, pick-f}
 use Rattle.geometry.proofs.Table.{upto, at-index}
 use Rattle.drive.specs.declared.senses.Sense.{Sense}
-use Rattle.drive.specs.Senses.{other, senses, matches, meaningIn, meaningOf}
+use Rattle.drive.specs.Senses.{other, endOfMedium, senses, matches, meaningIn, meaningOf}
 
 -- past the table's end
 abbrev none : Sense
@@ -96,3 +96,20 @@ only-triple k key asc ascq h t e =
     let r = listed key asc ascq (entryAt k .meaning) e (listed-not-other k h) in
     let same = same-only k (r .index) (at-index (length senses) (sameOnly k) t (r .index) (r .below)) (r .meant) in
     matching-triple (entryAt k) key asc ascq (subst (λ (i : ℕ). matches (entryAt i) key asc ascq ≡ true) same (r .matching))
+
+numbered : ℕ → Bool
+numbered k = leb (entryAt k .meaning) endOfMedium
+
+-- no meaning is above the last one
+pub meaning-bound : (key asc ascq : ℕ) → meaningOf key asc ascq ≤ endOfMedium
+unfolding numbered
+meaning-bound key asc ascq = go (eqb m other) refl
+  where
+    m : ℕ
+    m = meaningOf key asc ascq
+
+    go : (b : Bool) → eqb m other ≡ b → m ≤ endOfMedium
+    go true e = omega (arith, eqb-true m other e)
+    go false e =
+        let l = listed key asc ascq m refl (eqb-false m other e) in
+        subst (λ (n : ℕ). n ≤ endOfMedium) (l .meant) (leb→le _ _ (at-index (length senses) numbered tt (l .index) (l .below)))

@@ -99,18 +99,20 @@ fn play_frame(session: Reading, reply: Reply, e: Element, byte: u8) -> Reading {
 
 // An element of the reading's own pass.
 fn play_element(session: Reading, kind: Kind, number: u32, byte: u8) -> Reading {
-    let last = session.last;
+    let told = session.told;
+    let last = told.last;
     play_frame(
         session,
         good(0),
-        element(last, session.pass, kind, number),
+        element(last, told.pass, kind, number),
         byte,
     )
 }
 
 // An element of another pass.
 fn play_older(session: Reading, pass: u16, kind: Kind, number: u32) -> Reading {
-    let last = session.last;
+    let told = session.told;
+    let last = told.last;
     play_frame(session, good(0), element(last, pass, kind, number), 255)
 }
 
@@ -145,7 +147,8 @@ fn play_passed_over(session: Reading) {
     s = play_older(s, 1, Kind::Data, 0);
     s = play_unreadable(s);
     s = play_sense(s, busy());
-    let last = s.last;
+    let told = s.told;
+    let last = told.last;
     s = play_frame(s, sense(1, 0x17, 1), element(last, 2, Kind::Data, 0), 1);
     s = play_element(s, Kind::Data, 0, 255);
     s = play_older(s, 1, Kind::Eod, 1);
@@ -230,12 +233,9 @@ fn located() -> Reading {
 fn play_foreign(session: Reading) -> Reading {
     let block = [0u8; 32768];
     let mut frame = [0u8; 33280];
-    let last = session.last;
-    build_element(
-        &mut frame,
-        element(last, session.pass, Kind::Data, 0),
-        &block,
-    );
+    let told = session.told;
+    let last = told.last;
+    build_element(&mut frame, element(last, told.pass, Kind::Data, 0), &block);
     frame[32834] = 0x4C;
     play(session, good(0), &frame)
 }

@@ -3,3 +3,5 @@ pub mod TestLaws
 pub mod Table
 pub mod EdgeCases
 pub mod Impossible
+pub mod PastReserved
+pub mod Last

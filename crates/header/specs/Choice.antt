@@ -1,20 +1,18 @@
 -- 01, "AUX bytes": which of two lent header frames is handed back.
 use Prim.Native.Nat.{ℕ}
-use mathlib.Core.Bool.{_&&_}
 use mathlib.Core.List.{List, []}
 use mathlib.Core.Path.{_≡_}
 use denote.Ref.{RefT, now}
 use lib.Dec.{eqb, ltb}
-use lib.ListN.{length, take}
+use lib.ListN.{take}
 use Rattle.geometry.specs.Pick.{pick}
 use Rattle.geometry.specs.Refused.{refusalNumber}
-use Rattle.geometry.specs.Said.{Said, address, refused}
-use Rattle.geometry.specs.Cartridge.{lastOf}
 use Rattle.geometry.specs.declared.cartridge.Geometry.{Geometry}
 use Rattle.buffer.specs.Bytes.{agree}
 use Rattle.header.specs.declared.choice.Choice.{Choice}
 use Rattle.header.specs.declared.choice.Choice.the-variants.{First, Second, Refused}
-use Rattle.header.specs.Valid.{validHeader, updateOf}
+use Rattle.header.specs.Valid.{updateOf}
+use Rattle.header.specs.Read.{Checked, valid, refused, readHeader}
 
 pub data Chosen : Type 0 where
   first : Chosen
@@ -34,20 +32,22 @@ newerOf a b =
     (pick (ltb (updateOf a) (updateOf b)) second
     (pick (agree (take 32768 a) (take 32768 b)) first (none 3)))
 
--- an invalid one gives way to a valid one; two invalid ones: refusal 3
-unfoldable pub choiceFor : ℕ → List ℕ → List ℕ → Chosen
-choiceFor last a b =
-    pick (validHeader last a)
-    (pick (validHeader last b) (newerOf a b) first)
-    (pick (validHeader last b) second (none 3))
+-- an invalid one gives way to a valid one; a wrong length or geometry stands
+abbrev pub givesWay : ℕ → Chosen → Chosen
+givesWay n other = pick (eqb n 3) other (none n)
 
-abbrev pub choiceBy : Said → List ℕ → List ℕ → Chosen
-choiceBy (address last) a b = choiceFor last a b
-choiceBy (refused n) a b = none n
+-- of two refusals the lower, which is checked first
+abbrev pub lowerOf : ℕ → ℕ → ℕ
+lowerOf m n = pick (ltb n m) n m
 
--- a wrong length: refusal 1; an unfit geometry: its refusal
+abbrev pub choiceBy : Checked → Checked → List ℕ → List ℕ → Chosen
+choiceBy (valid h) (valid k) a b = newerOf a b
+choiceBy (valid h) (refused n) a b = givesWay n first
+choiceBy (refused m) (valid k) a b = givesWay m second
+choiceBy (refused m) (refused n) a b = none (lowerOf m n)
+
 unfoldable pub choiceOf : Geometry → List ℕ → List ℕ → Chosen
-choiceOf g a b = pick (eqb (length a) 33280 && eqb (length b) 33280) (choiceBy (lastOf g) a b) (none 1)
+choiceOf g a b = choiceBy (readHeader g a) (readHeader g b) a b
 
 -- r is the caller's first or second part itself, or an empty part where the choice is refused
 abbrev pub Returned : Chosen → RefT (List ℕ) → RefT (List ℕ) → RefT (List ℕ) → Type 0

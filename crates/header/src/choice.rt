@@ -1,16 +1,16 @@
 // The choice of the newer of two header frames.
 ghost use mathlib.Core.Path.{_≡_};
 ghost use lib.ListN.{length};
-ghost use Rattle.geometry.specs.Refused.{verdictNumber};
-ghost use Rattle.header.specs.Choice.{choiceSaid, newerOf, choiceFor, choiceOf, choiceNumber, Returned};
-use crate::valid::is_valid;
+ghost use Rattle.geometry.specs.Refused.{refusalNumber, verdictNumber};
+ghost use Rattle.header.specs.Choice.{choiceSaid, newerOf, givesWay, lowerOf, choiceOf, choiceNumber, Returned};
+use crate::read::Checked;
+use crate::read::read_header;
 use buffer::agrees;
 use buffer::be32_at;
-use geometry::Address;
 use geometry::Geometry;
-use geometry::Place;
 use geometry::Refusal;
 use geometry::Verdict;
+use geometry::number;
 
 pub enum Choice {
     First,
@@ -38,37 +38,40 @@ fn newer(first: &[u8], second: &[u8]) -> Choice
     Choice::Refused(Refusal::Header)
 }
 
-// Of two frames of a header's length.
-fn choice_for(last: Address, first: &[u8], second: &[u8]) -> Choice
-    requires { ⌜ length (now first) ≡ 33280 ⌝ }
-    requires { ⌜ length (now second) ≡ 33280 ⌝ }
-    ensures { λ r. ⌜ choiceSaid r ≡ choiceFor (last .0) (now (first .entry)) (now (second .entry)) ⌝ }
+// A header that is refused beside a valid one: an invalid one gives way to it.
+fn give_way(refusal: Refusal, other: Choice) -> Choice
+    ensures { λ r. ⌜ choiceSaid r ≡ givesWay (refusalNumber refusal) (choiceSaid other) ⌝ }
 {
-    if is_valid(last, first) {
-        if is_valid(last, second) {
-            return newer(first, second);
-        }
-        return Choice::First;
+    if number(refusal) == 3 {
+        return other;
     }
-    if is_valid(last, second) {
-        return Choice::Second;
+    Choice::Refused(refusal)
+}
+
+// Of two headers that are refused, the refusal that comes first.
+fn lower(first: Refusal, second: Refusal) -> Refusal
+    ensures { λ r. ⌜ refusalNumber r ≡ lowerOf (refusalNumber first) (refusalNumber second) ⌝ }
+{
+    if number(second) < number(first) {
+        return second;
     }
-    Choice::Refused(Refusal::Header)
+    first
 }
 
 fn decide(g: Geometry, first: &[u8], second: &[u8]) -> Choice
     ensures { λ r. ⌜ choiceSaid r ≡ choiceOf g (now (first .entry)) (now (second .entry)) ⌝ }
 {
-    if first.len() != 33280 {
-        return Choice::Refused(Refusal::Length);
-    }
-    if second.len() != 33280 {
-        return Choice::Refused(Refusal::Length);
-    }
-    let place = g.last();
-    match place {
-        Place::At(last) => choice_for(last, first, second),
-        Place::Refused(r) => Choice::Refused(r),
+    let one = read_header(g, first);
+    let other = read_header(g, second);
+    match one {
+        Checked::Valid(_) => match other {
+            Checked::Valid(_) => newer(first, second),
+            Checked::Refused(r) => give_way(r, Choice::First),
+        },
+        Checked::Refused(r) => match other {
+            Checked::Valid(_) => give_way(r, Choice::Second),
+            Checked::Refused(q) => Choice::Refused(lower(r, q)),
+        },
     }
 }
 

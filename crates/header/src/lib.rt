@@ -1,8 +1,9 @@
 // Headers that were read: which are valid, what they tell, and which of two is the newer.
 mod choice;
+mod read;
 mod valid;
 
 pub use choice::choice_verdict;
 pub use choice::choose;
-pub use valid::is_valid;
-pub use valid::read_header;
+pub use read::Checked;
+pub use read::read_header;

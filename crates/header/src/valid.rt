@@ -47,7 +47,7 @@ fn is_header_aux(h: &[u8]) -> bool
 }
 
 // Whether a header frame is valid on a cartridge with this LAST.
-pub fn is_valid(last: Address, h: &[u8]) -> bool
+pub(crate) fn is_valid(last: Address, h: &[u8]) -> bool
     ensures { λ r. ⌜ r ≡ validHeader (last .0) (now (h .entry)) ⌝ }
 {
     let named = is_named(h);
@@ -57,7 +57,7 @@ pub fn is_valid(last: Address, h: &[u8]) -> bool
 }
 
 // The fields of a header frame; of a valid one they are the cartridge's.
-pub fn read_header(h: &[u8]) -> Header
+pub(crate) fn fields(h: &[u8]) -> Header
     ensures { λ r. ⌜ r ≡ headerOf (now (h .entry)) ⌝ }
 {
     Header {

@@ -2,60 +2,75 @@
 use mathlib.Core.Path.{_≡_, refl, sym, _∙_}
 use mathlib.Core.Bool.{true≢false}
 use mathlib.Core.List.{List}
+use mathlib.Core.Logic.{_⊎_, inl, inr}
 use Prim.Native.Nat.{ℕ, _<_}
 use native.Mathlib.Omega.{arith}
 use borrow.Author.Tests.{ltb-true, ltb-false, eqb-true, eqb-false}
 use lib.Dec.{eqb, ltb}
-use lib.ListN.{length, drop}
+use lib.ListN.{length, getD, drop}
 use Rattle.geometry.proofs.PickLaws.{pick-by}
+use Rattle.geometry.proofs.Impossible.{never}
 use Rattle.buffer.specs.Bytes.{get16, get32}
 use Rattle.frame.specs.Aux.{typeOf}
 use Rattle.frame.specs.declared.element.Kind.{Kind}
 use Rattle.frame.specs.declared.element.Kind.the-variants.{Data, Marker, Eod}
-use Rattle.judgement.specs.Judgement.{Judged, skipped, refused, foundSaid, expectedElement, asTable, isCurrent, judgeNumber, judgeAux, judgeFrame}
+use Rattle.geometry.specs.declared.address.Seq.{Seq}
+use Rattle.judgement.specs.declared.told.Told.{Told}
+use Rattle.judgement.specs.Judgement.{Judged, skipped, refused, foundSaid, expectedElement, asTable, judgeNumber, judgeKind, judgeType, judgeAux, judgeFrame}
 use Rattle.judgement.proofs.Cases.{no-kind}
-use Rattle.judgement.proofs.Facts.{Current, Typed, Alike, FoundAs, current-so, so-current, alike-so, so-alike}
+use Rattle.judgement.proofs.Facts.{Typed, Alike, FoundAs, alike-so, so-alike}
 
-pub data JudgeView (last pass expected : ℕ) (frame : List ℕ) : Judged → Type 0 where
-  wrong-length : (length frame ≡ 33280 → ⊥) → JudgeView last pass expected frame (refused 1)
-  not-current : length frame ≡ 33280 → (Current pass (drop 32768 frame) → ⊥) → JudgeView last pass expected frame skipped
-  other-type : length frame ≡ 33280 → Current pass (drop 32768 frame) → ((k : Kind) → get16 (drop 32768 frame) 16 ≡ typeOf k → ⊥) → JudgeView last pass expected frame skipped
-  below : (k : Kind) → Typed pass k frame → get32 (drop 32768 frame) 44 < expected → JudgeView last pass expected frame skipped
-  above : (k : Kind) → Typed pass k frame → expected < get32 (drop 32768 frame) 44 → JudgeView last pass expected frame (refused 10)
-  foreign : (k : Kind) → Typed pass k frame → get32 (drop 32768 frame) 44 ≡ expected → (Alike (expectedElement k last pass expected) (drop 32768 frame) → ⊥) → JudgeView last pass expected frame (refused 11)
-  found : (k : Kind) {j : Judged} → foundSaid k ≡ j → FoundAs last pass expected k frame → JudgeView last pass expected frame j
+pub data JudgeView (told : Told) (expected : Seq) (frame : List ℕ) : Judged → Type 0 where
+  wrong-length : (length frame ≡ 33280 → ⊥) → JudgeView told expected frame (refused 1)
+  other-format : length frame ≡ 33280 → (get32 (drop 32768 frame) 0 ≡ 0 → ⊥) → JudgeView told expected frame skipped
+  other-type : length frame ≡ 33280 → ((k : Kind) → get16 (drop 32768 frame) 16 ≡ typeOf k → ⊥) → JudgeView told expected frame skipped
+  other-partition : length frame ≡ 33280 → (getD (drop 32768 frame) 20 0 ≡ 0 → ⊥) → JudgeView told expected frame skipped
+  other-pass : length frame ≡ 33280 → (get16 (drop 32768 frame) 22 ≡ told .pass → ⊥) → JudgeView told expected frame skipped
+  below : (k : Kind) → Typed told k frame → get32 (drop 32768 frame) 44 < expected .0 → JudgeView told expected frame skipped
+  above : (k : Kind) → Typed told k frame → expected .0 < get32 (drop 32768 frame) 44 → JudgeView told expected frame (refused 10)
+  foreign : (k : Kind) → Typed told k frame → get32 (drop 32768 frame) 44 ≡ expected .0 → (Alike (expectedElement k told expected) (drop 32768 frame) → ⊥) → JudgeView told expected frame (refused 11)
+  found : (k : Kind) {j : Judged} → foundSaid k ≡ j → FoundAs told expected k frame → JudgeView told expected frame j
 
-module _ (last pass expected : ℕ) (frame : List ℕ) where
+module _ (told : Told) (expected : Seq) (frame : List ℕ) where
   abbrev View : Judged → Type 0
-  View j = JudgeView last pass expected frame j
+  View j = JudgeView told expected frame j
 
   abbrev aux : List ℕ
   aux = drop 32768 frame
 
-  number-view : (k : Kind) → Typed pass k frame → View (judgeNumber k last pass expected aux)
+  number-view : (k : Kind) → Typed told k frame → View (judgeNumber k told expected aux)
   unfolding judgeNumber
   number-view k t =
-      pick-by View (ltb (get32 aux 44) expected) (λ low. below k t (ltb-true _ _ low))
-      (λ low. pick-by View (ltb expected (get32 aux 44)) (λ high. above k t (ltb-true _ _ high))
+      pick-by View (ltb (get32 aux 44) (expected .0)) (λ low. below k t (ltb-true _ _ low))
+      (λ low. pick-by View (ltb (expected .0) (get32 aux 44)) (λ high. above k t (ltb-true _ _ high))
       (λ high.
-      let same : get32 aux 44 ≡ expected = omega (arith, ltb-false (get32 aux 44) expected low, ltb-false expected (get32 aux 44) high) in
-      pick-by View (asTable (expectedElement k last pass expected) aux) (λ a. found k refl (record { typed = t; number = same; alike = so-alike a }))
+      let same : get32 aux 44 ≡ expected .0 = omega (arith, ltb-false (get32 aux 44) (expected .0) low, ltb-false (expected .0) (get32 aux 44) high) in
+      pick-by View (asTable (expectedElement k told expected) aux) (λ a. found k refl (record { typed = t; number = same; alike = so-alike a }))
       (λ a. foreign k t same (λ b. true≢false (sym (alike-so b) ∙ a)))))
 
-  aux-view : length frame ≡ 33280 → View (judgeAux last pass expected aux)
-  unfolding judgeAux
-  aux-view long =
-      pick-by View (isCurrent pass aux)
-      (λ c.
-      let current = so-current c in
-      let typed : (k : Kind) → get16 aux 16 ≡ typeOf k → Typed pass k frame = λ k e. record { long = long; current = current; type = e } in
-      pick-by View (eqb (get16 aux 16) (typeOf Data)) (λ d. number-view Data (typed Data (eqb-true _ _ d)))
-      (λ d. pick-by View (eqb (get16 aux 16) (typeOf Marker)) (λ m. number-view Marker (typed Marker (eqb-true _ _ m)))
-      (λ m. pick-by View (eqb (get16 aux 16) (typeOf Eod)) (λ e. number-view Eod (typed Eod (eqb-true _ _ e)))
-      (λ e. other-type long current (no-kind (eqb-false _ _ d) (eqb-false _ _ m) (eqb-false _ _ e))))))
-      (λ c. not-current long (λ current. true≢false (sym (current-so current) ∙ c)))
+  module _ (long : length frame ≡ 33280) (format : get32 aux 0 ≡ 0) where
+    kind-view : (k : Kind) → get16 aux 16 ≡ typeOf k → View (judgeKind k told expected aux)
+    unfolding judgeKind
+    kind-view k type =
+        pick-by View (eqb (getD aux 20 0) 0)
+        (λ p. pick-by View (eqb (get16 aux 22) (told .pass))
+        (λ w. number-view k (record { long = long; format = format; type = type; partition = eqb-true _ _ p; written = eqb-true _ _ w }))
+        (λ w. other-pass long (eqb-false _ _ w)))
+        (λ p. other-partition long (eqb-false _ _ p))
 
-  pub judge-view : View (judgeFrame last pass expected frame)
+    type-view : View (judgeType told expected aux)
+    unfolding judgeType
+    type-view =
+        pick-by View (eqb (get16 aux 16) (typeOf Data)) (λ d. kind-view Data (eqb-true _ _ d))
+        (λ d. pick-by View (eqb (get16 aux 16) (typeOf Marker)) (λ m. kind-view Marker (eqb-true _ _ m))
+        (λ m. pick-by View (eqb (get16 aux 16) (typeOf Eod)) (λ e. kind-view Eod (eqb-true _ _ e))
+        (λ e. other-type long (no-kind (eqb-false _ _ d) (eqb-false _ _ m) (eqb-false _ _ e)))))
+
+  aux-view : length frame ≡ 33280 → View (judgeAux told expected aux)
+  unfolding judgeAux
+  aux-view long = pick-by View (eqb (get32 aux 0) 0) (λ f. type-view long (eqb-true _ _ f)) (λ f. other-format long (eqb-false _ _ f))
+
+  pub judge-view : View (judgeFrame told expected frame)
   unfolding judgeFrame
   judge-view = pick-by View (eqb (length frame) 33280) (λ e. aux-view (eqb-true _ _ e)) (λ e. wrong-length (eqb-false _ _ e))
 
@@ -71,8 +86,17 @@ found-kind Marker Eod e = cc
 found-kind Eod Data e = cc
 found-kind Eod Marker e = cc
 
-module _ {last pass expected : ℕ} {frame : List ℕ} where
-  pub found-known : (k : Kind) → JudgeView last pass expected frame (foundSaid k) → FoundAs last pass expected k frame
+-- a frame of the right length is refused with 10 or 11
+pub refused-known : {told : Told} {expected : Seq} {frame : List ℕ} {m : ℕ} → length frame ≡ 33280 → JudgeView told expected frame (refused m) → (m ≡ 10) ⊎ (m ≡ 11)
+refused-known long (wrong-length h) = absurd (h long)
+refused-known long (above _ _ _) = inl refl
+refused-known long (foreign _ _ _ _) = inr refl
+refused-known long (found Data e _) = never (cc)
+refused-known long (found Marker e _) = never (cc)
+refused-known long (found Eod e _) = never (cc)
+
+module _ {told : Told} {expected : Seq} {frame : List ℕ} where
+  pub found-known : (k : Kind) → JudgeView told expected frame (foundSaid k) → FoundAs told expected k frame
   found-known Data (found m e h) = rw (← found-kind Data m e) h
   found-known Marker (found m e h) = rw (← found-kind Marker m e) h
   found-known Eod (found m e h) = rw (← found-kind Eod m e) h

@@ -4,7 +4,7 @@ use mathlib.Core.Bool.{true}
 use mathlib.Core.List.{List}
 use Prim.Native.Nat.{ℕ, _^_, _<_}
 use lib.Dec.{lit<}
-use lib.ListN.{length, drop}
+use lib.ListN.{length, getD, drop}
 use Rattle.buffer.specs.Bytes.{get16, get32}
 use Rattle.frame.specs.Aux.{typeOf, accessBytes, auxBytes, elementAux}
 use Rattle.frame.specs.Frame.{elementFrame, elementFits}
@@ -14,8 +14,10 @@ use Rattle.frame.specs.declared.element.Kind.{Kind}
 use Rattle.frame.specs.declared.element.Kind.the-variants.{Data, Marker, Eod}
 use Rattle.frame.proofs.AuxFields.{aux-kind, aux-partition, aux-pass, aux-seq}
 use Rattle.frame.proofs.Frames.{element-length, element-aux}
+use Rattle.geometry.specs.declared.address.Seq.{Seq}
+use Rattle.judgement.specs.declared.told.Told.{Told}
 use Rattle.judgement.specs.Judgement.{skipped, refused, foundSaid, expectedElement, judgeFrame}
-use Rattle.judgement.proofs.Facts.{Current, Typed, Alike}
+use Rattle.judgement.proofs.Facts.{Typed, Alike}
 use Rattle.judgement.proofs.JudgeLaws.{below-so, above-so, found-so, other-pass}
 use Rattle.judgement.proofs.Unread.{judged-as-sent}
 
@@ -24,46 +26,55 @@ type-small Data = lit< tt
 type-small Marker = lit< tt
 type-small Eod = lit< tt
 
+-- what the header of the element's recording tells
+abbrev pub toldBy : Element → Told
+toldBy e = record { last = e .last; pass = e .pass }
+
 module _ (e : Element) where
-  aux-current : e .pass < 2 ^ 16 → Current (e .pass) (auxBytes (elementAux e))
+  aux-format : get32 (auxBytes (elementAux e)) 0 ≡ 0
   unfolding auxBytes
-  aux-current h = record { format = refl; partition = aux-partition (elementAux e); written = aux-pass (elementAux e) h }
+  aux-format = refl
 
   -- the filemarks and the marker are in none of the bytes that are compared
-  aux-same : Alike (expectedElement (e .kind) (e .last .0) (e .pass) (e .seq .0)) (auxBytes (elementAux e))
+  aux-same : Alike (expectedElement (e .kind) (toldBy e) (e .seq)) (auxBytes (elementAux e))
   unfolding auxBytes accessBytes
   aux-same = record { description = refl; numbers = refl }
 
 module _ (e : Element) (small-pass : e .pass < 2 ^ 16) (small-seq : e .seq .0 < 2 ^ 32) (b : List ℕ) (fits : elementFits (e .kind) 33280 (length b) ≡ true) where
-  typed : Typed (e .pass) (e .kind) (elementFrame e b)
-  typed = record {
+  of-aux : {X : Type 0} (field : List ℕ → X) {x : X} → field (auxBytes (elementAux e)) ≡ x → field (drop 32768 (elementFrame e b)) ≡ x
+  of-aux field h = ap field (element-aux e b fits) ∙ h
+
+  typed : (told : Told) → e .pass ≡ told .pass → Typed told (e .kind) (elementFrame e b)
+  typed told same = record {
     long = element-length e b fits;
-    current = rw (element-aux e b fits) (aux-current e small-pass);
-    type = ap (λ (x : List ℕ). get16 x 16) (element-aux e b fits) ∙ aux-kind (elementAux e) (type-small (e .kind));
+    format = of-aux (λ (x : List ℕ). get32 x 0) (aux-format e);
+    type = of-aux (λ (x : List ℕ). get16 x 16) (aux-kind (elementAux e) (type-small (e .kind)));
+    partition = of-aux (λ (x : List ℕ). getD x 20 0) (aux-partition (elementAux e));
+    written = of-aux (λ (x : List ℕ). get16 x 22) (aux-pass (elementAux e) small-pass ∙ same);
   }
 
   number : get32 (drop 32768 (elementFrame e b)) 44 ≡ e .seq .0
-  number = ap (λ (x : List ℕ). get32 x 44) (element-aux e b fits) ∙ aux-seq (elementAux e) small-seq
+  number = of-aux (λ (x : List ℕ). get32 x 44) (aux-seq (elementAux e) small-seq)
 
   module _ {r : List ℕ} (reads : ReadsAs (elementFrame e b) r) where
-    pub judged-written : judgeFrame (e .last .0) (e .pass) (e .seq .0) r ≡ foundSaid (e .kind)
+    pub judged-written : judgeFrame (toldBy e) (e .seq) r ≡ foundSaid (e .kind)
     judged-written =
-        judged-as-sent reads (e .last .0) (e .pass) (e .seq .0)
-        ∙ found-so (e .last .0) (e .pass) (e .seq .0) (elementFrame e b) (e .kind) (record { typed = typed; number = number; alike = rw (element-aux e b fits) (aux-same e) })
+        judged-as-sent reads (toldBy e) (e .seq)
+        ∙ found-so (toldBy e) (e .seq) (elementFrame e b) (e .kind) (record { typed = typed (toldBy e) refl; number = number; alike = rw (element-aux e b fits) (aux-same e) })
 
     -- judged with another expected number, or for another pass, and whatever LAST
-    module _ (last expected : ℕ) where
-      pub judged-below : e .seq .0 < expected → judgeFrame last (e .pass) expected r ≡ skipped
-      judged-below h =
-          judged-as-sent reads last (e .pass) expected
-          ∙ below-so last (e .pass) expected (elementFrame e b) (e .kind) typed (subst (λ (n : ℕ). n < expected) (sym number) h)
+    module _ (told : Told) (expected : Seq) where
+      pub judged-below : e .pass ≡ told .pass → e .seq .0 < expected .0 → judgeFrame told expected r ≡ skipped
+      judged-below same h =
+          judged-as-sent reads told expected
+          ∙ below-so told expected (elementFrame e b) (e .kind) (typed told same) (subst (λ (n : ℕ). n < expected .0) (sym number) h)
 
-      pub judged-above : expected < e .seq .0 → judgeFrame last (e .pass) expected r ≡ refused 10
-      judged-above h =
-          judged-as-sent reads last (e .pass) expected
-          ∙ above-so last (e .pass) expected (elementFrame e b) (e .kind) typed (subst (λ (n : ℕ). expected < n) (sym number) h)
+      pub judged-above : e .pass ≡ told .pass → expected .0 < e .seq .0 → judgeFrame told expected r ≡ refused 10
+      judged-above same h =
+          judged-as-sent reads told expected
+          ∙ above-so told expected (elementFrame e b) (e .kind) (typed told same) (subst (λ (n : ℕ). expected .0 < n) (sym number) h)
 
-      pub judged-other-pass : (pass : ℕ) → (pass ≡ e .pass → ⊥) → judgeFrame last pass expected r ≡ skipped
-      judged-other-pass pass h =
-          judged-as-sent reads last pass expected
-          ∙ other-pass last pass expected (elementFrame e b) (typed .long) (λ q. h (sym q ∙ typed .current .written))
+      pub judged-other-pass : (told .pass ≡ e .pass → ⊥) → judgeFrame told expected r ≡ skipped
+      judged-other-pass h =
+          judged-as-sent reads told expected
+          ∙ other-pass told expected (elementFrame e b) (element-length e b fits) (λ q. h (sym q ∙ of-aux (λ (x : List ℕ). get16 x 22) (aux-pass (elementAux e) small-pass)))

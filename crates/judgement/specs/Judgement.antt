@@ -11,6 +11,8 @@ use Rattle.frame.specs.Aux.{typeOf, auxBytes, elementAux}
 use Rattle.frame.specs.declared.element.Element.{Element}
 use Rattle.frame.specs.declared.element.Kind.{Kind}
 use Rattle.frame.specs.declared.element.Kind.the-variants.{Data, Marker, Eod}
+use Rattle.geometry.specs.declared.address.Seq.{Seq}
+use Rattle.judgement.specs.declared.told.Told.{Told}
 use Rattle.judgement.specs.declared.judge.Judgement.{Judgement}
 use Rattle.judgement.specs.declared.judge.Judgement.the-variants.{Skipped, Refused, Found}
 
@@ -33,17 +35,13 @@ judgementSaid Skipped = skipped
 judgementSaid (Refused r) = refused (refusalNumber r)
 judgementSaid (Found k) = foundSaid k
 
--- AUX 0-3 are 0, partition 00, pass the header's
-unfoldable pub isCurrent : ℕ → List ℕ → Bool
-isCurrent pass aux = eqb (get32 aux 0) 0 && eqb (getD aux 20 0) 0 && eqb (get16 aux 22) pass
-
 -- the element with the expected number; its filemarks and marker are in none of the bytes that are compared
-abbrev pub expectedElement : Kind → ℕ → ℕ → ℕ → Element
-expectedElement k last pass expected = record {
+abbrev pub expectedElement : Kind → Told → Seq → Element
+expectedElement k told expected = record {
   kind = k;
-  pass = pass;
-  last = record { 0 = last };
-  seq = record { 0 = expected };
+  pass = told .pass;
+  last = told .last;
+  seq = expected;
   filemarks = 0;
   marker = record { 0 = 0 };
 }
@@ -58,23 +56,37 @@ asTable e aux =
     agree (part 18 36 aux) (part 18 36 (auxBytes (elementAux e)))
     && agree (part 44 68 aux) (part 44 68 (auxBytes (elementAux e)))
 
--- a current frame of a kind: number below the expected, passed over; above, refusal 10; equal, refusal 11 or delivered
-unfoldable pub judgeNumber : Kind → ℕ → ℕ → ℕ → List ℕ → Judged
-judgeNumber k last pass expected aux =
-    pick (ltb (get32 aux 44) expected) skipped
-    (pick (ltb expected (get32 aux 44)) (refused 10)
-    (pick (asTable (expectedElement k last pass expected) aux) (foundSaid k) (refused 11)))
+-- number below the expected, passed over; above, refusal 10; equal, refusal 11 if another field differs from the table, else delivered
+unfoldable pub judgeNumber : Kind → Told → Seq → List ℕ → Judged
+judgeNumber k told expected aux =
+    pick (ltb (get32 aux 44) (expected .0)) skipped
+    (pick (ltb (expected .0) (get32 aux 44)) (refused 10)
+    (pick (asTable (expectedElement k told expected) aux) (foundSaid k) (refused 11)))
 
--- a frame is passed over unless it is current and its type is data, marker or EOD
-unfoldable pub judgeAux : ℕ → ℕ → ℕ → List ℕ → Judged
-judgeAux last pass expected aux =
-    pick (isCurrent pass aux)
-    (pick (eqb (get16 aux 16) (typeOf Data)) (judgeNumber Data last pass expected aux)
-    (pick (eqb (get16 aux 16) (typeOf Marker)) (judgeNumber Marker last pass expected aux)
-    (pick (eqb (get16 aux 16) (typeOf Eod)) (judgeNumber Eod last pass expected aux) skipped)))
-    skipped
+-- ---- a frame is passed over unless AUX 0-3 are 0, type is data, marker or EOD, partition 00, pass the header's: one after another
+
+abbrev pub unless : Bool → Judged → Judged → Judged
+unless test over next = pick test next over
+
+-- partition 00, then pass the header's
+unfoldable pub judgeKind : Kind → Told → Seq → List ℕ → Judged
+judgeKind k told expected aux =
+    unless (eqb (getD aux 20 0) 0) skipped
+    (unless (eqb (get16 aux 22) (told .pass)) skipped
+    (judgeNumber k told expected aux))
+
+-- type is data, marker or EOD
+unfoldable pub judgeType : Told → Seq → List ℕ → Judged
+judgeType told expected aux =
+    pick (eqb (get16 aux 16) (typeOf Data)) (judgeKind Data told expected aux)
+    (pick (eqb (get16 aux 16) (typeOf Marker)) (judgeKind Marker told expected aux)
+    (pick (eqb (get16 aux 16) (typeOf Eod)) (judgeKind Eod told expected aux) skipped))
+
+-- AUX 0-3 are 0
+unfoldable pub judgeAux : Told → Seq → List ℕ → Judged
+judgeAux told expected aux = unless (eqb (get32 aux 0) 0) skipped (judgeType told expected aux)
 
 -- a lent length that is not a frame's: refusal 1
-unfoldable pub judgeFrame : ℕ → ℕ → ℕ → List ℕ → Judged
-judgeFrame last pass expected frame =
-    pick (eqb (length frame) 33280) (judgeAux last pass expected (drop 32768 frame)) (refused 1)
+unfoldable pub judgeFrame : Told → Seq → List ℕ → Judged
+judgeFrame told expected frame =
+    pick (eqb (length frame) 33280) (judgeAux told expected (drop 32768 frame)) (refused 1)

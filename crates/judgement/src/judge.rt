@@ -1,8 +1,9 @@
 // A frame that was read is skipped, refused, or the next element or the end.
 ghost use mathlib.Core.Path.{_≡_};
 ghost use lib.ListN.{length};
-ghost use Rattle.judgement.specs.Judgement.{judgementSaid, expectedElement, isCurrent, judgeNumber, judgeAux, judgeFrame};
+ghost use Rattle.judgement.specs.Judgement.{judgementSaid, expectedElement, judgeNumber, judgeKind, judgeType, judgeAux, judgeFrame};
 use crate::table::as_table;
+use crate::told::Told;
 use buffer::be16_at;
 use buffer::be32_at;
 use buffer::byte_at;
@@ -22,12 +23,13 @@ pub enum Judgement {
 }
 
 // The element that is expected, of a kind.
-fn expected_element(k: Kind, last: Address, pass: u16, expected: Seq) -> Element
-    ensures { λ r. ⌜ r ≡ expectedElement k (last .0) pass (expected .0) ⌝ }
+fn expected_element(k: Kind, told: Told, expected: Seq) -> Element
+    ensures { λ r. ⌜ r ≡ expectedElement k told expected ⌝ }
 {
+    let last = told.last;
     Element {
         kind: k,
-        pass: pass,
+        pass: told.pass,
         last: last,
         seq: expected,
         filemarks: 0,
@@ -35,19 +37,10 @@ fn expected_element(k: Kind, last: Address, pass: u16, expected: Seq) -> Element
     }
 }
 
-fn is_current(pass: u16, aux: &[u8]) -> bool
-    ensures { λ r. ⌜ r ≡ isCurrent pass (now (aux .entry)) ⌝ }
-{
-    let format = be32_at(aux, 0);
-    let partition = byte_at(aux, 20);
-    let written = be16_at(aux, 22);
-    (format == 0) & (partition == 0) & (written == pass)
-}
-
-// A current frame whose type is k.
-fn judge_number(k: Kind, last: Address, pass: u16, expected: Seq, aux: &[u8]) -> Judgement
+// A frame of this pass whose type is k.
+fn judge_number(k: Kind, told: Told, expected: Seq, aux: &[u8]) -> Judgement
     requires { ⌜ length (now aux) ≡ 512 ⌝ }
-    ensures { λ r. ⌜ judgementSaid r ≡ judgeNumber k (last .0) pass (expected .0) (now (aux .entry)) ⌝ }
+    ensures { λ r. ⌜ judgementSaid r ≡ judgeNumber k told expected (now (aux .entry)) ⌝ }
 {
     let n = be32_at(aux, 44);
     if n < expected.0 {
@@ -56,38 +49,59 @@ fn judge_number(k: Kind, last: Address, pass: u16, expected: Seq, aux: &[u8]) ->
     if expected.0 < n {
         return Judgement::Refused(Refusal::Missing);
     }
-    if as_table(expected_element(k, last, pass, expected), aux) {
+    if as_table(expected_element(k, told, expected), aux) {
         return Judgement::Found(k);
     }
     Judgement::Refused(Refusal::Foreign)
 }
 
-fn judge_aux(last: Address, pass: u16, expected: Seq, aux: &[u8]) -> Judgement
+// A frame whose type is k.
+fn judge_kind(k: Kind, told: Told, expected: Seq, aux: &[u8]) -> Judgement
     requires { ⌜ length (now aux) ≡ 512 ⌝ }
-    ensures { λ r. ⌜ judgementSaid r ≡ judgeAux (last .0) pass (expected .0) (now (aux .entry)) ⌝ }
+    ensures { λ r. ⌜ judgementSaid r ≡ judgeKind k told expected (now (aux .entry)) ⌝ }
 {
-    if is_current(pass, aux) {
-        let t = be16_at(aux, 16);
-        if t == 0x8000 {
-            return judge_number(Kind::Data, last, pass, expected, aux);
-        }
-        if t == 0x0200 {
-            return judge_number(Kind::Marker, last, pass, expected, aux);
-        }
-        if t == 0x0100 {
-            return judge_number(Kind::Eod, last, pass, expected, aux);
-        }
+    let partition = byte_at(aux, 20);
+    if partition != 0 {
         return Judgement::Skipped;
     }
-    Judgement::Skipped
+    let pass = be16_at(aux, 22);
+    if pass != told.pass {
+        return Judgement::Skipped;
+    }
+    judge_number(k, told, expected, aux)
 }
 
-// What a frame is to a reading of a header's pass that expects a sequence number.
-pub fn judge_frame(last: Address, pass: u16, expected: Seq, frame: &[u8]) -> Judgement
-    ensures { λ r. ⌜ judgementSaid r ≡ judgeFrame (last .0) pass (expected .0) (now (frame .entry)) ⌝ }
+// A frame whose AUX 0-3 are 0.
+fn judge_type(told: Told, expected: Seq, aux: &[u8]) -> Judgement
+    requires { ⌜ length (now aux) ≡ 512 ⌝ }
+    ensures { λ r. ⌜ judgementSaid r ≡ judgeType told expected (now (aux .entry)) ⌝ }
+{
+    let t = be16_at(aux, 16);
+    match t {
+        0x8000 => judge_kind(Kind::Data, told, expected, aux),
+        0x0200 => judge_kind(Kind::Marker, told, expected, aux),
+        0x0100 => judge_kind(Kind::Eod, told, expected, aux),
+        _ => Judgement::Skipped,
+    }
+}
+
+fn judge_aux(told: Told, expected: Seq, aux: &[u8]) -> Judgement
+    requires { ⌜ length (now aux) ≡ 512 ⌝ }
+    ensures { λ r. ⌜ judgementSaid r ≡ judgeAux told expected (now (aux .entry)) ⌝ }
+{
+    let format = be32_at(aux, 0);
+    if format != 0 {
+        return Judgement::Skipped;
+    }
+    judge_type(told, expected, aux)
+}
+
+// What a frame is to a reading that expects a sequence number.
+pub fn judge_frame(told: Told, expected: Seq, frame: &[u8]) -> Judgement
+    ensures { λ r. ⌜ judgementSaid r ≡ judgeFrame told expected (now (frame .entry)) ⌝ }
 {
     if frame.len() != 33280 {
         return Judgement::Refused(Refusal::Length);
     }
-    judge_aux(last, pass, expected, &frame[32768..])
+    judge_aux(told, expected, &frame[32768..])
 }

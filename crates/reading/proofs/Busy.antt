@@ -6,15 +6,15 @@ use Prim.Native.Nat.{ℕ}
 use Rattle.drive.specs.declared.reply.Reply.{Reply}
 use Rattle.reading.specs.declared.session.Reading.{Reading}
 use Rattle.reading.specs.Fetch.{sending, fetchOf}
-use Rattle.reading.specs.Reply.{nothing, repeatedOf, caseOf, answerOf, replyOf}
+use Rattle.reading.specs.Reply.{nothing, answering, repeatedOf, caseOf, answerOf, replyOf}
 use Rattle.reading.proofs.ReplyView.{Taken, taken-so}
 
 module _ (s : Reading) (r : Reply) (frame : List ℕ) (taken : Taken s frame) where
-  pub busy-so : (caseOf s r ≡ 0x2B02) ⊎ (caseOf s r ≡ 0x0802) → replyOf s r frame ≡ record { session = repeatedOf s; said = nothing }
+  pub busy-so : (caseOf s r ≡ 0x2B02) ⊎ (caseOf s r ≡ 0x0802) → replyOf s r frame ≡ answering (repeatedOf s) nothing
   unfolding answerOf
   busy-so (inl e) = taken-so s r frame taken e
   busy-so (inr e) = taken-so s r frame taken e
 
-  pub busy-repeats : (caseOf s r ≡ 0x2B02) ⊎ (caseOf s r ≡ 0x0802) → fetchOf (replyOf s r frame .session) ≡ sending s (s .command)
+  pub busy-repeats : (caseOf s r ≡ 0x2B02) ⊎ (caseOf s r ≡ 0x0802) → fetchOf (replyOf s r frame .session) ≡ sending s (s .exchange .command)
   unfolding fetchOf
   busy-repeats e = rw (busy-so e, taken .phase .running)

@@ -8,5 +8,5 @@ use Rattle.drive.proofs.Cases as cases
 use Rattle.reading.specs.declared.session.Reading.{Reading}
 use Rattle.reading.specs.Reply.{caseOf}
 
-pub case-parts : (s : Reading) (r : Reply) (code meaning : ℕ) → meaning < 256 → caseOf s r ≡ code * 256 + meaning → (commandCode (s .command) ≡ code) × (meaningOf (r .key) (r .asc) (r .ascq) ≡ meaning)
-case-parts s r code meaning h e = cases.case-parts (s .command) r code meaning h e
+pub case-parts : (s : Reading) (r : Reply) (code meaning : ℕ) → meaning < 256 → caseOf s r ≡ code * 256 + meaning → (commandCode (s .exchange .command) ≡ code) × (meaningOf (r .key) (r .asc) (r .ascq) ≡ meaning)
+case-parts s r code meaning h e = cases.case-parts (s .exchange .command) r code meaning h e

@@ -17,6 +17,6 @@ module _ (s : Reading) where
   unfolding reply.replyOf
   ended-reply ended r frame = rw ended
 
-  pub end-again : s .ended ≡ false → s .awaiting ≡ false → s .again ≡ false → s .finished ≡ true → fetch.fetchOf s ≡ record { session = s; said = fetch.end }
+  pub end-again : s .ended ≡ false → s .exchange .awaiting ≡ false → s .exchange .again ≡ false → s .finished ≡ true → fetch.fetchOf s ≡ record { session = s; said = fetch.end }
   unfolding fetch.fetchOf
   end-again running answered once finished = rw (running, answered, once, finished)

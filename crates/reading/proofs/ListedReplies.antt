@@ -2,10 +2,9 @@
 use Prim.Native.Nat.{ℕ, _+_, _*_}
 use mathlib.Core.Path.{_≡_, refl, subst}
 use mathlib.Core.List.{List}
-use mathlib.Core.Logic.{inl, inr}
+use mathlib.Core.Logic.{inl, inr, ⊎-elim}
 use native.Mathlib.Omega.{arith}
 use Rattle.geometry.proofs.Impossible.{never, clash}
-use Rattle.frame.specs.declared.element.Kind.the-variants.{Data, Marker, Eod}
 use Rattle.drive.specs.Command.{commandCode}
 use Rattle.drive.specs.Listed as on
 use Rattle.drive.specs.Listed.{Listed}
@@ -22,7 +21,7 @@ use Rattle.reading.proofs.ReplyView.{Taken, Unlisted, ReplyView, reply-
 
 module _ (s : Reading) (r : Reply) (frame : List ℕ) (taken : Taken s frame) where
   abbrev Here : Type 0
-  Here = Listed (s .command) (meaningOf (r .key) (r .asc) (r .ascq))
+  Here = Listed (s .exchange .command) (meaningOf (r .key) (r .asc) (r .ascq))
 
   -- a reply that is not refused with 8 is listed
   pub taken-listed : (replyOf s r frame .said ≡ refused 8 → ⊥) → Here
@@ -32,32 +31,24 @@ module _ (s : Reading) (r : Reply) (frame : List ℕ) (taken : Taken s frame) wh
       go (view.wrong-phase (inl e)) h = clash e (taken .phase .running)
       go (view.wrong-phase (inr e)) h = clash (taken .phase .awaited) e
       go (view.wrong-length _ e) h = absurd (e (taken .long))
-      go (view.busy _ (inl e)) h = at-locate (s .command) r 2 (omega arith) (λ _. on.locate-busy) e
-      go (view.busy _ (inr e)) h = at-read (s .command) r 2 (omega arith) (λ _. on.read-busy) e
-      go (view.located _ e) h = at-locate (s .command) r 1 (omega arith) (λ _. on.locate-good) e
-      go (view.judged _ (inl e) _ _) h = at-read (s .command) r 1 (omega arith) (λ _. on.read-good) e
-      go (view.judged _ (inr e) _ _) h = at-read (s .command) r 5 (omega arith) (λ _. on.read-recovered) e
-      go (view.unreadable _ e) h = at-read (s .command) r 6 (omega arith) (λ _. on.read-unreadable) e
-      go (view.end-of-data _ e) h = at-read (s .command) r 7 (omega arith) (λ _. on.read-end-of-data) e
-      go (view.end-of-medium _ e) h = at-read (s .command) r 8 (omega arith) (λ _. on.read-end-of-medium) e
+      go (view.busy _ (inl e)) h = at-locate (s .exchange .command) r 2 (omega arith) (λ _. on.locate-busy) e
+      go (view.busy _ (inr e)) h = at-read (s .exchange .command) r 2 (omega arith) (λ _. on.read-busy) e
+      go (view.located _ e) h = at-locate (s .exchange .command) r 1 (omega arith) (λ _. on.locate-good) e
+      go (view.judged _ (inl e) _ _) h = at-read (s .exchange .command) r 1 (omega arith) (λ _. on.read-good) e
+      go (view.judged _ (inr e) _ _) h = at-read (s .exchange .command) r 5 (omega arith) (λ _. on.read-recovered) e
+      go (view.unreadable _ e) h = at-read (s .exchange .command) r 6 (omega arith) (λ _. on.read-unreadable) e
+      go (view.end-of-data _ e) h = at-read (s .exchange .command) r 7 (omega arith) (λ _. on.read-end-of-data) e
+      go (view.end-of-medium _ e) h = at-read (s .exchange .command) r 8 (omega arith) (λ _. on.read-end-of-medium) e
       go (view.unlisted _ _) h = absurd (h refl)
 
   -- ---- and a listed one is not refused with 8
 
   abbrev JudgedAs : judgement.Judged → Type 0
-  JudgedAs = judging.JudgeView (s .last .0) (s .pass) (s .expected .0) frame
-
-  judged-refused : {m : ℕ} → JudgedAs (judgement.refused m) → m ≡ 8 → ⊥
-  judged-refused (judging.wrong-length _) e = omega arith
-  judged-refused (judging.above _ _ _) e = omega arith
-  judged-refused (judging.foreign _ _ _ _) e = omega arith
-  judged-refused (judging.found Data e _) q = never (cc)
-  judged-refused (judging.found Marker e _) q = never (cc)
-  judged-refused (judging.found Eod e _) q = never (cc)
+  JudgedAs = judging.JudgeView (s .told) (s .expected) frame
 
   judged-said : (j : judgement.Judged) → JudgedAs j → judgedBy j s .said ≡ refused 8 → ⊥
   judged-said judgement.skipped v e = never (cc)
-  judged-said (judgement.refused m) v e = judged-refused v (cc)
+  judged-said (judgement.refused m) v e = let number : m ≡ 8 = cc in ⊎-elim (λ x. omega arith) (λ x. omega arith) (judging.refused-known (taken .long) v)
   judged-said judgement.block v e = never (cc)
   judged-said judgement.filemark v e = never (cc)
   judged-said judgement.end v e = never (cc)
@@ -80,7 +71,7 @@ module _ (s : Reading) (r : Reply) (frame : List ℕ) (taken : Taken s frame) wh
   unlisted-case c m no-write no-position on.position-error u = no-position refl
 
   -- a reading's commands are READ and LOCATE
-  pub listed-taken : (commandCode (s .command) ≡ 0x0A → ⊥) → (commandCode (s .command) ≡ 0x34 → ⊥) → Here → replyOf s r frame .said ≡ refused 8 → ⊥
+  pub listed-taken : (commandCode (s .exchange .command) ≡ 0x0A → ⊥) → (commandCode (s .exchange .command) ≡ 0x34 → ⊥) → Here → replyOf s r frame .said ≡ refused 8 → ⊥
   listed-taken no-write no-position listed = go (reply-view s r frame)
     where
       go : {x : Taking} → ReplyView s r frame x → x .said ≡ refused 8 → ⊥
@@ -88,8 +79,8 @@ module _ (s : Reading) (r : Reply) (frame : List ℕ) (taken : Taken s frame) wh
       go (view.wrong-length _ _) e = never (cc)
       go (view.busy _ _) e = never (cc)
       go (view.located _ _) e = never (cc)
-      go (view.judged _ _ j h) e = judged-said j (subst JudgedAs h (judging.judge-view (s .last .0) (s .pass) (s .expected .0) frame)) e
+      go (view.judged _ _ j h) e = judged-said j (subst JudgedAs h (judging.judge-view (s .told) (s .expected) frame)) e
       go (view.unreadable _ _) e = never (cc)
       go (view.end-of-data _ _) e = never (cc)
       go (view.end-of-medium _ _) e = never (cc)
-      go (view.unlisted _ u) e = unlisted-case (s .command) _ no-write no-position listed u
+      go (view.unlisted _ u) e = unlisted-case (s .exchange .command) _ no-write no-position listed u

@@ -9,6 +9,7 @@ use native.Mathlib.Omega.{arith}
 use lib.Dec.{lit<}
 use Rattle.geometry.specs.Cartridge.{pastReserved}
 use Rattle.geometry.specs.declared.address.Address.{Address}
+use Rattle.geometry.proofs.PastReserved.{past-reserved-least, past-reserved-below}
 use Rattle.drive.specs.Command.{commandCode}
 use Rattle.drive.specs.Senses.{busy, meaningOf}
 use Rattle.drive.specs.declared.command.Command.the-variants.{Read}
@@ -21,7 +22,6 @@ use Rattle.geometry.proofs.Impossible.{never}
 use Rattle.reading.proofs.FetchView as fetching
 use Rattle.reading.proofs.ReplyView as replying
 use Rattle.reading.proofs.Cases.{case-parts}
-use Rattle.reading.proofs.Jump.{past-reserved-least, past-reserved-below}
 
 module _ (s : Reading) where
   pub fetch-keeps : fetchOf s .session .next ≡ s .next
@@ -37,7 +37,7 @@ module _ (s : Reading) where
       go (fetching.reads _ _ _ _) = refl
 
   -- what the laws below ask of a command holds of every one that is fetched, but that one given again must have had it
-  pub fetch-ahead : (s .again ≡ true → s .next .0 ≤ addressOf s) → (code address : ℕ) → fetchOf s .said ≡ command code address → fetchOf s .session .next .0 ≤ addressOf (fetchOf s .session)
+  pub fetch-ahead : (s .exchange .again ≡ true → s .next .0 ≤ addressOf s) → (code address : ℕ) → fetchOf s .said ≡ command code address → fetchOf s .session .next .0 ≤ addressOf (fetchOf s .session)
   fetch-ahead again code address = go (fetching.fetch-view s)
     where
       go : {f : Fetching} → fetching.FetchView s f → f .said ≡ command code address → f .session .next .0 ≤ addressOf (f .session)
@@ -51,9 +51,6 @@ module _ (s : Reading) where
 
 -- a command at the next address or behind it, a jump's length below the end of the addresses
 module _ (s : Reading) (ahead : s .next .0 ≤ addressOf s) (below : addressOf s + 32 < 2 ^ 32) where
-  stays : {n : ℕ} → addressOf s ≤ n → n < 2 ^ 32 → s .next .0 ≤ n % 2 ^ 32
-  stays {n} from h = rw (mod-eq-of-lt h) (omega arith)
-
   grows : {n : ℕ} → addressOf s < n → n < 2 ^ 32 → s .next .0 < n % 2 ^ 32
   grows {n} from h = rw (mod-eq-of-lt h) (omega arith)
 
@@ -85,7 +82,7 @@ module _ (s : Reading) (ahead : s .next .0 ≤ addressOf s) (below : addressOf s
         go (replying.wrong-phase _) = omega arith
         go (replying.wrong-length _ _) = omega arith
         go (replying.busy _ _) = omega arith
-        go (replying.located _ _) = stays (omega arith) (omega arith)
+        go (replying.located _ _) = ahead
         go (replying.judged _ _ j _) = judged-at-least j
         go (replying.unreadable _ _) = omega (arith, one-further)
         go (replying.end-of-data _ _) = omega (arith, jumps)
@@ -93,7 +90,7 @@ module _ (s : Reading) (ahead : s .next .0 ≤ addressOf s) (below : addressOf s
         go (replying.unlisted _ _) = omega arith
 
     -- a READ that is neither answered busy nor refused goes further
-    pub read-further : {a : Address} → s .command ≡ Read a → (meaningOf (r .key) (r .asc) (r .ascq) ≡ busy → ⊥) → ((n : ℕ) → replyOf s r frame .said ≡ refused n → ⊥) → s .next .0 < replyOf s r frame .session .next .0
+    pub read-further : {a : Address} → s .exchange .command ≡ Read a → (meaningOf (r .key) (r .asc) (r .ascq) ≡ busy → ⊥) → ((n : ℕ) → replyOf s r frame .said ≡ refused n → ⊥) → s .next .0 < replyOf s r frame .session .next .0
     read-further read not-busy = go (replying.reply-view s r frame)
       where
         not-locate : (meaning : ℕ) → meaning < 256 → caseOf s r ≡ 0x2B00 + meaning → ⊥

@@ -2,16 +2,17 @@
 use mathlib.Core.Path.{_≡_, refl, subst}
 use mathlib.Core.Bool.{true}
 use mathlib.Core.List.{List}
+use mathlib.Core.Logic.{⊎-elim}
 use Prim.Native.Nat.{ℕ, _≤_}
 use native.Mathlib.Omega.{arith}
 use lib.ListN.{length}
-use Rattle.frame.specs.declared.element.Kind.the-variants.{Data, Marker, Eod}
 use Rattle.drive.specs.declared.reply.Reply.{Reply}
 use Rattle.judgement.specs.Judgement as judgement
 use Rattle.judgement.proofs.JudgeView as judging
 use Rattle.reading.specs.declared.session.Reading.{Reading}
 use Rattle.reading.specs.Fetch as fetch
 use Rattle.reading.specs.Reply as reply
+use Rattle.reading.specs.Session.{endedOf}
 use Rattle.geometry.proofs.Impossible.{never}
 use Rattle.reading.proofs.FetchView as fetching
 use Rattle.reading.proofs.ReplyView as replying
@@ -24,7 +25,7 @@ pub record Leaves (n : ℕ) (before after : Reading) : Type 0 where
 unchanged-by : (n : ℕ) {s : Reading} → n ≤ 7 → Leaves n s s
 unchanged-by n h = record { unchanged = λ _. refl; ended = λ k. absurd (omega arith) }
 
-ended-by : (n : ℕ) {s : Reading} → 8 ≤ n → Leaves n s (fetch.endedOf s)
+ended-by : (n : ℕ) {s : Reading} → 8 ≤ n → Leaves n s (endedOf s)
 ended-by n h = record { unchanged = λ k. absurd (omega arith); ended = λ _. refl }
 
 module _ (s : Reading) (n : ℕ) where
@@ -42,16 +43,10 @@ module _ (s : Reading) (n : ℕ) where
 
   module _ (frame : List ℕ) where
     abbrev JudgedAs : judgement.Judged → Type 0
-    JudgedAs = judging.JudgeView (s .last .0) (s .pass) (s .expected .0) frame
+    JudgedAs = judging.JudgeView (s .told) (s .expected) frame
 
-    -- a frame of the right length is refused with 10 or 11
     judged-number : {m : ℕ} → length frame ≡ 33280 → JudgedAs (judgement.refused m) → 8 ≤ m
-    judged-number long (judging.wrong-length h) = absurd (h long)
-    judged-number long (judging.above _ _ _) = omega arith
-    judged-number long (judging.foreign _ _ _ _) = omega arith
-    judged-number long (judging.found Data e _) = never (cc)
-    judged-number long (judging.found Marker e _) = never (cc)
-    judged-number long (judging.found Eod e _) = never (cc)
+    judged-number long v = ⊎-elim (λ e. omega arith) (λ e. omega arith) (judging.refused-known long v)
 
     judged-leaves : length frame ≡ 33280 → (j : judgement.Judged) → JudgedAs j → reply.judgedBy j s .said ≡ reply.refused n → Leaves n s (reply.judgedBy j s .session)
     judged-leaves long judgement.skipped v e = never (cc)
@@ -68,7 +63,7 @@ module _ (s : Reading) (n : ℕ) where
         go (replying.wrong-length _ _) e = let number : 1 ≡ n = cc in unchanged-by n (omega arith)
         go (replying.busy _ _) e = never (cc)
         go (replying.located _ _) e = never (cc)
-        go (replying.judged t _ j h) e = judged-leaves (t .long) j (subst JudgedAs h (judging.judge-view (s .last .0) (s .pass) (s .expected .0) frame)) e
+        go (replying.judged t _ j h) e = judged-leaves (t .long) j (subst JudgedAs h (judging.judge-view (s .told) (s .expected) frame)) e
         go (replying.unreadable _ _) e = never (cc)
         go (replying.end-of-data _ _) e = never (cc)
         go (replying.end-of-medium _ _) e = let number : 12 ≡ n = cc in ended-by n (omega arith)

@@ -11,14 +11,14 @@ use Rattle.geometry.proofs.PickLaws.{pick-by}
 use Rattle.drive.specs.declared.reply.Reply.{Reply}
 use Rattle.judgement.specs.Judgement.{Judged, judgeFrame}
 use Rattle.reading.specs.declared.session.Reading.{Reading}
-use Rattle.reading.specs.Reply.{nothing, Taking, refusing, ending, repeatedOf, locatedOf, skippedOf, judgedBy, judgedOf, jumpedOf, caseOf, answerOf, replyOf}
+use Rattle.reading.specs.Reply.{nothing, Taking, answering, refusing, ending, repeatedOf, locatedOf, skippedOf, judgedBy, judgedOf, jumpedOf, caseOf, answerOf, replyOf}
 use Rattle.geometry.proofs.TestLaws.{or-true, or-false}
 use Rattle.reading.proofs.Tests.{is-one, is-neither}
 
 -- the session awaits a reply
 pub record Awaited (s : Reading) : Type 0 where
   pub running : s .ended ≡ false
-  pub awaited : s .awaiting ≡ true
+  pub awaited : s .exchange .awaiting ≡ true
 
 -- and takes one in with this frame
 pub record Taken (s : Reading) (frame : List ℕ) : Type 0 where
@@ -37,11 +37,11 @@ pub record Unlisted (n : ℕ) : Type 0 where
   pub read-end-of-medium : n ≡ 0x0808 → ⊥
 
 pub data ReplyView (s : Reading) (r : Reply) (frame : List ℕ) : Taking → Type 0 where
-  wrong-phase : (s .ended ≡ true) ⊎ (s .awaiting ≡ false) → ReplyView s r frame (refusing s 7)
+  wrong-phase : (s .ended ≡ true) ⊎ (s .exchange .awaiting ≡ false) → ReplyView s r frame (refusing s 7)
   wrong-length : Awaited s → (length frame ≡ 33280 → ⊥) → ReplyView s r frame (refusing s 1)
-  busy : Taken s frame → (caseOf s r ≡ 0x2B02) ⊎ (caseOf s r ≡ 0x0802) → ReplyView s r frame (record { session = repeatedOf s; said = nothing })
+  busy : Taken s frame → (caseOf s r ≡ 0x2B02) ⊎ (caseOf s r ≡ 0x0802) → ReplyView s r frame (answering (repeatedOf s) nothing)
   located : Taken s frame → caseOf s r ≡ 0x2B01 → ReplyView s r frame (locatedOf s)
-  judged : Taken s frame → (caseOf s r ≡ 0x0801) ⊎ (caseOf s r ≡ 0x0805) → (j : Judged) → judgeFrame (s .last .0) (s .pass) (s .expected .0) frame ≡ j → ReplyView s r frame (judgedBy j s)
+  judged : Taken s frame → (caseOf s r ≡ 0x0801) ⊎ (caseOf s r ≡ 0x0805) → (j : Judged) → judgeFrame (s .told) (s .expected) frame ≡ j → ReplyView s r frame (judgedBy j s)
   unreadable : Taken s frame → caseOf s r ≡ 0x0806 → ReplyView s r frame (skippedOf s)
   end-of-data : Taken s frame → caseOf s r ≡ 0x0807 → ReplyView s r frame (jumpedOf s)
   end-of-medium : Taken s frame → caseOf s r ≡ 0x0808 → ReplyView s r frame (ending s 12)
@@ -75,16 +75,16 @@ module _ (s : Reading) (r : Reply) (frame : List ℕ) where
         read-end-of-medium = eqb-false _ _ ends;
       })))))))
 
-  without-command : (s .ended ≡ true) ⊎ (not (s .awaiting) ≡ true) → (s .ended ≡ true) ⊎ (s .awaiting ≡ false)
+  without-command : (s .ended ≡ true) ⊎ (not (s .exchange .awaiting) ≡ true) → (s .ended ≡ true) ⊎ (s .exchange .awaiting ≡ false)
   without-command (inl e) = inl e
   without-command (inr e) = inr (not-true _ e)
 
   pub reply-view : View (replyOf s r frame)
   unfolding replyOf
   reply-view =
-      pick-by View (s .ended || not (s .awaiting)) (λ e. wrong-phase (without-command (or-true _ _ e)))
+      pick-by View (s .ended || not (s .exchange .awaiting)) (λ e. wrong-phase (without-command (or-true _ _ e)))
       (λ e.
-      let tests = or-false (s .ended) (not (s .awaiting)) e in
+      let tests = or-false (s .ended) (not (s .exchange .awaiting)) e in
       let phase : Awaited s = record { running = tests .0; awaited = not-false _ (tests .1) } in
       pick-by View (eqb (length frame) 33280) (λ long. answer-view (record { phase = phase; long = eqb-true _ _ long }))
       (λ long. wrong-length phase (eqb-false _ _ long)))

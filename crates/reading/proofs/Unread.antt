@@ -11,7 +11,7 @@ use Rattle.reading.specs.Reply.{judgedOf, caseOf, answerOf, replyOf}
 module _ (s : Reading) (a b : List ℕ) (long : length a ≡ 33280) (also-long : length b ≡ 33280) (same : drop 32768 a ≡ drop 32768 b) where
   judged-by-aux : judgedOf s a ≡ judgedOf s b
   unfolding judgedOf
-  judged-by-aux = rw (right-length (s .last .0) (s .pass) (s .expected .0) a long, right-length (s .last .0) (s .pass) (s .expected .0) b also-long, same)
+  judged-by-aux = rw (right-length (s .told) (s .expected) a long, right-length (s .told) (s .expected) b also-long, same)
 
   answered-by-aux : (n : ℕ) → answerOf s n a ≡ answerOf s n b
   unfolding answerOf

@@ -1,16 +1,18 @@
 -- 01, "Reading a cartridge": fetching the next command.
 use Prim.Native.Nat.{ℕ}
-use mathlib.Core.Bool.{true, false, _||_}
+use mathlib.Core.Bool.{_||_}
 use lib.Dec.{eqb, ltb}
 use Rattle.geometry.specs.Pick.{pick}
 use Rattle.geometry.specs.Refused.{refusalNumber}
 use Rattle.drive.specs.Command.{commandCode, commandAddress}
+use Rattle.drive.specs.Exchange.{sentOf}
 use Rattle.drive.specs.declared.command.Command.{Command}
 use Rattle.drive.specs.declared.command.Command.the-variants.{Read, Locate}
 use Rattle.reading.specs.declared.session.Reading.{Reading}
 use Rattle.reading.specs.declared.session.Fetched.{Fetched}
 use Rattle.reading.specs.declared.session.Answer.{Answer}
 use Rattle.reading.specs.declared.session.Answer.the-variants as A
+use Rattle.reading.specs.Session.{withExchange, endedOf}
 
 -- LOCATE 10 at first, and LOCATE after 08/00/05; before 2,990 LOCATE 3,000; else READ
 unfoldable pub commandOf : Reading → Command
@@ -38,21 +40,17 @@ fetchedSaid r = record { session = r .session; said = answerSaid (r .answer) }
 
 -- the command goes out and its reply is awaited
 abbrev pub awaits : Reading → Command → Reading
-awaits s c = record { last = s .last; pass = s .pass; next = s .next; locate = s .locate; expected = s .expected; command = c; awaiting = true; again = false; finished = s .finished; ended = s .ended }
+awaits s c = withExchange s (sentOf c)
 
 abbrev pub sending : Reading → Command → Fetching
 sending s c = record { session = awaits s c; said = command (commandCode c) (commandAddress c) }
-
--- refusals 8 to 12: session ended
-abbrev pub endedOf : Reading → Reading
-endedOf s = record { last = s .last; pass = s .pass; next = s .next; locate = s .locate; expected = s .expected; command = s .command; awaiting = s .awaiting; again = s .again; finished = s .finished; ended = true }
 
 -- refusal 7 where the session has ended or a reply is awaited; after busy the same command, whichever rule then applies;
 -- the end, said again at each fetch; next address above LAST: refusal 12
 unfoldable pub fetchOf : Reading → Fetching
 fetchOf s =
-    pick (s .ended || s .awaiting) (record { session = s; said = refused 7 })
-    (pick (s .again) (sending s (s .command))
+    pick (s .ended || s .exchange .awaiting) (record { session = s; said = refused 7 })
+    (pick (s .exchange .again) (sending s (s .exchange .command))
     (pick (s .finished) (record { session = s; said = end })
-    (pick (ltb (s .last .0) (s .next .0)) (record { session = endedOf s; said = refused 12 })
+    (pick (ltb (s .told .last .0) (s .next .0)) (record { session = endedOf s; said = refused 12 })
     (sending s (commandOf s)))))

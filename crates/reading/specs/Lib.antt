@@ -1,3 +1,4 @@
+pub mod Session
 pub mod Open
 pub mod Fetch
 pub mod Reply

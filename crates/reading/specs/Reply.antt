@@ -7,15 +7,17 @@ use lib.ListN.{length}
 use Rattle.geometry.specs.Pick.{pick}
 use Rattle.geometry.specs.Refused.{refusalNumber}
 use Rattle.geometry.specs.Cartridge.{pastReserved}
+use Rattle.geometry.specs.declared.address.Address.{Address}
 use Rattle.drive.specs.Command.{commandCode, commandAddress}
 use Rattle.drive.specs.Senses.{meaningOf}
+use Rattle.drive.specs.Exchange as exchange
 use Rattle.drive.specs.declared.reply.Reply.{Reply}
 use Rattle.judgement.specs.Judgement as judgement
 use Rattle.reading.specs.declared.session.Reading.{Reading}
 use Rattle.reading.specs.declared.session.Taken.{Taken}
 use Rattle.reading.specs.declared.session.Delivery.{Delivery}
 use Rattle.reading.specs.declared.session.Delivery.the-variants as D
-use Rattle.reading.specs.Fetch.{endedOf}
+use Rattle.reading.specs.Session.{withExchange, withNext, withExpected, withEnd, endedOf}
 
 -- what a reply is answered: nothing delivered, a block (the first 32,768 bytes of the lent frame), a filemark, the end, or a refusal by its number
 pub data Said : Type 0 where
@@ -45,49 +47,46 @@ answering s said = record { session = s; said = said }
 
 -- refusals 1 to 7: session unchanged; 8 to 12: session ended
 abbrev pub refusing : Reading → ℕ → Taking
-refusing s n = record { session = s; said = refused n }
+refusing s n = answering s (refused n)
 
 abbrev pub ending : Reading → ℕ → Taking
-ending s n = record { session = endedOf s; said = refused n }
-
--- the reply is taken in; the next address, whether a LOCATE comes first, the expected number, and whether EOD was read
-abbrev pub onward : Reading → ℕ → Bool → ℕ → Bool → Reading
-onward s next locate expected finished = record {
-  last = s .last;
-  pass = s .pass;
-  next = record { 0 = next % 2 ^ 32 };
-  locate = locate;
-  expected = record { 0 = expected % 2 ^ 32 };
-  command = s .command;
-  awaiting = false;
-  again = s .again;
-  finished = finished;
-  ended = s .ended;
-}
-
--- busy: the next fetch gives the same command; nothing else changes
-abbrev pub repeatedOf : Reading → Reading
-repeatedOf s = record { last = s .last; pass = s .pass; next = s .next; locate = s .locate; expected = s .expected; command = s .command; awaiting = false; again = true; finished = s .finished; ended = s .ended }
+ending s n = answering (endedOf s) (refused n)
 
 -- the address of the command
 abbrev pub addressOf : Reading → ℕ
-addressOf s = commandAddress (s .command)
+addressOf s = commandAddress (s .exchange .command)
+
+-- a number as an address; it wraps only in a session that no call returned
+abbrev pub wrapped : ℕ → Address
+wrapped n = record { 0 = n % 2 ^ 32 }
+
+-- busy: the next fetch gives the same command; nothing else changes
+abbrev pub repeatedOf : Reading → Reading
+repeatedOf s = withExchange s (exchange.repeatedOf (s .exchange))
+
+-- the reply is taken in, and reading goes on at an address, with a LOCATE of it or without
+abbrev pub movedOf : Reading → Address → Bool → Reading
+movedOf s next locate = withNext (withExchange s (exchange.answeredOf (s .exchange))) next locate
+
+-- one address further
+abbrev pub advancedOf : Reading → Reading
+advancedOf s = movedOf s (wrapped (addressOf s + 1)) (s .locate)
 
 -- a LOCATE answered good
 abbrev pub locatedOf : Reading → Taking
-locatedOf s = record { session = onward s (addressOf s) false (s .expected .0) (s .finished); said = nothing }
+locatedOf s = answering (movedOf s (record { 0 = addressOf s }) false) nothing
 
--- one address further
+-- passed over, or unreadable
 abbrev pub skippedOf : Reading → Taking
-skippedOf s = record { session = onward s (addressOf s + 1) (s .locate) (s .expected .0) (s .finished); said = nothing }
+skippedOf s = answering (advancedOf s) nothing
 
--- an element delivered
+-- an element delivered, and the next number expected
 abbrev pub deliveredOf : Reading → Said → Taking
-deliveredOf s said = record { session = onward s (addressOf s + 1) (s .locate) (s .expected .0 + 1) (s .finished); said = said }
+deliveredOf s said = answering (withExpected (advancedOf s) (record { 0 = (s .expected .0 + 1) % 2 ^ 32 })) said
 
 -- EOD ends reading
 abbrev pub finishedOf : Reading → Taking
-finishedOf s = record { session = onward s (addressOf s + 1) (s .locate) (s .expected .0) true; said = end }
+finishedOf s = answering (withEnd (advancedOf s)) end
 
 -- a frame that was read, by its judgement
 abbrev pub judgedBy : judgement.Judged → Reading → Taking
@@ -98,21 +97,21 @@ judgedBy judgement.filemark s = deliveredOf s filemark
 judgedBy judgement.end s = finishedOf s
 
 unfoldable pub judgedOf : Reading → List ℕ → Taking
-judgedOf s frame = judgedBy (judgement.judgeFrame (s .last .0) (s .pass) (s .expected .0) frame) s
+judgedOf s frame = judgedBy (judgement.judgeFrame (s .told) (s .expected) frame) s
 
 -- after 08/00/05 at address a, LOCATE a + 32, 2,990 to 2,999 becoming 3,000
 abbrev pub jumpedOf : Reading → Taking
-jumpedOf s = record { session = onward s (pastReserved (addressOf s + 32)) true (s .expected .0) (s .finished); said = nothing }
+jumpedOf s = answering (movedOf s (wrapped (pastReserved (addressOf s + 32))) true) nothing
 
 -- the command's code and, as the low byte, the meaning of the sense triple
 abbrev pub caseOf : Reading → Reply → ℕ
-caseOf s r = commandCode (s .command) * 256 + meaningOf (r .key) (r .asc) (r .ascq)
+caseOf s r = commandCode (s .exchange .command) * 256 + meaningOf (r .key) (r .asc) (r .ascq)
 
 -- by the command and the meaning of its reply; anything else: refusal 8
 unfoldable pub answerOf : Reading → ℕ → List ℕ → Taking
 answerOf s n frame =
     -- LOCATE and READ, busy
-    pick (eqb n 0x2B02 || eqb n 0x0802) (record { session = repeatedOf s; said = nothing })
+    pick (eqb n 0x2B02 || eqb n 0x0802) (answering (repeatedOf s) nothing)
     -- LOCATE, good
     (pick (eqb n 0x2B01) (locatedOf s)
     -- READ, good or recovered, with a frame
@@ -128,5 +127,5 @@ answerOf s n frame =
 -- refusal 7 without a command; 1 where the frame's length is wrong
 unfoldable pub replyOf : Reading → Reply → List ℕ → Taking
 replyOf s r frame =
-    pick (s .ended || not (s .awaiting)) (refusing s 7)
+    pick (s .ended || not (s .exchange .awaiting)) (refusing s 7)
     (pick (eqb (length frame) 33280) (answerOf s (caseOf s r) frame) (refusing s 1))

@@ -5,6 +5,7 @@ use crate::session::Answer;
 use crate::session::Fetched;
 use crate::session::Reading;
 use drive::Command;
+use drive::Exchange;
 use geometry::Address;
 use geometry::Refusal;
 
@@ -23,16 +24,12 @@ impl Reading {
         Command::Read(next)
     }
 
-    fn send(self, c: Command) -> Fetched
+    fn send(mut self, c: Command) -> Fetched
         ensures { λ r. ⌜ fetchedSaid r ≡ sending self c ⌝ }
     {
+        self.exchange = Exchange::sent(c);
         Fetched {
-            session: Reading {
-                command: c,
-                awaiting: true,
-                again: false,
-                ..self
-            },
+            session: self,
             answer: Answer::Command(c),
         }
     }
@@ -41,14 +38,15 @@ impl Reading {
     pub fn fetch(mut self) -> Fetched
         ensures { λ r. ⌜ fetchedSaid r ≡ fetchOf self ⌝ }
     {
-        if self.ended | self.awaiting {
+        if self.ended | self.exchange.awaiting {
             return Fetched {
                 session: self,
                 answer: Answer::Refused(Refusal::Phase),
             };
         }
-        if self.again {
-            let c = self.command;
+        if self.exchange.again {
+            let exchange = self.exchange;
+            let c = exchange.command;
             return self.send(c);
         }
         if self.finished {
@@ -57,7 +55,7 @@ impl Reading {
                 answer: Answer::End,
             };
         }
-        if self.last.0 < self.next.0 {
+        if self.told.last.0 < self.next.0 {
             self.ended = true;
             return Fetched {
                 session: self,

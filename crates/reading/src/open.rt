@@ -1,34 +1,32 @@
 // Opening a reading session.
 ghost use mathlib.Core.Path.{_≡_};
 ghost use Rattle.geometry.specs.Refused.{refusalNumber};
-ghost use Rattle.reading.specs.Open.{openedSaid, fresh, openRefused, openOn, openOf};
+ghost use Rattle.reading.specs.Open.{openedSaid, toldOf, fresh, openRefused, openOf};
 use crate::session::Opened;
 use crate::session::Reading;
-use drive::Command;
+use drive::Exchange;
+use frame::Header;
 use geometry::Address;
 use geometry::Geometry;
-use geometry::Place;
 use geometry::Refusal;
 use geometry::Seq;
 use geometry::Verdict;
-use header::is_valid;
+use header::Checked;
 use header::read_header;
+use judgement::Told;
 
 // A session at its first command.
-fn fresh_session(last: Address, pass: u16, ended: bool) -> Reading
-    ensures { λ r. ⌜ r ≡ fresh (last .0) pass ended ⌝ }
+fn fresh_session(told: Told) -> Reading
+    ensures { λ r. ⌜ r ≡ fresh told ⌝ }
 {
     Reading {
-        last: last,
-        pass: pass,
+        told: told,
         next: Address(10),
         locate: true,
         expected: Seq(0),
-        command: Command::ReadPosition,
-        awaiting: false,
-        again: false,
+        exchange: Exchange::unsent(),
         finished: false,
-        ended: ended,
+        ended: false,
     }
 }
 
@@ -36,24 +34,26 @@ fn fresh_session(last: Address, pass: u16, ended: bool) -> Reading
 fn refuse_opening(refusal: Refusal) -> Opened
     ensures { λ r. ⌜ openedSaid r ≡ openRefused (refusalNumber refusal) ⌝ }
 {
+    let mut session = fresh_session(Told {
+        last: Address(0),
+        pass: 0,
+    });
+    session.ended = true;
     Opened {
-        session: fresh_session(Address(0), 0, true),
+        session: session,
         verdict: Verdict::Refused(refusal),
     }
 }
 
-// On a header of the right length, on a cartridge with this LAST.
-fn open_on(last: Address, header: &[u8]) -> Opened
-    ensures { λ r. ⌜ openedSaid r ≡ openOn (last .0) (now (header .entry)) ⌝ }
+// What a header tells a reading.
+fn told_by(header: Header) -> Told
+    ensures { λ r. ⌜ r ≡ toldOf header ⌝ }
 {
-    if is_valid(last, header) {
-        let fields = read_header(header);
-        return Opened {
-            session: fresh_session(last, fields.pass, false),
-            verdict: Verdict::Accepted,
-        };
+    let last = header.last;
+    Told {
+        last: last,
+        pass: header.pass,
     }
-    refuse_opening(Refusal::Header)
 }
 
 impl Reading {
@@ -61,13 +61,13 @@ impl Reading {
     pub fn open(g: Geometry, header: &[u8]) -> Opened
         ensures { λ r. ⌜ openedSaid r ≡ openOf g (now (header .entry)) ⌝ }
     {
-        if header.len() != 33280 {
-            return refuse_opening(Refusal::Length);
-        }
-        let place = g.last();
-        match place {
-            Place::At(last) => open_on(last, header),
-            Place::Refused(r) => refuse_opening(r),
+        let checked = read_header(g, header);
+        match checked {
+            Checked::Valid(fields) => Opened {
+                session: fresh_session(told_by(fields)),
+                verdict: Verdict::Accepted,
+            },
+            Checked::Refused(r) => refuse_opening(r),
         }
     }
 }

@@ -1,9 +1,9 @@
 // Taking in a reply. Of the lent frame only the AUX is looked at.
 ghost use mathlib.Core.Path.{_≡_};
-ghost use Prim.Native.Nat.{_+_, _%_, _^_};
+ghost use Prim.Native.Nat.{_%_, _^_};
 ghost use Rattle.geometry.specs.Refused.{refusalNumber};
 ghost use Rattle.judgement.specs.Judgement.{foundSaid};
-ghost use Rattle.reading.specs.Reply.{deliverySaid, takenSaid, answering, refusing, ending, onward, addressOf, repeatedOf, locatedOf, skippedOf, deliveredOf, finishedOf, judgedBy, judgedOf, jumpedOf, caseOf, replyOf};
+ghost use Rattle.reading.specs.Reply.{deliverySaid, takenSaid, answering, refusing, ending, repeatedOf, movedOf, advancedOf, locatedOf, skippedOf, deliveredOf, finishedOf, judgedBy, judgedOf, jumpedOf, caseOf, replyOf};
 use crate::session::Delivery;
 use crate::session::Reading;
 use crate::session::Taken;
@@ -48,7 +48,8 @@ impl Reading {
     fn case(self, reply: Reply) -> u16
         ensures { λ r. ⌜ r ≡ caseOf self reply ⌝ }
     {
-        let c = self.command;
+        let exchange = self.exchange;
+        let c = exchange.command;
         (code(c) as u16) * 256 + (meaning(reply.key, reply.asc, reply.ascq) as u16)
     }
 
@@ -80,51 +81,46 @@ impl Reading {
     fn repeated(mut self) -> Reading
         ensures { λ r. ⌜ r ≡ repeatedOf self ⌝ }
     {
-        self.awaiting = false;
-        self.again = true;
+        let exchange = self.exchange;
+        self.exchange = exchange.repeated();
         self
     }
 
-    // The reply is taken in, and reading goes on at the next address.
-    fn onward(self, next: Address, locate: bool, expected: Seq, finished: bool) -> Reading
-        ensures { λ r. ⌜ r ≡ onward self (next .0) locate (expected .0) finished ⌝ }
+    // The reply is taken in, and reading goes on at an address, with a LOCATE of it or without.
+    fn moved(mut self, next: Address, locate: bool) -> Reading
+        ensures { λ r. ⌜ r ≡ movedOf self next locate ⌝ }
     {
-        Reading {
-            next: next,
-            locate: locate,
-            expected: expected,
-            awaiting: false,
-            finished: finished,
-            ..self
-        }
+        let exchange = self.exchange;
+        self.exchange = exchange.answered();
+        self.next = next;
+        self.locate = locate;
+        self
     }
 
     // Reading goes on one address behind the command's.
-    fn advanced(self, expected: Seq, finished: bool, delivery: Delivery) -> Taken
-        ensures { λ r. ⌜ takenSaid r ≡ answering (onward self (addressOf self + 1) (self .locate) (expected .0) finished) (deliverySaid delivery) ⌝ }
+    fn advanced(self) -> Reading
+        ensures { λ r. ⌜ r ≡ advancedOf self ⌝ }
     {
-        let c = self.command;
+        let exchange = self.exchange;
+        let c = exchange.command;
         let next = wrapped((address(c).0 as u64) + 1);
-        self.onward(next, self.locate, expected, finished)
-            .taken(delivery)
+        self.moved(next, self.locate)
     }
 
     // The drive stands at the command's address.
     fn located(self) -> Taken
         ensures { λ r. ⌜ takenSaid r ≡ locatedOf self ⌝ }
     {
-        let c = self.command;
-        let expected = self.expected;
-        self.onward(address(c), false, expected, self.finished)
-            .taken(Delivery::Nothing)
+        let exchange = self.exchange;
+        let c = exchange.command;
+        self.moved(address(c), false).taken(Delivery::Nothing)
     }
 
     // The address is passed over.
     fn skipped(self) -> Taken
         ensures { λ r. ⌜ takenSaid r ≡ skippedOf self ⌝ }
     {
-        let expected = self.expected;
-        self.advanced(expected, self.finished, Delivery::Nothing)
+        self.advanced().taken(Delivery::Nothing)
     }
 
     // The expected element is delivered, and the next one expected.
@@ -132,26 +128,28 @@ impl Reading {
         ensures { λ r. ⌜ takenSaid r ≡ deliveredOf self (deliverySaid delivery) ⌝ }
     {
         let expected = Seq(std::num::wrapping_add_u32(self.expected.0, 1));
-        self.advanced(expected, self.finished, delivery)
+        let mut session = self.advanced();
+        session.expected = expected;
+        session.taken(delivery)
     }
 
     // EOD ends reading.
     fn finished(self) -> Taken
         ensures { λ r. ⌜ takenSaid r ≡ finishedOf self ⌝ }
     {
-        let expected = self.expected;
-        self.advanced(expected, true, Delivery::End)
+        let mut session = self.advanced();
+        session.finished = true;
+        session.taken(Delivery::End)
     }
 
     // Nothing reads for 32 addresses: LOCATE behind them, or behind the second header group and its defect map.
     fn jumped(self) -> Taken
         ensures { λ r. ⌜ takenSaid r ≡ jumpedOf self ⌝ }
     {
-        let c = self.command;
-        let expected = self.expected;
+        let exchange = self.exchange;
+        let c = exchange.command;
         let next = wrapped(past_reserved((address(c).0 as u64) + 32));
-        self.onward(next, true, expected, self.finished)
-            .taken(Delivery::Nothing)
+        self.moved(next, true).taken(Delivery::Nothing)
     }
 
     // The expected element, or EOD.
@@ -169,9 +167,9 @@ impl Reading {
     fn judged(self, frame: &[u8]) -> Taken
         ensures { λ r. ⌜ takenSaid r ≡ judgedOf self (now (frame .entry)) ⌝ }
     {
-        let last = self.last;
+        let told = self.told;
         let expected = self.expected;
-        let judgement = judge_frame(last, self.pass, expected, frame);
+        let judgement = judge_frame(told, expected, frame);
         match judgement {
             Judgement::Skipped => self.skipped(),
             Judgement::Refused(r) => self.end(r),
@@ -183,7 +181,7 @@ impl Reading {
     pub fn reply(self, reply: Reply, frame: &[u8]) -> Taken
         ensures { λ r. ⌜ takenSaid r ≡ replyOf self reply (now (frame .entry)) ⌝ }
     {
-        if self.ended | !self.awaiting {
+        if self.ended | !self.exchange.awaiting {
             return self.refuse(Refusal::Phase);
         }
         if frame.len() != 33280 {

@@ -1,23 +1,22 @@
 // The session, and what its calls return.
 use drive::Command;
+use drive::Exchange;
 use geometry::Address;
 use geometry::Refusal;
 use geometry::Seq;
 use geometry::Verdict;
+use judgement::Told;
 
 pub struct Reading {
-    // LAST of the cartridge and the pass of its newest header.
-    pub last: Address,
-    pub pass: u16,
+    // What the newest header tells.
+    pub told: Told,
     // The next address, and whether a LOCATE of it comes before the READ.
     pub next: Address,
     pub locate: bool,
     // The number of the element that is expected next.
     pub expected: Seq,
-    // The last command, whether its reply is awaited, and whether it is to be given again.
-    pub command: Command,
-    pub awaiting: bool,
-    pub again: bool,
+    // The last command, and how it stands with its reply.
+    pub exchange: Exchange,
     // Whether EOD was read.
     pub finished: bool,
     // Whether a refusal of 8 to 12 has ended the session.

@@ -3,13 +3,13 @@ use Prim.Native.Nat.{ℕ, _+_, _-_, _%_, _^_}
 use mathlib.Core.Bool.{Bool, false, _||_}
 use mathlib.Core.List.{List}
 use lib.Dec.{eqb, ltb, leb}
-use lib.ListN.{length}
 use Rattle.geometry.specs.Pick.{pick}
-use Rattle.geometry.specs.Said.{Said, address, refused}
+use Rattle.geometry.specs.Said as said
+use Rattle.geometry.specs.Said.{Said}
 use Rattle.geometry.specs.Cartridge.{lastOf}
 use Rattle.geometry.specs.declared.cartridge.Geometry.{Geometry}
 use Rattle.frame.specs.declared.header.Header.{Header}
-use Rattle.header.specs.Valid.{validHeader, headerOf}
+use Rattle.header.specs.Read.{Checked, valid, refused, readHeader}
 use Rattle.drive.specs.Exchange.{unsent}
 use Rattle.copies.specs.Copies as copies
 use Rattle.elements.specs.Elements as elements
@@ -55,22 +55,18 @@ isExhausted h = leb 65534 (h .pass) || ltb 4294967293 (h .update)
 abbrev pub renewed : Header → Header
 renewed h = openingHeader (h .last .0) ((h .pass + 1) % 2 ^ 16) ((h .update + 1) % 2 ^ 32)
 
--- on a header: refusal 3 where it is invalid
-unfoldable pub openOn : ℕ → ℕ → ℕ → List ℕ → Result
-openOn last depth window h =
-    pick (validHeader last h) (openWith depth window (isExhausted (headerOf h)) (renewed (headerOf h))) (openRefused 3)
-
-abbrev pub openFor : Said → ℕ → ℕ → List ℕ → Result
-openFor (address last) depth window h = openOn last depth window h
-openFor (refused n) depth window h = openRefused n
+-- on a header that is valid; any other is refused with 1, 2 or 3
+abbrev pub openFor : Checked → ℕ → ℕ → Result
+openFor (valid old) depth window = openWith depth window (isExhausted old) (renewed old)
+openFor (refused n) depth window = openRefused n
 
 unfoldable pub openOf : Geometry → ℕ → ℕ → List ℕ → Result
-openOf g depth window h = pick (eqb (length h) 33280) (openFor (lastOf g) depth window h) (openRefused 1)
+openOf g depth window h = openFor (readHeader g h) depth window
 
 -- on none: pass 1 and update count 0
 abbrev pub openBlankFor : Said → ℕ → ℕ → Result
-openBlankFor (address last) depth window = openWith depth window false (openingHeader last 1 0)
-openBlankFor (refused n) depth window = openRefused n
+openBlankFor (said.address last) depth window = openWith depth window false (openingHeader last 1 0)
+openBlankFor (said.refused n) depth window = openRefused n
 
 unfoldable pub openBlankOf : Geometry → ℕ → ℕ → Result
 openBlankOf g depth window = openBlankFor (lastOf g) depth window

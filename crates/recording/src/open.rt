@@ -1,9 +1,8 @@
 // Opening a recording session.
 ghost use mathlib.Core.Path.{_≡_};
 ghost use Rattle.geometry.specs.Refused.{refusalNumber};
-ghost use Rattle.header.specs.Valid.{validHeader, headerOf};
 ghost use Rattle.recording.specs.Session.{outcomeSaid};
-ghost use Rattle.recording.specs.Open.{fresh, openRefused, openWith, isExhausted, renewed, openOn, openOf, openBlankOf};
+ghost use Rattle.recording.specs.Open.{fresh, openRefused, openWith, isExhausted, renewed, openOf, openBlankOf};
 use crate::session::Outcome;
 use crate::session::Recording;
 use crate::session::Setup;
@@ -16,7 +15,7 @@ use geometry::Address;
 use geometry::Geometry;
 use geometry::Place;
 use geometry::Refusal;
-use header::is_valid;
+use header::Checked;
 use header::read_header;
 
 // A session at its first command.
@@ -91,29 +90,15 @@ fn renew(old: Header) -> Header
     }
 }
 
-// On a header of the right length, on a cartridge with this LAST.
-fn open_on(last: Address, depth: u8, window: u8, header: &[u8]) -> Outcome
-    ensures { λ r. ⌜ outcomeSaid r ≡ openOn (last .0) depth window (now (header .entry)) ⌝ }
-{
-    if is_valid(last, header) {
-        let old = read_header(header);
-        return open_with(depth, window, is_exhausted(old), renew(old));
-    }
-    refuse_opening(Refusal::Header)
-}
-
 impl Recording {
     // On the newest header of the cartridge, for a drive that buffers `depth` frames, with a window of `window` blocks.
     pub fn open(g: Geometry, depth: u8, window: u8, header: &[u8]) -> Outcome
         ensures { λ r. ⌜ outcomeSaid r ≡ openOf g depth window (now (header .entry)) ⌝ }
     {
-        if header.len() != 33280 {
-            return refuse_opening(Refusal::Length);
-        }
-        let place = g.last();
-        match place {
-            Place::At(last) => open_on(last, depth, window, header),
-            Place::Refused(r) => refuse_opening(r),
+        let checked = read_header(g, header);
+        match checked {
+            Checked::Valid(old) => open_with(depth, window, is_exhausted(old), renew(old)),
+            Checked::Refused(r) => refuse_opening(r),
         }
     }
 

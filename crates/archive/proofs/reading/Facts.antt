@@ -1,4 +1,4 @@
--- What a tape whose fold ends with xs tells of every address before: the fold has a part of xs there, and goes on. Assumes nothing.
+-- What the fold of a tape is, address by address; where it ends with xs, it has a part of xs at every address before. Assumes nothing.
 use Prim.Native.Nat.{ℕ, zero, suc, _+_, _-_, _≤_, _<_}
 use mathlib.Core.Path.{_≡_, refl, sym, ap, subst, _∙_}
 use mathlib.Core.List.{List, [], _∷_, _++_}
@@ -14,13 +14,13 @@ use Rattle.geometry.proofs.PickLaws.{pick-by}
 use Rattle.geometry.proofs.Impossible.{never}
 use Rattle.judgement.specs.Judgement as judgement
 use Rattle.judgement.specs.Judgement.{Judged, judgeFrame}
-use Rattle.reading.proofs.Jump.{past-reserved-least}
-use Rattle.archive.specs.Tape.{Tape}
+use Rattle.geometry.proofs.PastReserved.{past-reserved-least}
+use Rattle.judgement.specs.declared.told.Told.{Told}
+use Rattle.archive.specs.Tape.{Tape, Cartridge}
 use Rattle.archive.specs.Recordings.{Element}
 use Rattle.archive.proofs.tape.Basics.{none-some}
-use Rattle.archive.proofs.tape.Scan.{Reader, going, ended, missing, advance, look, scan}
-use Rattle.archive.proofs.reading.Invariant.{RecordedTape}
-use Rattle.archive.proofs.tape.ScanLaws.{scan-over}
+use Rattle.archive.specs.Fold.{Reader, going, ended, stopped, advance, look, foldOf, wholeOf}
+use Rattle.archive.proofs.tape.ScanLaws.{fold-over}
 use mathlib.Core.Logic.{inl, inr}
 use Rattle.archive.proofs.tape.UserPlaces.{User, user-ranges, past-skips}
 
@@ -30,7 +30,7 @@ use Rattle.archive.proofs.tape.UserPlaces.{User, user-ranges, past-skip
 abbrev pub Counts : ℕ → Reader → Type 0
 Counts a (going n got) = (length got ≡ n) × (n ≤ a)
 Counts a (ended got) = Unit {0}
-Counts a missing = Unit {0}
+Counts a (stopped m) = Unit {0}
 
 advance-counts : (a : ℕ) (j : Judged) (f : List ℕ) (n : ℕ) (got : List Element) → Counts a (going n got) → Counts (suc a) (advance j f n got)
 advance-counts a judgement.skipped f n got c = (c .0, omega (arith, c .1))
@@ -42,28 +42,28 @@ advance-counts a judgement.end f n got c = tt
 more-counts : (a : ℕ) (r : Reader) → Counts a r → Counts (suc a) r
 more-counts a (going n got) c = (c .0, omega (arith, c .1))
 more-counts a (ended got) c = tt
-more-counts a missing c = tt
+more-counts a (stopped m) c = tt
 
-look-counts : (last pass a : ℕ) (v : Option (List ℕ)) (r : Reader) → Counts a r → Counts (suc a) (look last pass v r)
+look-counts : (told : Told) (a : ℕ) (v : Option (List ℕ)) (r : Reader) → Counts a r → Counts (suc a) (look told v r)
 unfolding look
-look-counts last pass a none r c = more-counts a r c
-look-counts last pass a (some f) (going n got) c = advance-counts a (judgeFrame last pass n f) f n got c
-look-counts last pass a (some f) (ended got) c = tt
-look-counts last pass a (some f) missing c = tt
+look-counts told a none r c = more-counts a r c
+look-counts told a (some f) (going n got) c = advance-counts a (judgeFrame told (record { 0 = n }) f) f n got c
+look-counts told a (some f) (ended got) c = tt
+look-counts told a (some f) (stopped m) c = tt
 
-pub scan-counts : (last pass : ℕ) (t : Tape) (a : ℕ) → Counts a (scan last pass t a)
-unfolding scan
-scan-counts last pass t zero = (refl, le-refl 0)
-scan-counts last pass t (suc a) =
-    pick-by (Counts (suc a)) (isUser last a) (λ _. look-counts last pass a (t a) (scan last pass t a) (scan-counts last pass t a))
-    (λ _. more-counts a (scan last pass t a) (scan-counts last pass t a))
+pub fold-counts : (told : Told) (t : Tape) (a : ℕ) → Counts a (foldOf told t a)
+unfolding foldOf
+fold-counts told t zero = (refl, le-refl 0)
+fold-counts told t (suc a) =
+    pick-by (Counts (suc a)) (isUser (told .last .0) a) (λ _. look-counts told a (t a) (foldOf told t a) (fold-counts told t a))
+    (λ _. more-counts a (foldOf told t a) (fold-counts told t a))
 
 -- ---- a fold on its way to xs
 
 abbrev pub Fits : List Element → Reader → Type 0
 Fits xs (going n got) = (got ≡ take n xs) × (n ≤ length xs)
 Fits xs (ended got) = got ≡ xs
-Fits xs missing = ⊥
+Fits xs (stopped m) = ⊥
 
 -- the first of a list with one more
 first-part : (xs got : List Element) (x : Element) (n : ℕ) → length got ≡ n → got ++ x ∷ [] ≡ take (n + 1) xs → n + 1 ≤ length xs → got ≡ take n xs
@@ -85,55 +85,83 @@ advance-back xs a judgement.end f n got c h =
     let e : length xs ≡ n = ap length (sym h) ∙ c .0 in
     (h ∙ sym (take-length xs) ∙ ap (λ (k : ℕ). take k xs) e, omega arith)
 
-look-back : (last pass : ℕ) (xs : List Element) (a : ℕ) (v : Option (List ℕ)) (r : Reader) → Counts a r → Fits xs (look last pass v r) → Fits xs r
+look-back : (told : Told) (xs : List Element) (a : ℕ) (v : Option (List ℕ)) (r : Reader) → Counts a r → Fits xs (look told v r) → Fits xs r
 unfolding look
-look-back last pass xs a none r c h = h
-look-back last pass xs a (some f) (going n got) c h = advance-back xs a (judgeFrame last pass n f) f n got c h
-look-back last pass xs a (some f) (ended got) c h = h
-look-back last pass xs a (some f) missing c h = absurd h
+look-back told xs a none r c h = h
+look-back told xs a (some f) (going n got) c h = advance-back xs a (judgeFrame told (record { 0 = n }) f) f n got c h
+look-back told xs a (some f) (ended got) c h = h
+look-back told xs a (some f) (stopped m) c h = absurd h
 
-step-back : (last pass : ℕ) (t : Tape) (xs : List Element) (a : ℕ) → Fits xs (scan last pass t (suc a)) → Fits xs (scan last pass t a)
-unfolding scan
-step-back last pass t xs a = pick-by (λ (r : Reader). Fits xs r → Fits xs (scan last pass t a)) (isUser last a) (λ _ h. look-back last pass xs a (t a) (scan last pass t a) (scan-counts last pass t a) h) (λ _ h. h)
+step-back : (told : Told) (t : Tape) (xs : List Element) (a : ℕ) → Fits xs (foldOf told t (suc a)) → Fits xs (foldOf told t a)
+unfolding foldOf
+step-back told t xs a = pick-by (λ (r : Reader). Fits xs r → Fits xs (foldOf told t a)) (isUser (told .last .0) a) (λ _ h. look-back told xs a (t a) (foldOf told t a) (fold-counts told t a) h) (λ _ h. h)
 
-scan-back : (last pass : ℕ) (t : Tape) (xs : List Element) (a n : ℕ) → Fits xs (scan last pass t (n + a)) → Fits xs (scan last pass t a)
-scan-back last pass t xs a zero h = let e : zero + a ≡ a = omega arith in subst (λ (k : ℕ). Fits xs (scan last pass t k)) e h
-scan-back last pass t xs a (suc n) h =
+fold-back : (told : Told) (t : Tape) (xs : List Element) (a n : ℕ) → Fits xs (foldOf told t (n + a)) → Fits xs (foldOf told t a)
+fold-back told t xs a zero h = let e : zero + a ≡ a = omega arith in subst (λ (k : ℕ). Fits xs (foldOf told t k)) e h
+fold-back told t xs a (suc n) h =
     let e : suc n + a ≡ suc (n + a) = omega arith in
-    scan-back last pass t xs a n (step-back last pass t xs (n + a) (subst (λ (k : ℕ). Fits xs (scan last pass t k)) e h))
+    fold-back told t xs a n (step-back told t xs (n + a) (subst (λ (k : ℕ). Fits xs (foldOf told t k)) e h))
 
-going-ended : {A : Type 0} {n : ℕ} {got xs : List Element} → going n got ≡ ended xs → A
+-- ---- the cartridge that is read, whoever wrote it
+
+pub record ReadTape (told : Told) (t : Tape) : Type 0 where
+  pub large : 3000 ≤ told .last .0
+  pub small : told .last .0 + 65 < 4294967296
+  pub cartridge : Cartridge (told .last .0) t
+
+pub going-ended : {A : Type 0} {n : ℕ} {got xs : List Element} → going n got ≡ ended xs → A
 going-ended e = never (cc)
 
-module _ {last pass : ℕ} {t : Tape} {xs : List Element} (k : RecordedTape last pass t xs) where
-  pub fits : (a : ℕ) → a ≤ last + 1 → Fits xs (scan last pass t a)
-  fits a l =
-      let e : last + 1 ≡ last + 1 - a + a = omega arith in
-      scan-back last pass t xs a (last + 1 - a) (subst (λ (i : ℕ). Fits xs (scan last pass t i)) e (subst (Fits xs) (sym (k .recorded)) refl))
+module _ {told : Told} {t : Tape} (k : ReadTape told t) where
+  -- nothing of the user's is below 10, from 2,990 to 2,999 or above LAST
+  none-low : (c : ℕ) → c < 10 → User (told .last .0) c → ⊥
+  none-low c u (inl h) = let x = h .0 in omega arith
+  none-low c u (inr h) = let x = h .0 in omega arith
 
-  -- a fold that goes on has not come to the end of the tape
-  pub not-past : {a n : ℕ} {got : List Element} → scan last pass t a ≡ going n got → a ≤ last
-  not-past {a} {n} {got} e = go (decLe a last)
-    where
-      above : last < a → scan last pass t a ≡ scan last pass t (last + 1)
-      above h = scan-over last pass t (k .cartridge .long) (last + 1) a (omega arith) (λ c f l u w _ _. go-up c l (user-ranges last c w))
-        where
-          go-up : (c : ℕ) → last + 1 ≤ c → User last c → ⊥
-          go-up c l (inl h) = let x = h .1 in omega (arith, k .large)
-          go-up c l (inr h) = let x = h .1 in omega arith
+  none-between : (c : ℕ) → 2990 ≤ c → c < 3000 → User (told .last .0) c → ⊥
+  none-between c l h (inl x) = let y = x .1 in omega arith
+  none-between c l h (inr x) = let y = x .0 in omega arith
 
-      go : Dec (a ≤ last) → a ≤ last
-      go (yes h) = h
-      go (no h) = going-ended (sym e ∙ above (omega arith) ∙ k .recorded)
+  none-above : (c : ℕ) → told .last .0 + 1 ≤ c → User (told .last .0) c → ⊥
+  none-above c l (inl h) = let x = h .1 in omega (arith, k .large)
+  none-above c l (inr h) = let x = h .1 in omega arith
 
-  -- nothing readable from there on: that can't be
-  pub not-blank : {a n : ℕ} {got : List Element} → scan last pass t a ≡ going n got → ((b : ℕ) → a ≤ b → t b ≡ none) → ⊥
-  not-blank {a} e blank =
-      going-ended (sym e ∙ sym (scan-over last pass t (k .cartridge .long) a (last + 1) (omega (arith, not-past e)) (λ c f l u w g _. none-some (sym (blank c l) ∙ g))) ∙ k .recorded)
+  pub fold-begins : foldOf told t 10 ≡ going 0 []
+  unfolding foldOf
+  fold-begins = fold-over told t (k .cartridge .long) 0 10 (omega arith) (λ c f l u w _ _. none-low c u (user-ranges (told .last .0) c w))
+
+  pub fold-crosses : foldOf told t 3000 ≡ foldOf told t 2990
+  fold-crosses = fold-over told t (k .cartridge .long) 2990 3000 (omega arith) (λ c f l u w _ _. none-between c l u (user-ranges (told .last .0) c w))
+
+  pub fold-above : (a : ℕ) → told .last .0 < a → foldOf told t a ≡ wholeOf told t
+  fold-above a h = fold-over told t (k .cartridge .long) (told .last .0 + 1) a (omega arith) (λ c f l u w _ _. none-above c l (user-ranges (told .last .0) c w))
+
+  -- nothing readable from there on
+  pub fold-blank : (a : ℕ) → a ≤ told .last .0 → ((b : ℕ) → a ≤ b → t b ≡ none) → wholeOf told t ≡ foldOf told t a
+  fold-blank a l blank = fold-over told t (k .cartridge .long) a (told .last .0 + 1) (omega arith) (λ c f l u w g _. none-some (sym (blank c l) ∙ g))
 
   -- a jump leaves nothing out
-  pub scan-jump : {n : ℕ} {got : List Element} (a : ℕ) → scan last pass t a ≡ going n got → ((b : ℕ) → a ≤ b → b < a + 32 → t b ≡ none) → scan last pass t (pastReserved (a + 32)) ≡ going n got
-  scan-jump a e blank =
-      scan-over last pass t (k .cartridge .long) (a + 32) (pastReserved (a + 32)) (past-reserved-least (a + 32)) (λ c f l u w _ _. past-skips last (a + 32) c l u w)
-      ∙ scan-over last pass t (k .cartridge .long) a (a + 32) (omega arith) (λ c f l u w g _. none-some (sym (blank c l u) ∙ g))
-      ∙ e
+  pub fold-jump : (a : ℕ) → ((b : ℕ) → a ≤ b → b < a + 32 → t b ≡ none) → foldOf told t (pastReserved (a + 32)) ≡ foldOf told t a
+  fold-jump a blank =
+      fold-over told t (k .cartridge .long) (a + 32) (pastReserved (a + 32)) (past-reserved-least (a + 32)) (λ c f l u w _ _. past-skips (told .last .0) (a + 32) c l u w)
+      ∙ fold-over told t (k .cartridge .long) a (a + 32) (omega arith) (λ c f l u w g _. none-some (sym (blank c l u) ∙ g))
+
+  -- ---- where the fold over the whole tape ends
+
+  module _ {xs : List Element} (ends : wholeOf told t ≡ ended xs) where
+    pub fits : (a : ℕ) → a ≤ told .last .0 + 1 → Fits xs (foldOf told t a)
+    fits a l =
+        let e : told .last .0 + 1 ≡ told .last .0 + 1 - a + a = omega arith in
+        fold-back told t xs a (told .last .0 + 1 - a) (subst (λ (i : ℕ). Fits xs (foldOf told t i)) e (subst (Fits xs) (sym ends) refl))
+
+    -- a fold that goes on has not come to the end of the tape
+    pub not-past : {a n : ℕ} {got : List Element} → foldOf told t a ≡ going n got → a ≤ told .last .0
+    not-past {a} {n} {got} e = go (decLe a (told .last .0))
+      where
+        go : Dec (a ≤ told .last .0) → a ≤ told .last .0
+        go (yes h) = h
+        go (no h) = going-ended (sym e ∙ fold-above a (omega arith) ∙ ends)
+
+    -- and finds something to read
+    pub not-blank : {a n : ℕ} {got : List Element} → foldOf told t a ≡ going n got → ((b : ℕ) → a ≤ b → t b ≡ none) → ⊥
+    not-blank {a} e blank = going-ended (sym e ∙ sym (fold-blank a (not-past e) blank) ∙ ends)

@@ -5,12 +5,11 @@ use mathlib.Core.Bool.{true, false, true≢false, _||_}
 use mathlib.Core.List.{List}
 use mathlib.Core.Logic.{_⊎_, inl, inr, ⊎-elim}
 use native.Mathlib.Omega.{arith}
-use borrow.Author.Tests.{eq-eqb, eqb-true}
+use borrow.Author.Tests.{eqb-true}
 use lib.Dec.{eqb}
 use lib.ListN.{length}
 use Rattle.geometry.specs.Said.{address}
 use Rattle.geometry.specs.Cartridge.{isUser, lastOf}
-use Rattle.geometry.proofs.PickLaws.{pick-t}
 use Rattle.geometry.proofs.TestLaws.{or-true}
 use Rattle.geometry.proofs.Impossible.{never}
 use Rattle.geometry.specs.declared.cartridge.Geometry.{Geometry}
@@ -18,6 +17,8 @@ use Rattle.frame.specs.Header.{headerFrame}
 use Rattle.frame.specs.Sent.{ReadsAs}
 use Rattle.frame.specs.declared.header.Header.{Header}
 use Rattle.header.specs.Valid.{validHeader, updateOf, headerOf}
+use Rattle.header.specs.Read.{Checked}
+use Rattle.header.proofs.ReadLaws.{valid-taken}
 use Rattle.header.proofs.AsRead.{read-valid, read-update, read-fields}
 use Rattle.header.proofs.Built.{built-valid, built-update, built-fields}
 use Rattle.archive.specs.Tape.{Tape, Cartridge}
@@ -98,7 +99,8 @@ module _ {last pass : ℕ} {premises : Type 0} {w : World} (set : Setting last p
       let all = subst (λ (n : ℕ). Seen last pass (w .accepted) n (l .k) (l .edge) (w .drive .tape)) (ap (λ (x : Stage). totalOf x (length (w .accepted))) s) (content .seen) in
       let seen = subst (λ (n : ℕ). Seen last pass (w .accepted) (length (w .accepted) + 1) n (last + 1) (w .drive .tape)) k (subst (λ (n : ℕ). Seen last pass (w .accepted) (length (w .accepted) + 1) (l .k) n (w .drive .tape)) edge all) in
       record {
-        tape = record { large = set .large; small = omega (arith, set .small); cartridge = content .tape; recorded = seen-recorded seen };
+        cartridge = content .tape;
+        recorded = seen-recorded seen;
         header = copy .frame;
         newest = copy-newest set (w .session .copies .header) (l .carried) copy (content .below);
         passes = newest-pass set (w .session .copies .header) (l .carried) copy (content .below);
@@ -111,10 +113,6 @@ completes w set (over _ o) pre unaltered reported = absurd (true≢false (sym re
 
 -- ---- a reading opens
 
-pub opens : (g : Geometry) (last : ℕ) (t : Tape) (h : List ℕ) → lastOf g ≡ address last → Cartridge last t → Newest last t h
-    → reading.openOf g h ≡ record { session = reading.fresh last (headerOf h .pass) false; number = 0 }
-unfolding reading.openOf reading.openOn
-opens g last t h e cart n =
-    pick-t _ (eq-eqb (length h) 33280 (cart .long (n .address) h (n .here .reads)))
-    ∙ ap (λ x. reading.openFor x h) e
-    ∙ pick-t _ (n .here .valid)
+pub opens : (g : Geometry) (last : ℕ) (t : Tape) (h : List ℕ) → lastOf g ≡ address last → Cartridge last t → Newest last t h → reading.openOf g h .number ≡ 0
+unfolding reading.openOf
+opens g last t h e cart n = ap (λ (c : Checked). reading.openFor c .number) (valid-taken g h e (cart .long (n .address) h (n .here .reads)) (n .here .valid))

@@ -38,9 +38,9 @@ use Rattle.archive.specs.Recordings.{World, Element}
 use Rattle.archive.specs.Demand.{Within}
 use Rattle.archive.proofs.tape.Basics.{none-sent}
 use Rattle.archive.proofs.tape.Scan.{Seen}
-use Rattle.archive.proofs.tape.ScanLaws.{scan-over}
+use Rattle.archive.proofs.tape.ScanLaws.{fold-over}
 use Rattle.archive.proofs.tape.SeenLaws.{seen-moves}
-use Rattle.archive.proofs.tape.Stands.{itemAt, StoredAs}
+use Rattle.archive.proofs.tape.Stands.{itemAt, telling, StoredAs}
 use Rattle.archive.proofs.tape.UserPlaces.{User, user-ranges}
 use Rattle.archive.proofs.recording.HeaderCopies.{Below}
 use Rattle.archive.proofs.recording.Completion.{copy-update}
@@ -66,7 +66,7 @@ seen-top {last} {pass} {edge = edge} {t = t} large cart l h = record {
   low = h .low;
   high = h .high;
   top = h .top;
-  seen = sym (scan-over last pass t (cart .long) (last + 1) edge l (λ c f b _ u _ _. above c b (user-ranges last c u))) ∙ h .seen;
+  seen = sym (fold-over (telling last pass) t (cart .long) (last + 1) edge l (λ c f b _ u _ _. above c b (user-ranges last c u))) ∙ h .seen;
   clean = λ a f b u _ _. above a b (user-ranges last a u);
 }
   where

@@ -24,7 +24,7 @@ use Rattle.recording.specs.Session.{withElements}
 use Rattle.recording.specs.Reply.{answeredOf}
 use Rattle.recording.specs.declared.session.Recording.{Recording}
 use Rattle.recording.proofs.Kept.{heldOf}
-use Rattle.reading.proofs.Jump.{past-reserved-least}
+use Rattle.geometry.proofs.PastReserved.{past-reserved-least}
 use Rattle.archive.specs.Recordings as recordings
 use Rattle.archive.proofs.tape.Basics.{no-frames}
 use Rattle.archive.proofs.tape.UserPlaces.{ranges-user, Landing, before, across, behind, landing}

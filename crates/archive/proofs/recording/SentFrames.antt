@@ -22,7 +22,7 @@ use Rattle.recording.specs.declared.session.Stage.the-variants as S
 use Rattle.archive.specs.Recordings.{Element, block, filemark}
 use Rattle.archive.proofs.tape.Basics.{reads-itself}
 use Rattle.archive.proofs.tape.WrittenFrames.{written-judged, written-data}
-use Rattle.archive.proofs.tape.Stands.{Item, element, eod, itemAt, kindFor, Carries, Stands, StoredAs}
+use Rattle.archive.proofs.tape.Stands.{Item, element, eod, itemAt, kindFor, Carries, telling, Stands, StoredAs}
 use Rattle.archive.proofs.tape.StandsLaws.{item-in, item-past}
 
 module _ (last pass : ℕ) (s : Recording) (window : List ℕ) (xs : List Element) (last-is : s .copies .header .last .0 ≡ last) (pass-is : s .copies .header .pass ≡ pass) (low : pass ≤ 65534)
@@ -33,11 +33,11 @@ module _ (last pass : ℕ) (s : Recording) (window : List ℕ) (xs : List Elemen
   exact : elements.numberOf (s .elements) (s .elements .outstanding) ≡ s .elements .first .0 + s .elements .outstanding
   exact = mod-eq-of-lt small
 
-  found : judgeFrame last pass (s .elements .first .0 + s .elements .outstanding) (writtenElement s window) ≡ foundSaid (kindOf s)
+  found : judgeFrame (telling last pass) (record { 0 = s .elements .first .0 + s .elements .outstanding }) (writtenElement s window) ≡ foundSaid (kindOf s)
   found =
-      sym (ap (λ (n : ℕ). judgeFrame n pass (s .elements .first .0 + s .elements .outstanding) (writtenElement s window)) last-is)
-      ∙ sym (ap (λ (n : ℕ). judgeFrame (s .copies .header .last .0) n (s .elements .first .0 + s .elements .outstanding) (writtenElement s window)) pass-is)
-      ∙ sym (ap (λ (n : ℕ). judgeFrame (s .copies .header .last .0) (s .copies .header .pass) n (writtenElement s window)) exact)
+      sym (ap (λ (n : ℕ). judgeFrame (telling n pass) (record { 0 = s .elements .first .0 + s .elements .outstanding }) (writtenElement s window)) last-is)
+      ∙ sym (ap (λ (n : ℕ). judgeFrame (telling (s .copies .header .last .0) n) (record { 0 = s .elements .first .0 + s .elements .outstanding }) (writtenElement s window)) pass-is)
+      ∙ sym (ap (λ (n : ℕ). judgeFrame (telling (s .copies .header .last .0) (s .copies .header .pass)) (record { 0 = n }) (writtenElement s window)) exact)
       ∙ written-judged s window long (omega (arith, pass-is)) (reads-itself (writtenElement s window))
 
   place-is : elementPlace s ≡ (s .elements .first .0 + s .elements .outstanding) % windowOf s

@@ -3,11 +3,11 @@ use Prim.Native.Nat.{ℕ, _+_, _^_, _≤_, _<_}
 use mathlib.Core.Path.{_≡_}
 use mathlib.Core.List.{List}
 use Rattle.header.specs.Valid.{headerOf}
-use Rattle.archive.specs.Tape.{Tape}
+use Rattle.archive.specs.Tape.{Tape, Cartridge}
 use Rattle.archive.specs.Headers.{Newest}
 use Rattle.archive.specs.Recordings.{Element}
 use Rattle.archive.specs.Demand.{Opening, OnNewest, NoneBears}
-use Rattle.archive.proofs.reading.Invariant.{RecordedTape}
+use Rattle.archive.proofs.tape.Scan.{Recorded}
 
 -- the numbers that the geometry and the opening fix
 pub record Setting (last pass : ℕ) : Type 0 where
@@ -21,7 +21,8 @@ Premises last pass t o = OnNewest last t o × NoneBears last t pass
 
 -- what a recording that reported done leaves
 pub record Leaves (last pass : ℕ) (t : Tape) (xs : List Element) : Type 0 where
-  pub tape : RecordedTape last pass t xs
+  pub cartridge : Cartridge last t
+  pub recorded : Recorded last pass t xs
   pub header : List ℕ
   pub newest : Newest last t header
   pub passes : (h : List ℕ) → Newest last t h → headerOf h .pass ≡ pass

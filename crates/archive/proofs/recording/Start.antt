@@ -1,72 +1,48 @@
 -- What the geometry and an opening fix, and that the invariant holds at the start. Assumes nothing.
-use Prim.Native.Nat.{ℕ, _+_, _-_, _*_, _%_, _^_, _≤_, _<_}
+use Prim.Native.Nat.{ℕ, _+_, _-_, _%_, _^_, _≤_, _<_}
 use mathlib.Core.Path.{_≡_, refl, sym, ap, subst, _∙_}
 use mathlib.Core.Bool.{Bool, true, false, _||_, true≢false}
 use mathlib.Core.List.{List, []}
 use mathlib.Core.Logic.{_⊎_, inl, inr, ⊎-elim}
-use native.Mathlib.Nat.{le-refl, mod-eq-of-lt, mul-le-mul}
+use native.Mathlib.Nat.{le-refl, mod-eq-of-lt}
 use native.Mathlib.Omega.{arith}
 use borrow.Author.Tests.{ltb-false, leb-false}
 use lib.Dec.{eqb, ltb, leb}
-use lib.ListN.{length, length-replicate}
+use lib.ListN.{length-replicate}
 use Rattle.geometry.specs.Said.{Said, address, refused}
-use Rattle.geometry.specs.Cartridge.{trackFrames, framesOf, lastOf, isUser}
+use Rattle.geometry.specs.Cartridge.{lastOf, isUser}
 use Rattle.geometry.specs.declared.cartridge.Geometry.{Geometry}
-use Rattle.geometry.specs.declared.cartridge.LoadPoint.{LoadPoint}
-use Rattle.geometry.specs.declared.cartridge.LoadPoint.the-variants.{Beginning, Centre}
 use Rattle.geometry.proofs.PickLaws.{pick-by}
+use Rattle.geometry.proofs.Last.{frames-of, last-small}
 use Rattle.geometry.proofs.TestLaws.{or-false}
 use Rattle.geometry.proofs.Impossible.{never}
 use Rattle.frame.specs.declared.header.Header.{Header}
 use Rattle.header.specs.Valid.{validHeader, headerOf}
+use Rattle.header.specs.Read as checked
+use Rattle.header.specs.Read.{Checked, readHeader}
 use Rattle.header.proofs.Facts.{valid-last}
+use Rattle.header.proofs.ReadLaws.{taken-valid, refused-number}
 use Rattle.archive.specs.Conduct.{Drive, AtRest}
 use Rattle.archive.specs.Tape.{Tape, Cartridge}
 use Rattle.copies.proofs.Counts.{start-counts}
 use Rattle.copies.proofs.DueAddress.{start-placed}
 use Rattle.recording.specs.Session.{Result, accepting}
-use Rattle.recording.specs.Open.{fresh, openRefused, openWith, isExhausted, renewed, openingHeader, openOn, openFor, openOf, openBlankFor, openBlankOf}
+use Rattle.recording.specs.Open.{fresh, openRefused, openWith, isExhausted, renewed, openingHeader, openFor, openOf, openBlankFor, openBlankOf}
 use Rattle.recording.specs.declared.session.Recording.{Recording}
 use Rattle.recording.specs.declared.session.Stage.the-variants as S
 use Rattle.archive.specs.Recordings as recordings
 use Rattle.archive.specs.Demand as demand
 use Rattle.archive.specs.Demand.{newPass, Opening, on-header, on-none, opened, OnNewest, NoneBears}
-use Rattle.archive.proofs.tape.Scan.{going, scan, Seen}
-use Rattle.archive.proofs.tape.ScanLaws.{seen-part, scan-over}
+use Rattle.archive.specs.Fold.{foldOf}
+use Rattle.archive.proofs.tape.Stands.{telling}
+use Rattle.archive.proofs.tape.Scan.{Seen}
+use Rattle.archive.proofs.tape.ScanLaws.{seen-part, fold-over}
 use Rattle.archive.proofs.tape.UserPlaces.{User, user-ranges}
 use Rattle.archive.proofs.recording.HeaderCopies.{Carried, Below}
 use Rattle.archive.proofs.recording.CopiesLink.{to-seek}
 use Rattle.archive.proofs.recording.Invariant as inv
 use Rattle.archive.proofs.recording.Invariant.{Inv, live}
 use Rattle.archive.proofs.recording.Setting.{Setting, Premises}
-
--- ---- the geometry
-
-pub record Frames (g : Geometry) (last : ℕ) : Type 0 where
-  pub large : 3000 ≤ last
-  pub most : last + 1 ≡ framesOf g
-
-address-same : {a b : ℕ} → _≡_ {A = Said} (address a) (address b) → a ≡ b
-address-same e = cc
-
-refused-address : {X : Type 0} {a b : ℕ} → _≡_ {A = Said} (refused a) (address b) → X
-refused-address e = never (cc)
-
-frames-of : (g : Geometry) (last : ℕ) → lastOf g ≡ address last → Frames g last
-frames-of g last =
-    pick-by (λ (s : Said). s ≡ address last → Frames g last) (ltb (framesOf g) 3001) (λ _ e. refused-address e)
-    (λ few e. let n = ltb-false (framesOf g) 3001 few in let same : framesOf g - 1 ≡ last = address-same e in record { large = omega arith; most = omega arith })
-
-track-low : (l : LoadPoint) (n : ℕ) → trackFrames l n ≤ n
-track-low Beginning n = le-refl n
-track-low Centre n = omega arith
-
-last-small : (g : Geometry) (last : ℕ) → g .segtrk < 2 ^ 16 → g .trks < 2 ^ 16 → Frames g last → last + 65 < 2 ^ 32
-last-small g last seg trk f =
-    let tracks : trackFrames (g .load) (g .segtrk) ≤ 65535 = omega (arith, track-low (g .load) (g .segtrk)) in
-    let rows : g .trks ≤ 65535 = omega arith in
-    let all : framesOf g ≤ 65535 * 65535 = mul-le-mul tracks rows in
-    omega (arith, f .most, all)
 
 -- ---- an opening that was accepted
 
@@ -99,11 +75,17 @@ module _ (g : Geometry) (last depth blocks : ℕ) (s : Recording) (e : lastOf g 
     pub with : (fresh depth (blocks - 1) (renewed (headerOf h)) ≡ s) × (blocks ≤ 64) × (isExhausted (headerOf h) ≡ false)
 
   on-header-view : (h : List ℕ) → openOf g depth blocks h ≡ accepting s → OnHeader h
-  unfolding openOf openOn
-  on-header-view h =
-      pick-by (λ (r : Result). r ≡ accepting s → OnHeader h) (eqb (length h) 33280)
-      (λ _ q. pick-by (λ (r : Result). r ≡ accepting s → OnHeader h) (validHeader last h) (λ v x. record { valid = v; with = opened-with depth blocks (isExhausted (headerOf h)) (renewed (headerOf h)) s x }) (λ _ x. refused-accepting 3 (omega arith) x) (sym (ap (λ (y : Said). openFor y depth blocks h) e) ∙ q))
-      (λ _ q. refused-accepting 1 (omega arith) q)
+  unfolding openOf
+  on-header-view h = go (readHeader g h) refl
+    where
+      With : Header → Type 0
+      With x = (fresh depth (blocks - 1) (renewed x) ≡ s) × (blocks ≤ 64) × (isExhausted x ≡ false)
+
+      go : (c : Checked) → readHeader g h ≡ c → openFor c depth blocks ≡ accepting s → OnHeader h
+      go (checked.valid fields) r q =
+          let taken = taken-valid g h e r in
+          record { valid = taken .is-valid; with = subst With (taken .told) (opened-with depth blocks (isExhausted fields) (renewed fields) s q) }
+      go (checked.refused n) r q = refused-accepting n (refused-number g h e r) q
 
   fresh-counts : (h : List ℕ) → OnHeader h → (headerOf h .pass < 65534) × (headerOf h .update ≤ 4294967293)
   fresh-counts h o =
@@ -181,13 +163,13 @@ sets g last depth blocks o s seg trk e q =
 -- ---- the start
 
 nothing-seen : (last pass : ℕ) (t : Tape) → Cartridge last t → NoneBears last t pass → Seen last pass [] 0 0 10 t
-unfolding scan
+unfolding foldOf
 nothing-seen last pass t cart none = record {
   m = 0;
   low = le-refl 0;
   high = omega arith;
   top = le-refl 0;
-  seen = scan-over last pass t (cart .long) 0 10 (omega arith) (λ c f l u w _ _. low c u (user-ranges last c w)) ∙ sym (seen-part [] 0 (le-refl 0));
+  seen = fold-over (telling last pass) t (cart .long) 0 10 (omega arith) (λ c f l u w _ _. low c u (user-ranges last c w)) ∙ sym (seen-part [] 0 (le-refl 0));
   clean = λ a f l u q. none a f u q;
 }
   where

@@ -24,23 +24,24 @@ use Rattle.archive.specs.Sample.{geometry, older, stopped, firstOpening,
 use Rattle.archive.proofs.tape.Basics.{reads-itself}
 use Rattle.archive.proofs.tape.ScanLaws.{put-other}
 use Rattle.archive.proofs.sample.Headers.{at}
+use Rattle.archive.proofs.tape.Stands.{telling}
 use Rattle.archive.proofs.tape.WrittenFrames.{block-fits}
 use Rattle.archive.proofs.sample.Tapes.{empty, same-reads, headers-elsewhere}
 use Rattle.archive.proofs.sample.ReadingExchange.{between, before, address-located, address-located-again, frame-read, unreadable-skipped, blank-jumped, end-said, reading-opened}
 use Rattle.archive.proofs.sample.FirstRecording.{older-fits, afterFailure, afterBlock, afterFilemark, firstOpened, firstWritten, firstLeft, first-valid, first-newest, first-readable}
 
-pub first-reading-opened : openOf geometry (headerFrame firstClosing) ≡ record { session = fresh 11999 1 false; number = 0 }
+pub first-reading-opened : openOf geometry (headerFrame firstClosing) ≡ record { session = fresh (telling 11999 1); number = 0 }
 first-reading-opened = reading-opened firstClosing refl (lit< tt) first-valid
 
 -- ---- the frames, as a reading of pass 1 judges them
 
-older-passed-over : judgement.judgeFrame 11999 1 0 (elementFrame older blank) ≡ judgement.skipped
-older-passed-over = judged-other-pass older (lit< tt) (lit< tt) blank older-fits (reads-itself (elementFrame older blank)) 11999 0 1 (λ q. omega arith)
+older-passed-over : judgement.judgeFrame (telling 11999 1) (record { 0 = 0 }) (elementFrame older blank) ≡ judgement.skipped
+older-passed-over = judged-other-pass older (lit< tt) (lit< tt) blank older-fits (reads-itself (elementFrame older blank)) (telling 11999 1) (record { 0 = 0 }) (λ q. omega arith)
 
-filemark-found : judgement.judgeFrame 11999 1 1 (elementFrame firstFilemark blank) ≡ judgement.filemark
+filemark-found : judgement.judgeFrame (telling 11999 1) (record { 0 = 1 }) (elementFrame firstFilemark blank) ≡ judgement.filemark
 filemark-found = judged-written firstFilemark (lit< tt) (lit< tt) blank refl (reads-itself (elementFrame firstFilemark blank))
 
-eod-found : judgement.judgeFrame 11999 1 2 (elementFrame firstEod blank) ≡ judgement.end
+eod-found : judgement.judgeFrame (telling 11999 1) (record { 0 = 2 }) (elementFrame firstEod blank) ≡ judgement.end
 eod-found = judged-written firstEod (lit< tt) (lit< tt) blank refl (reads-itself (elementFrame firstEod blank))
 
 -- ---- the tape
@@ -87,10 +88,10 @@ abbrev pub firstRead : List ℕ → World
 firstRead b = endWith (firstElements b)
 
 module _ (b : List ℕ) (full : length b ≡ 32768) where
-  block-found : judgement.judgeFrame 11999 1 0 (elementFrame firstBlock b) ≡ judgement.block
+  block-found : judgement.judgeFrame (telling 11999 1) (record { 0 = 0 }) (elementFrame firstBlock b) ≡ judgement.block
   block-found = judged-written firstBlock (lit< tt) (lit< tt) b (block-fits Data b full) (reads-itself (elementFrame firstBlock b))
 
-  from-fresh : (place : ℕ) → Runs (left b) (started (fresh 11999 1 false) place) (firstReading b) (endWith (block (take 32768 (elementFrame firstBlock b)) ∷ filemark ∷ []))
+  from-fresh : (place : ℕ) → Runs (left b) (started (fresh (telling 11999 1)) place) (firstReading b) (endWith (block (take 32768 (elementFrame firstBlock b)) ∷ filemark ∷ []))
   from-fresh place =
       let justBlock : List Element = block (take 32768 (elementFrame firstBlock b)) ∷ [] in
       let both : List Element = block (take 32768 (elementFrame firstBlock b)) ∷ filemark ∷ [] in
@@ -108,7 +109,7 @@ module _ (b : List ℕ) (full : length b ≡ 32768) where
   pub first-read : (place : ℕ) → Runs (left b) (started (openOf geometry (headerFrame firstClosing) .session) place) (firstReading b) (firstRead b)
   first-read place =
       subst (λ (x : Result). Runs (left b) (started (x .session) place) (firstReading b) (firstRead b)) (sym first-reading-opened)
-      (subst (λ (bytes : List ℕ). Runs (left b) (started (fresh 11999 1 false) place) (firstReading b) (endWith (block bytes ∷ filemark ∷ [])))
+      (subst (λ (bytes : List ℕ). Runs (left b) (started (fresh (telling 11999 1)) place) (firstReading b) (endWith (block bytes ∷ filemark ∷ [])))
       (element-data firstBlock b (block-fits Data b full)) (from-fresh place))
 
   -- and demand 3 speaks of this list

@@ -7,41 +7,39 @@ use mathlib.Core.Logic.{_⊎_, inl, inr}
 use mathlib.Core.Option.{Option, none, some}
 use native.Mathlib.Omega.{arith}
 use borrow.Author.Tests.{eq-eqb}
-use lib.Dec.{eqb, ltb, leb}
+use lib.Dec.{eqb, ltb}
 use lib.ListN.{length}
-use Rattle.geometry.specs.Pick.{pick}
 use Rattle.frame.specs.Header.{headerFrame}
 use Rattle.frame.specs.declared.header.Header.{Header}
 use Rattle.frame.proofs.Frames.{header-length}
 use Rattle.frame.proofs.HeaderFields.{header-pass}
-use Rattle.header.specs.Valid.{validHeader}
+use Rattle.header.specs.Valid.{validHeader, headerOf}
+use Rattle.header.proofs.Facts.{valid-last}
+use Rattle.header.proofs.ReadLaws.{valid-taken}
 use Rattle.archive.specs.Conduct.{Serves, locates, brings, misses, blanks}
 use Rattle.drive.specs.Command.{commandCode, commandAddress, commandBy}
 use Rattle.drive.specs.Listed.{Means}
 use Rattle.drive.specs.Senses as senses
-use Rattle.drive.specs.Senses.{meaningIn, meaningOf}
+use Rattle.drive.specs.Senses.{meaningIn}
 use Rattle.archive.specs.Tape.{Tape}
 use Rattle.drive.specs.declared.command.Command.{Command}
 use Rattle.drive.specs.declared.command.Command.the-variants.{Read, Locate}
 use Rattle.drive.specs.declared.reply.Reply.{Reply}
 use Rattle.drive.proofs.Cases.{command-by}
 use Rattle.judgement.specs.Judgement as judgement
-use Rattle.reading.specs.Open.{fresh, openOn, openOf}
+use Rattle.reading.specs.Open.{fresh, openFor, openOf}
 use Rattle.reading.specs.Fetch as fetch
 use Rattle.reading.specs.Reply as reply
 use Rattle.reading.specs.declared.session.Reading.{Reading}
 use Rattle.archive.specs.Recordings.{Element}
-use Rattle.archive.specs.Readings.{Flight, sent, answered, World, Call, fetching, replying, LentWith, withSession, fetchNumber, replyNumber, flightAfter, delivered, Calls, refuses, fetches, replies, serves, Runs, stop, call, drive, endAfter}
+use Rattle.archive.specs.Readings.{Flight, sent, answered, World, Call, fetching, replying, LentWith, withSession, fetchNumber, replyNumber, delivered, refusedAfter, repliesAfter, afterFetching, afterTaking, Calls, refuses, fetches, replies, serves, Runs, stop, call, drive, endAfter}
 use Rattle.archive.specs.Readings as readings
 use Rattle.archive.specs.Sample.{geometry, frame, good, recovered, unreadable, endOfData}
+use Rattle.archive.proofs.tape.Stands.{telling}
 use Rattle.archive.proofs.sample.Exchange.{framed}
 use Rattle.archive.proofs.sample.Headers.{at}
 
 -- ---- one call, or one exchange
-
--- replies taken in, busy ones aside
-abbrev afterCount : Reply → ℕ → ℕ
-afterCount r n = pick (eqb (meaningOf (r .key) (r .asc) (r .ascq)) senses.busy) n (n + 1)
 
 -- a command that is due, what its reply is answered, and the session after it
 pub record Step (s : Reading) (c : Command) (r : Reply) (lent : List ℕ) (said : reply.Said) (next : Reading) : Type 0 where
@@ -53,33 +51,11 @@ pub record Step (s : Reading) (c : Command) (r : Reply) (lent : List ℕ) (said 
 module _ (place : ℕ) (deliveries : List Element) (n : ℕ) where
   -- the end was answered where the session has finished
   abbrev pub world : Reading → Flight → World
-  world s f = record { session = s; at = place; flight = f; deliveries = deliveries; replies = n; refused = false; end = s .finished }
+  world s f = record { session = s; at = place; flight = f; notes = record { deliveries = deliveries; replies = n; refused = 0; end = s .finished } }
 
   -- between two commands
   abbrev pub between : Reading → World
   between s = world s readings.none
-
-  abbrev fetchedWorld : Bool → fetch.Fetching → World
-  fetchedWorld end x = record {
-    session = x .session;
-    at = place;
-    flight = flightAfter (x .said) readings.none;
-    deliveries = deliveries;
-    replies = n;
-    refused = pick (leb 8 (fetchNumber (x .said))) true false;
-    end = end;
-  }
-
-  abbrev repliedWorld : List ℕ → Bool → reply.Taking → World
-  repliedWorld lent end x = record {
-    session = x .session;
-    at = place;
-    flight = readings.none;
-    deliveries = deliveries ++ delivered (x .said) lent;
-    replies = n;
-    refused = pick (leb 8 (replyNumber (x .said))) true false;
-    end = endAfter (x .said) end;
-  }
 
 module _ (t : Tape) (deliveries : List Element) (n : ℕ) {cs : List Call} {u : World} where
   command-served : {place to : ℕ} {c : Command} {r : Reply} {given : Option (List ℕ)} (s : Reading) → fetch.fetchOf s ≡ fetch.sending s c → Serves t place c r given to
@@ -87,18 +63,18 @@ module _ (t : Tape) (deliveries : List Element) (n : ℕ) {cs : List Call} {u : 
       → Runs t (between place deliveries n s) (fetching ∷ cs) u
   command-served {place} {to} {c} {r} {given} s fetched serve rest =
       let w : World = between place deliveries n s in
-      let p : fetchedWorld place deliveries n (s .finished) (fetch.fetchOf s) ≡ world place deliveries n (fetch.awaits s c) (sent (commandBy (commandCode c) (commandAddress c))) = ap (λ (x : fetch.Fetching). fetchedWorld place deliveries n (s .finished) x) fetched in
+      let p : afterFetching w (fetch.fetchOf s) ≡ world place deliveries n (fetch.awaits s c) (sent (commandBy (commandCode c) (commandAddress c))) = ap (afterFetching w) fetched in
       call (subst (λ (x : World). Calls w fetching x) p (fetches (inl (ap (λ (x : fetch.Fetching). fetchNumber (x .said)) fetched)))) (drive (serves c r given to (ap sent (command-by c)) serve) rest)
 
   reply-taken : {place : ℕ} {r : Reply} {given : Option (List ℕ)} {lent : List ℕ} {said : reply.Said} {next : Reading} (s : Reading)
       → LentWith given lent → reply.replyOf s r lent ≡ record { session = next; said = said } → replyNumber said ≡ 0 → endAfter said (s .finished) ≡ next .finished
-      → Runs t (between place (deliveries ++ delivered said lent) (afterCount r n) next) cs u
+      → Runs t (between place (deliveries ++ delivered said lent) (repliesAfter r n) next) cs u
       → Runs t (world place deliveries n s (answered r given)) (replying r lent ∷ cs) u
   reply-taken {place} {r} {given} {lent} {said} {next} s given-is replied small ends rest =
       let v : World = world place deliveries n s (answered r given) in
-      let after : ℕ → Bool → World = λ k end. record { session = next; at = place; flight = readings.none; deliveries = deliveries ++ delivered said lent; replies = afterCount r n; refused = pick (leb 8 k) true false; end = end } in
-      let p : repliedWorld place deliveries (afterCount r n) lent (s .finished) (reply.replyOf s r lent) ≡ after (replyNumber said) (endAfter said (s .finished)) = ap (λ (x : reply.Taking). repliedWorld place deliveries (afterCount r n) lent (s .finished) x) replied in
-      let q : after (replyNumber said) (endAfter said (s .finished)) ≡ between place (deliveries ++ delivered said lent) (afterCount r n) next = ap (λ (k : ℕ). after k (endAfter said (s .finished))) small ∙ ap (λ (end : Bool). after 0 end) ends in
+      let after : ℕ → Bool → World = λ k end. record { session = next; at = place; flight = readings.none; notes = record { deliveries = deliveries ++ delivered said lent; replies = repliesAfter r n; refused = refusedAfter k 0; end = end } } in
+      let p : afterTaking v r lent (reply.replyOf s r lent) ≡ after (replyNumber said) (endAfter said (s .finished)) = ap (afterTaking v r lent) replied in
+      let q : after (replyNumber said) (endAfter said (s .finished)) ≡ between place (deliveries ++ delivered said lent) (repliesAfter r n) next = ap (λ (k : ℕ). after k (endAfter said (s .finished))) small ∙ ap (λ (end : Bool). after 0 end) ends in
       call (subst (λ (x : World). Calls v (replying r lent) x) (p ∙ q) (replies r given lent refl given-is (inl (ap (λ (x : reply.Taking). replyNumber (x .said)) replied ∙ small)))) rest
 
   -- with a frame of another length the reply is refused with 1, and is brought again
@@ -113,7 +89,7 @@ module _ (t : Tape) (deliveries : List Element) (n : ℕ) {cs : List Call} {u : 
 module _ (t : Tape) (deliveries : List Element) (n : ℕ) {cs : List Call} {u : World} where
   exchange : {place to : ℕ} {c : Command} {r : Reply} {given : Option (List ℕ)} {lent : List ℕ} {said : reply.Said} {next : Reading} (s : Reading)
       → Step s c r lent said next → Serves t place c r given to → LentWith given lent
-      → Runs t (between to (deliveries ++ delivered said lent) (afterCount r n) next) cs u
+      → Runs t (between to (deliveries ++ delivered said lent) (repliesAfter r n) next) cs u
       → Runs t (between place deliveries n s) (fetching ∷ replying r lent ∷ cs) u
   exchange {c = c} s step serve given-is rest = command-served t deliveries n s (step .fetched) serve (reply-taken t deliveries n (fetch.awaits s c) given-is (step .replied) (step .taken) (step .ends) rest)
 
@@ -122,14 +98,11 @@ module _ (t : Tape) (deliveries : List Element) (n : ℕ) {cs : List Call} {u : 
 -- a reading of a pass before a command
 abbrev pub before : ℕ → Command → ℕ → Bool → ℕ → Bool → Reading
 before pass c next locate expected finished = record {
-  last = at 11999;
-  pass = pass;
+  told = telling 11999 pass;
   next = at next;
   locate = locate;
   expected = record { 0 = expected };
-  command = c;
-  awaiting = false;
-  again = false;
+  exchange = record { command = c; awaiting = false; again = false };
   finished = finished;
   ended = false;
 }
@@ -162,7 +135,7 @@ module _ (pass : ℕ) (c : Command) (a expected : ℕ) (low : ltb 11999 a ≡ fa
   unfolding fetch.fetchOf fetch.commandOf
   read-fetched user = rw (low, user)
 
-  frame-replied : (clean : Bool) (f : List ℕ) → length f ≡ 33280 → (j : judgement.Judged) → judgement.judgeFrame 11999 pass expected f ≡ j → reply.replyOf reading (bringing clean) f ≡ reply.judgedBy j reading
+  frame-replied : (clean : Bool) (f : List ℕ) → length f ≡ 33280 → (j : judgement.Judged) → judgement.judgeFrame (telling 11999 pass) (record { 0 = expected }) f ≡ j → reply.replyOf reading (bringing clean) f ≡ reply.judgedBy j reading
   unfolding reply.replyOf reply.answerOf reply.judgedOf meaningIn
   frame-replied true f long j judged = rw (eq-eqb (length f) 33280 long, judged)
   frame-replied false f long j judged = rw (eq-eqb (length f) 33280 long, judged)
@@ -187,7 +160,7 @@ judged-ends judgement.block s = refl
 judged-ends judgement.filemark s = refl
 judged-ends judgement.end s = refl
 
-counted : (clean : Bool) (n : ℕ) → afterCount (bringing clean) n ≡ n + 1
+counted : (clean : Bool) (n : ℕ) → repliesAfter (bringing clean) n ≡ n + 1
 unfolding meaningIn
 counted true n = refl
 counted false n = refl
@@ -213,7 +186,7 @@ module _ (t : Tape) (pass : ℕ) (deliveries : List Element) (n : ℕ) (c : Comm
 
   module _ (user : eqb a 2990 ≡ false) where
     -- a frame, by its judgement
-    pub frame-read : (clean : Bool) (f : List ℕ) (j : judgement.Judged) → t a ≡ some f → length f ≡ 33280 → judgement.judgeFrame 11999 pass expected f ≡ j
+    pub frame-read : (clean : Bool) (f : List ℕ) (j : judgement.Judged) → t a ≡ some f → length f ≡ 33280 → judgement.judgeFrame (telling 11999 pass) (record { 0 = expected }) f ≡ j
         → replyNumber (reply.judgedBy j (reading pass c a expected low) .said) ≡ 0
         → Runs t (between (a + 1) (deliveries ++ delivered (reply.judgedBy j (reading pass c a expected low) .said) f) (n + 1) (reply.judgedBy j (reading pass c a expected low) .session)) cs u
         → Runs t (between a deliveries n (before pass c a false expected false)) (fetching ∷ replying (bringing clean) f ∷ cs) u
@@ -252,13 +225,16 @@ module _ (t : Tape) (place : ℕ) (deliveries : List Element) (n : ℕ) (pass : 
   pub end-said : Runs t (between place deliveries n ended) (fetching ∷ []) (between place deliveries n ended)
   end-said =
       call
-      (subst (λ (x : World). Calls (between place deliveries n ended) fetching x) (ap (λ (x : fetch.Fetching). fetchedWorld place deliveries n true x) end-fetched)
+      (subst (λ (x : World). Calls (between place deliveries n ended) fetching x) (ap (afterFetching (between place deliveries n ended)) end-fetched)
       (fetches (inl (ap (λ (x : fetch.Fetching). fetchNumber (x .said)) end-fetched)))) stop
 
 -- ---- the opening
 
 -- whatever AUX 4 to 11 hold
 pub reading-opened : (h : Header) → h .last .0 ≡ 11999 → h .pass < 2 ^ 16 → validHeader 11999 (headerFrame h) ≡ true
-    → openOf geometry (headerFrame h) ≡ record { session = fresh 11999 (h .pass) false; number = 0 }
-unfolding openOf openOn
-reading-opened h last small valid = rw (eq-eqb (length (headerFrame h)) 33280 (header-length h), valid, header-pass h small)
+    → openOf geometry (headerFrame h) ≡ record { session = fresh (telling 11999 (h .pass)); number = 0 }
+unfolding openOf
+reading-opened h last small valid =
+    ap openFor (valid-taken geometry (headerFrame h) refl (header-length h) valid)
+    ∙ ap (λ (x : ℕ). record { session = fresh (telling x (headerOf (headerFrame h) .pass)); number = 0 }) (valid-last 11999 (headerFrame h) valid)
+    ∙ ap (λ (x : ℕ). record { session = fresh (telling 11999 x); number = 0 }) (header-pass h small)

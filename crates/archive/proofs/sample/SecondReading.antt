@@ -23,21 +23,22 @@ use Rattle.archive.specs.Sample.{geometry, firstBlock, secondOpening, se
 use Rattle.archive.proofs.tape.Basics.{reads-itself}
 use Rattle.archive.proofs.tape.ScanLaws.{put-other}
 use Rattle.archive.proofs.sample.Headers.{at}
+use Rattle.archive.proofs.tape.Stands.{telling}
 use Rattle.archive.proofs.tape.WrittenFrames.{block-fits}
 use Rattle.archive.proofs.sample.Tapes.{same-reads, headers-elsewhere}
 use Rattle.archive.proofs.sample.ReadingExchange.{between, before, address-located, frame-read, unreadable-skipped, blank-jumped, end-said, reading-opened}
 use Rattle.archive.proofs.sample.FirstReading.{gap-empty}
 use Rattle.archive.proofs.sample.SecondRecording.{afterMark, afterError, secondStart, secondOpened, secondWritten, secondLeft, second-valid, second-newest, second-readable}
 
-pub second-reading-opened : openOf geometry (headerFrame secondClosing) ≡ record { session = fresh 11999 2 false; number = 0 }
+pub second-reading-opened : openOf geometry (headerFrame secondClosing) ≡ record { session = fresh (telling 11999 2); number = 0 }
 second-reading-opened = reading-opened secondClosing refl (lit< tt) second-valid
 
 -- ---- the frames, as a reading of pass 2 judges them
 
-filemark-found : judgement.judgeFrame 11999 2 0 (elementFrame secondFilemark blank) ≡ judgement.filemark
+filemark-found : judgement.judgeFrame (telling 11999 2) (record { 0 = 0 }) (elementFrame secondFilemark blank) ≡ judgement.filemark
 filemark-found = judged-written secondFilemark (lit< tt) (lit< tt) blank refl (reads-itself (elementFrame secondFilemark blank))
 
-eod-found : judgement.judgeFrame 11999 2 1 (elementFrame secondEod blank) ≡ judgement.end
+eod-found : judgement.judgeFrame (telling 11999 2) (record { 0 = 1 }) (elementFrame secondEod blank) ≡ judgement.end
 eod-found = judged-written secondEod (lit< tt) (lit< tt) blank refl (reads-itself (elementFrame secondEod blank))
 
 -- ---- the tape
@@ -75,10 +76,10 @@ abbrev pub secondRead : World
 secondRead = between 46 secondElements 7 (before 2 (Read (at 45)) 46 false 1 true)
 
 module _ (b : List ℕ) (full : length b ≡ 32768) where
-  block-passed-over : judgement.judgeFrame 11999 2 1 (elementFrame firstBlock b) ≡ judgement.skipped
-  block-passed-over = judged-other-pass firstBlock (lit< tt) (lit< tt) b (block-fits Data b full) (reads-itself (elementFrame firstBlock b)) 11999 1 2 (λ q. omega arith)
+  block-passed-over : judgement.judgeFrame (telling 11999 2) (record { 0 = 1 }) (elementFrame firstBlock b) ≡ judgement.skipped
+  block-passed-over = judged-other-pass firstBlock (lit< tt) (lit< tt) b (block-fits Data b full) (reads-itself (elementFrame firstBlock b)) (telling 11999 2) (record { 0 = 1 }) (λ q. omega arith)
 
-  from-fresh : (place : ℕ) → Runs (left b) (started (fresh 11999 2 false) place) (secondReading b) secondRead
+  from-fresh : (place : ℕ) → Runs (left b) (started (fresh (telling 11999 2)) place) (secondReading b) secondRead
   from-fresh place =
       address-located (left b) 2 [] 0 ReadPosition 10 0 refl place
       (frame-read (left b) 2 [] 1 (Locate (at 10)) 10 0 refl refl false (elementFrame secondFilemark blank) judgement.filemark (filemark-reads b) (element-length secondFilemark blank refl) filemark-found refl

@@ -5,16 +5,16 @@ use mathlib.Core.Bool.{true, false}
 use mathlib.Core.List.{List, [], _∷_}
 use mathlib.Core.Option.{some}
 use native.Mathlib.Omega.{arith}
-use borrow.Author.Tests.{eq-eqb}
 use lib.Dec.{lit<, lit≤}
 use lib.ListN.{length}
-use Rattle.geometry.proofs.PickLaws.{pick-t}
 use Rattle.frame.specs.declared.element.Kind.the-variants.{Data}
 use Rattle.frame.specs.Frame.{blank, elementFrame}
 use Rattle.frame.specs.Header.{headerFrame}
 use Rattle.frame.specs.declared.header.Header.{Header}
 use Rattle.frame.proofs.Frames.{header-length}
 use Rattle.header.specs.Valid.{validHeader}
+use Rattle.header.specs.Read.{Checked}
+use Rattle.header.proofs.ReadLaws.{valid-taken}
 use Rattle.frame.proofs.HeaderFields.{header-pass}
 use Rattle.header.proofs.Built.{built-valid, built-fields}
 use Rattle.archive.specs.Conduct as conduct
@@ -27,7 +27,7 @@ use Rattle.elements.specs.Trail.{trailOf}
 use Rattle.elements.specs.Due.{dueOf}
 use Rattle.elements.specs.Answer as answer
 use Rattle.elements.specs.declared.state.Elements.{Elements}
-use Rattle.recording.specs.Open.{fresh, isExhausted, renewed, openWith, openOn, openOf}
+use Rattle.recording.specs.Open.{fresh, isExhausted, renewed, openWith, openFor, openOf}
 use Rattle.recording.specs.Session.{accepting, settledOf}
 use Rattle.recording.specs.Accept.{filemarkOf, closeOf}
 use Rattle.recording.specs.Fetch.{decisionOf, writtenFrame, writtenElement, elementOf}
@@ -48,10 +48,9 @@ use Rattle.archive.proofs.Demand.{demand-3}
 -- ---- the opening
 
 pub second-opened : openOf geometry depth blocks (headerFrame firstClosing) ≡ accepting (fresh depth 0 secondOpening)
-unfolding openOf openOn openWith
+unfolding openOf openWith
 second-opened =
-    pick-t _ (eq-eqb (length (headerFrame firstClosing)) 33280 (header-length firstClosing))
-    ∙ pick-t _ first-valid
+    ap (λ (c : Checked). openFor c depth blocks) (valid-taken geometry (headerFrame firstClosing) refl (header-length firstClosing) first-valid)
     ∙ ap (λ (h : Header). openWith depth blocks (isExhausted h) (renewed h)) (built-fields firstClosing (lit< tt) (lit< tt) (lit< tt) (lit< tt))
 
 -- ---- the elements, by what has happened to them

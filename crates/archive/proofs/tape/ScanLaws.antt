@@ -13,12 +13,14 @@ use lib.ListN.{length, take, length-append}
 use lib.Seq.{take-all, take-suc, take-append-le}
 use Rattle.geometry.specs.Pick.{pick}
 use Rattle.geometry.specs.Cartridge.{isUser}
-use Rattle.geometry.proofs.PickLaws.{pick-t, pick-f}
+use Rattle.geometry.proofs.PickLaws.{pick-t, pick-f, pick-by}
 use Rattle.judgement.proofs.JudgeLaws.{other-pass}
+use Rattle.judgement.specs.declared.told.Told.{Told}
 use Rattle.archive.specs.Tape.{Tape, put, Bears}
 use Rattle.archive.specs.Recordings.{Element, filemark}
-use Rattle.archive.proofs.tape.Scan.{Reader, going, ended, missing, advance, look, scan, seenAs}
-use Rattle.archive.proofs.tape.Stands.{Item, itemAt, Stands}
+use Rattle.archive.specs.Fold.{Reader, going, ended, stopped, advance, look, foldOf}
+use Rattle.archive.proofs.tape.Scan.{seenAs}
+use Rattle.archive.proofs.tape.Stands.{Item, itemAt, telling, Stands}
 use Rattle.archive.proofs.tape.StandsLaws.{item-in, item-past, stands-below, given, advance-found}
 
 -- ---- a tape with one address changed
@@ -50,21 +52,21 @@ seen-more xs x m h =
 -- ---- one address
 
 -- a frame of another pass is passed over
-pub look-skip : (last pass : ℕ) (v : Option (List ℕ)) (r : Reader) → ((f : List ℕ) → v ≡ some f → length f ≡ 33280) → ((f : List ℕ) → v ≡ some f → Bears pass f → ⊥) → look last pass v r ≡ r
+pub look-skip : (told : Told) (v : Option (List ℕ)) (r : Reader) → ((f : List ℕ) → v ≡ some f → length f ≡ 33280) → ((f : List ℕ) → v ≡ some f → Bears (told .pass) f → ⊥) → look told v r ≡ r
 unfolding look
-look-skip last pass none r long other = refl
-look-skip last pass (some f) (going n got) long other = ap (λ j. advance j f n got) (other-pass last pass n f (long f refl) (other f refl))
-look-skip last pass (some f) (ended got) long other = refl
-look-skip last pass (some f) missing long other = refl
+look-skip told none r long other = refl
+look-skip told (some f) (going n got) long other = ap (λ j. advance j f n got) (other-pass told (record { 0 = n }) f (long f refl) (other f refl))
+look-skip told (some f) (ended got) long other = refl
+look-skip told (some f) (stopped m) long other = refl
 
 module _ (last pass : ℕ) (xs : List Element) (k : ℕ) (f : List ℕ) (s : Stands last pass (itemAt xs k) k f) where
-  brings : look last pass (some f) (going k (take k xs)) ≡ given (itemAt xs k) k (take k xs)
+  brings : look (telling last pass) (some f) (going k (take k xs)) ≡ given (itemAt xs k) k (take k xs)
   unfolding look
   brings = ap (λ j. advance j f k (take k xs)) (s .found) ∙ advance-found (itemAt xs k) f k (take k xs) (s .carries)
 
   -- the next item is delivered
-  pub look-next : k ≤ length xs → look last pass (some f) (seenAs xs k) ≡ seenAs xs (k + 1)
-  look-next h = ap (look last pass (some f)) (seen-part xs k h) ∙ brings ∙ go (leb (length xs) k) refl
+  pub look-next : k ≤ length xs → look (telling last pass) (some f) (seenAs xs k) ≡ seenAs xs (k + 1)
+  look-next h = ap (look (telling last pass) (some f)) (seen-part xs k h) ∙ brings ∙ go (leb (length xs) k) refl
     where
       go : (b : Bool) → leb (length xs) k ≡ b → given (itemAt xs k) k (take k xs) ≡ seenAs xs (k + 1)
       go true e =
@@ -77,64 +79,89 @@ module _ (last pass : ℕ) (xs : List Element) (k : ℕ) (f : List ℕ) (s : Sta
           ∙ sym (seen-part xs (k + 1) (omega arith))
 
   -- one that was delivered is passed over
-  pub look-again : look last pass (some f) (seenAs xs (k + 1)) ≡ seenAs xs (k + 1)
+  pub look-again : look (telling last pass) (some f) (seenAs xs (k + 1)) ≡ seenAs xs (k + 1)
   unfolding look
   look-again = go (leb (k + 1) (length xs)) refl
     where
-      go : (b : Bool) → leb (k + 1) (length xs) ≡ b → look last pass (some f) (seenAs xs (k + 1)) ≡ seenAs xs (k + 1)
+      go : (b : Bool) → leb (k + 1) (length xs) ≡ b → look (telling last pass) (some f) (seenAs xs (k + 1)) ≡ seenAs xs (k + 1)
       go true e =
           let r = seen-part xs (k + 1) (leb-true (k + 1) (length xs) e) in
-          ap (look last pass (some f)) r ∙ ap (λ j. advance j f (k + 1) (take (k + 1) xs)) (stands-below (k + 1) s (omega arith)) ∙ sym r
+          ap (look (telling last pass) (some f)) r ∙ ap (λ j. advance j f (k + 1) (take (k + 1) xs)) (stands-below (k + 1) s (omega arith)) ∙ sym r
       go false e =
           let r = seen-all xs (k + 1) (leb-false (k + 1) (length xs) e) in
-          ap (look last pass (some f)) r ∙ sym r
+          ap (look (telling last pass) (some f)) r ∙ sym r
 
 -- ---- the fold
 
-pub scan-user : (last pass : ℕ) (t : Tape) (a : ℕ) → isUser last a ≡ true → scan last pass t (a + 1) ≡ look last pass (t a) (scan last pass t a)
-unfolding scan
-scan-user last pass t a u = ap (scan last pass t) (add-one a) ∙ pick-t _ u
+pub fold-user : (told : Told) (t : Tape) (a : ℕ) → isUser (told .last .0) a ≡ true → foldOf told t (a + 1) ≡ look told (t a) (foldOf told t a)
+unfolding foldOf
+fold-user told t a u = ap (foldOf told t) (add-one a) ∙ pick-t _ u
 
-pub scan-other : (last pass : ℕ) (t : Tape) (a : ℕ) → isUser last a ≡ false → scan last pass t (a + 1) ≡ scan last pass t a
-unfolding scan
-scan-other last pass t a u = ap (scan last pass t) (add-one a) ∙ pick-f _ u
+pub fold-other : (told : Told) (t : Tape) (a : ℕ) → isUser (told .last .0) a ≡ false → foldOf told t (a + 1) ≡ foldOf told t a
+unfolding foldOf
+fold-other told t a u = ap (foldOf told t) (add-one a) ∙ pick-f _ u
+
+-- a reading that has ended or was refused stays so
+abbrev pub Final : Reader → Type 0
+Final (going n got) = ⊥
+Final (ended got) = Unit {0}
+Final (stopped m) = Unit {0}
+
+look-final : (told : Told) (v : Option (List ℕ)) (r : Reader) → Final r → look told v r ≡ r
+unfolding look
+look-final told none r h = refl
+look-final told (some f) (going n got) h = absurd h
+look-final told (some f) (ended got) h = refl
+look-final told (some f) (stopped m) h = refl
+
+fold-final-by : (told : Told) (t : Tape) (a n : ℕ) {r : Reader} → Final r → foldOf told t a ≡ r → foldOf told t (n + a) ≡ r
+unfolding foldOf
+fold-final-by told t a zero h e = let z : zero + a ≡ a = omega arith in ap (foldOf told t) z ∙ e
+fold-final-by told t a (suc n) {r} h e =
+    let z : suc n + a ≡ suc (n + a) = omega arith in
+    let before : foldOf told t (n + a) ≡ r = fold-final-by told t a n h e in
+    ap (foldOf told t) z
+    ∙ pick-by (λ (x : Reader). x ≡ r) (isUser (told .last .0) (n + a)) (λ _. ap (look told (t (n + a))) before ∙ look-final told (t (n + a)) r h) (λ _. before)
+
+pub fold-final : (told : Told) (t : Tape) (a b : ℕ) {r : Reader} → a ≤ b → Final r → foldOf told t a ≡ r → foldOf told t b ≡ r
+fold-final told t a b l h e = let z : b ≡ b - a + a = omega arith in ap (foldOf told t) z ∙ fold-final-by told t a (b - a) h e
 
 -- an address above changes nothing
-pub scan-put : (last pass : ℕ) (t : Tape) (a : ℕ) (v : Option (List ℕ)) (b : ℕ) → b ≤ a → scan last pass (put t a v) b ≡ scan last pass t b
-unfolding scan
-scan-put last pass t a v zero h = refl
-scan-put last pass t a v (suc b) h = rw (put-other t a v b (λ e. omega arith), scan-put last pass t a v b (omega arith))
+pub fold-put : (told : Told) (t : Tape) (a : ℕ) (v : Option (List ℕ)) (b : ℕ) → b ≤ a → foldOf told (put t a v) b ≡ foldOf told t b
+unfolding foldOf
+fold-put told t a v zero h = refl
+fold-put told t a v (suc b) h = rw (put-other t a v b (λ e. omega arith), fold-put told t a v b (omega arith))
 
 -- an address that is no user frame changes nothing
-pub scan-put-other : (last pass : ℕ) (t : Tape) (a : ℕ) (v : Option (List ℕ)) → isUser last a ≡ false → (b : ℕ) → scan last pass (put t a v) b ≡ scan last pass t b
-unfolding scan
-scan-put-other last pass t a v u zero = refl
-scan-put-other last pass t a v u (suc b) = go (scan-put-other last pass t a v u b) (eqb b a) refl
+pub fold-put-other : (told : Told) (t : Tape) (a : ℕ) (v : Option (List ℕ)) → isUser (told .last .0) a ≡ false → (b : ℕ) → foldOf told (put t a v) b ≡ foldOf told t b
+unfolding foldOf
+fold-put-other told t a v u zero = refl
+fold-put-other told t a v u (suc b) = go (fold-put-other told t a v u b) (eqb b a) refl
   where
-    go : scan last pass (put t a v) b ≡ scan last pass t b → (x : Bool) → eqb b a ≡ x → scan last pass (put t a v) (suc b) ≡ scan last pass t (suc b)
+    go : foldOf told (put t a v) b ≡ foldOf told t b → (x : Bool) → eqb b a ≡ x → foldOf told (put t a v) (suc b) ≡ foldOf told t (suc b)
     go rest true e =
         let same : b ≡ a = eqb-true b a e in
-        let other : isUser last b ≡ false = ap (isUser last) same ∙ u in
+        let other : isUser (told .last .0) b ≡ false = ap (isUser (told .last .0)) same ∙ u in
         pick-f _ other ∙ rest ∙ sym (pick-f _ other)
     go rest false e = rw (put-other t a v b (eqb-false b a e), rest)
 
-pub scan-put-at : (last pass : ℕ) (t : Tape) (a : ℕ) (v : Option (List ℕ)) → isUser last a ≡ true → scan last pass (put t a v) (a + 1) ≡ look last pass v (scan last pass t a)
-scan-put-at last pass t a v u = scan-user last pass (put t a v) a u ∙ rw (put-same t a v, scan-put last pass t a v a (le-refl a))
+pub fold-put-at : (told : Told) (t : Tape) (a : ℕ) (v : Option (List ℕ)) → isUser (told .last .0) a ≡ true → foldOf told (put t a v) (a + 1) ≡ look told v (foldOf told t a)
+fold-put-at told t a v u = fold-user told (put t a v) a u ∙ rw (put-same t a v, fold-put told t a v a (le-refl a))
 
 -- addresses with nothing of this pass are passed over
-module _ (last pass : ℕ) (t : Tape) (long : (a : ℕ) (f : List ℕ) → t a ≡ some f → length f ≡ 33280) where
-  scan-skip-by : (a n : ℕ) → ((b : ℕ) (f : List ℕ) → a ≤ b → b < n + a → isUser last b ≡ true → t b ≡ some f → Bears pass f → ⊥) → scan last pass t (n + a) ≡ scan last pass t a
-  unfolding scan
-  scan-skip-by a zero h = let e : zero + a ≡ a = omega arith in rw e
-  scan-skip-by a (suc n) h =
+module _ (told : Told) (t : Tape) (long : (a : ℕ) (f : List ℕ) → t a ≡ some f → length f ≡ 33280) where
+  fold-skip-by : (a n : ℕ) → ((b : ℕ) (f : List ℕ) → a ≤ b → b < n + a → isUser (told .last .0) b ≡ true → t b ≡ some f → Bears (told .pass) f → ⊥) → foldOf told t (n + a) ≡ foldOf told t a
+  unfolding foldOf
+  fold-skip-by a zero h = let e : zero + a ≡ a = omega arith in rw e
+  fold-skip-by a (suc n) h =
       let e : suc n + a ≡ suc (n + a) = omega arith in
-      rw e (go (isUser last (n + a)) refl ∙ scan-skip-by a n (λ b f l u. h b f l (omega arith)))
+      rw e (go (isUser (told .last .0) (n + a)) refl ∙ fold-skip-by a n (λ b f l u. h b f l (omega arith)))
     where
-      go : (x : Bool) → isUser last (n + a) ≡ x → pick x (look last pass (t (n + a)) (scan last pass t (n + a))) (scan last pass t (n + a)) ≡ scan last pass t (n + a)
-      go true u = look-skip last pass (t (n + a)) (scan last pass t (n + a)) (long (n + a)) (λ f e. h (n + a) f (omega arith) (omega arith) u e)
+      go : (x : Bool) → isUser (told .last .0) (n + a) ≡ x → pick x (look told (t (n + a)) (foldOf told t (n + a))) (foldOf told t (n + a)) ≡ foldOf told t (n + a)
+      go true u = look-skip told (t (n + a)) (foldOf told t (n + a)) (long (n + a)) (λ f e. h (n + a) f (omega arith) (omega arith) u e)
       go false u = refl
 
-  pub scan-over : (a b : ℕ) → a ≤ b → ((c : ℕ) (f : List ℕ) → a ≤ c → c < b → isUser last c ≡ true → t c ≡ some f → Bears pass f → ⊥) → scan last pass t b ≡ scan last pass t a
-  scan-over a b l h =
+  pub fold-over : (a b : ℕ) → a ≤ b → ((c : ℕ) (f : List ℕ) → a ≤ c → c < b → isUser (told .last .0) c ≡ true → t c ≡ some f → Bears (told .pass) f → ⊥) → foldOf told t b ≡ foldOf told t a
+  fold-over a b l h =
       let e : b ≡ b - a + a = omega arith in
-      ap (scan last pass t) e ∙ scan-skip-by a (b - a) (λ c f m u. h c f m (omega arith))
+      ap (foldOf told t) e ∙ fold-skip-by a (b - a) (λ c f m u. h c f m (omega arith))

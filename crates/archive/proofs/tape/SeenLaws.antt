@@ -12,12 +12,13 @@ use lib.ListN.{length, length-append}
 use Rattle.geometry.specs.Cartridge.{isUser}
 use Rattle.archive.specs.Conduct.{reads, Left, as-before, as-new, not-at-all}
 use Rattle.archive.specs.Tape.{Tape, Cartridge, put, Bears}
+use Rattle.archive.specs.Fold.{look}
 use Rattle.archive.specs.Recordings.{Element}
 use Rattle.archive.proofs.tape.Basics.{none-some}
-use Rattle.archive.proofs.tape.Scan.{look, seenAs, Seen, Recorded}
-use Rattle.archive.proofs.tape.Stands.{itemAt, Stands}
+use Rattle.archive.proofs.tape.Scan.{seenAs, Seen, Recorded}
+use Rattle.archive.proofs.tape.Stands.{itemAt, telling, Stands}
 use Rattle.archive.proofs.tape.StandsLaws.{stands-read}
-use Rattle.archive.proofs.tape.ScanLaws.{put-same, put-other, seen-all, seen-more, look-skip, look-next, look-again, scan-put-other, scan-put-at, scan-over}
+use Rattle.archive.proofs.tape.ScanLaws.{put-same, put-other, seen-all, seen-more, look-skip, look-next, look-again, fold-put-other, fold-put-at, fold-over}
 
 -- ---- one element more, and EOD
 
@@ -54,7 +55,7 @@ seen-elsewhere {last} {pass} {edge = edge} {t = t} a v u h = record {
   low = h .low;
   high = h .high;
   top = h .top;
-  seen = scan-put-other last pass t a v u edge ∙ h .seen;
+  seen = fold-put-other (telling last pass) t a v u edge ∙ h .seen;
   clean = λ b f l w e. h .clean b f l w (sym (put-other t a v b (λ q. true≢false (sym w ∙ ap (isUser last) q ∙ u))) ∙ e);
 }
 
@@ -66,7 +67,7 @@ module _ {last pass total k : ℕ} {xs : List Element} {t : Tape} (cart : Cartri
     low = h .low;
     high = h .high;
     top = h .top;
-    seen = scan-over last pass t (cart .long) edge target l (λ c f b _. h .clean c f b) ∙ h .seen;
+    seen = fold-over (telling last pass) t (cart .long) edge target l (λ c f b _. h .clean c f b) ∙ h .seen;
     clean = λ c f b. h .clean c f (omega arith);
   }
 
@@ -75,15 +76,15 @@ module _ {last pass total k : ℕ} {xs : List Element} {t : Tape} (cart : Cartri
     clean-put v b f l u e = h .clean b f (omega arith) u (sym (put-other t a v b (λ q. omega arith)) ∙ e)
 
     -- the frame of item k brings a reading to k + 1, whether it had that already or not
-    reach : (f : List ℕ) → Stands last pass (itemAt xs k) k f → look last pass (some f) (seenAs xs (h .m)) ≡ seenAs xs (k + 1)
+    reach : (f : List ℕ) → Stands last pass (itemAt xs k) k f → look (telling last pass) (some f) (seenAs xs (h .m)) ≡ seenAs xs (k + 1)
     reach f s = go (eq-or-lt-of-le (h .low))
       where
-        go : (k ≡ h .m) ⊎ (k < h .m) → look last pass (some f) (seenAs xs (h .m)) ≡ seenAs xs (k + 1)
-        go (inl e) = subst (λ (n : ℕ). look last pass (some f) (seenAs xs n) ≡ seenAs xs (k + 1)) e (look-next last pass xs k f s (omega arith))
+        go : (k ≡ h .m) ⊎ (k < h .m) → look (telling last pass) (some f) (seenAs xs (h .m)) ≡ seenAs xs (k + 1)
+        go (inl e) = subst (λ (n : ℕ). look (telling last pass) (some f) (seenAs xs n) ≡ seenAs xs (k + 1)) e (look-next last pass xs k f s (omega arith))
         go (inr l) =
             let high = h .high in
             let e : k + 1 ≡ h .m = omega arith in
-            subst (λ (n : ℕ). look last pass (some f) (seenAs xs n) ≡ seenAs xs (k + 1)) e (look-again last pass xs k f s)
+            subst (λ (n : ℕ). look (telling last pass) (some f) (seenAs xs n) ≡ seenAs xs (k + 1)) e (look-again last pass xs k f s)
 
     pub seen-writes : (f : List ℕ) → Stands last pass (itemAt xs k) k f → Seen last pass xs total (k + 1) (a + 1) (put t a (some f))
     seen-writes f s = record {
@@ -91,29 +92,29 @@ module _ {last pass total k : ℕ} {xs : List Element} {t : Tape} (cart : Cartri
       low = le-refl (k + 1);
       high = omega arith;
       top = room;
-      seen = scan-put-at last pass t a (some f) here ∙ ap (look last pass (some f)) (h .seen) ∙ reach f s;
+      seen = fold-put-at (telling last pass) t a (some f) here ∙ ap (look (telling last pass) (some f)) (h .seen) ∙ reach f s;
       clean = clean-put (some f);
     }
 
-    failed-with : (n : ℕ) → k ≤ n → n ≤ k + 1 → n ≤ total → (v : Option (List ℕ)) → look last pass v (seenAs xs (h .m)) ≡ seenAs xs n → Seen last pass xs total k (a + 1) (put t a v)
+    failed-with : (n : ℕ) → k ≤ n → n ≤ k + 1 → n ≤ total → (v : Option (List ℕ)) → look (telling last pass) v (seenAs xs (h .m)) ≡ seenAs xs n → Seen last pass xs total k (a + 1) (put t a v)
     failed-with n l u top v e = record {
       m = n;
       low = l;
       high = u;
       top = top;
-      seen = scan-put-at last pass t a v here ∙ ap (look last pass v) (h .seen) ∙ e;
+      seen = fold-put-at (telling last pass) t a v here ∙ ap (look (telling last pass) v) (h .seen) ∙ e;
       clean = clean-put v;
     }
 
     -- a failed address reads as before, as the new frame, or not at all
     pub seen-fails : (f : List ℕ) (v : Option (List ℕ)) → Stands last pass (itemAt xs k) k f → Left (t a) f v → Seen last pass xs total k (a + 1) (put t a v)
     seen-fails f v s as-before =
-        failed-with (h .m) (h .low) (h .high) (h .top) (t a) (look-skip last pass (t a) (seenAs xs (h .m)) (cart .long a) (λ g e. h .clean a g (le-refl a) here e))
+        failed-with (h .m) (h .low) (h .high) (h .top) (t a) (look-skip (telling last pass) (t a) (seenAs xs (h .m)) (cart .long a) (λ g e. h .clean a g (le-refl a) here e))
     seen-fails f v s (as-new _ (reads read r)) = failed-with (k + 1) (omega arith) (le-refl (k + 1)) room (some read) (reach read (stands-read s r))
     seen-fails f v s not-at-all = failed-with (h .m) (h .low) (h .high) (h .top) none refl-none
       where
-        refl-none : look last pass none (seenAs xs (h .m)) ≡ seenAs xs (h .m)
-        refl-none = look-skip last pass none (seenAs xs (h .m)) (λ g e. absurd (none-some e)) (λ g e _. none-some e)
+        refl-none : look (telling last pass) none (seenAs xs (h .m)) ≡ seenAs xs (h .m)
+        refl-none = look-skip (telling last pass) none (seenAs xs (h .m)) (λ g e. absurd (none-some e)) (λ g e _. none-some e)
 
 -- all items on tape
 pub seen-recorded : {last pass : ℕ} {xs : List Element} {t : Tape} → Seen last pass xs (length xs + 1) (length xs + 1) (last + 1) t → Recorded last pass t xs

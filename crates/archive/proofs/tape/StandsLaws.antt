@@ -12,8 +12,8 @@ use Rattle.judgement.proofs.JudgeView.{JudgeView, judge-view, found-known}
 use Rattle.judgement.proofs.JudgeLaws.{below-so}
 use Rattle.judgement.proofs.Unread.{judged-as-sent}
 use Rattle.archive.specs.Recordings.{Element, block, filemark}
-use Rattle.archive.proofs.tape.Scan.{Reader, going, ended, advance}
-use Rattle.archive.proofs.tape.Stands.{Item, element, eod, itemAt, kindFor, Carries, Stands}
+use Rattle.archive.specs.Fold.{Reader, going, ended, advance}
+use Rattle.archive.proofs.tape.Stands.{Item, element, eod, itemAt, kindFor, Carries, telling, Stands}
 
 -- ---- items
 
@@ -44,18 +44,18 @@ carries-read (element filemark) r c = tt
 carries-read eod r c = tt
 
 pub stands-read : {last pass i : ℕ} {x : Item} {sent read : List ℕ} → Stands last pass x i sent → ReadsAs sent read → Stands last pass x i read
-stands-read {last} {pass} {i} {x} s r = record { found = judged-as-sent r last pass i ∙ s .found; carries = carries-read x r (s .carries) }
+stands-read {last} {pass} {i} {x} s r = record { found = judged-as-sent r (telling last pass) (record { 0 = i }) ∙ s .found; carries = carries-read x r (s .carries) }
 
-pub stands-found : {last pass i : ℕ} {x : Item} {f : List ℕ} → Stands last pass x i f → FoundAs last pass i (kindFor x) f
-stands-found {last} {pass} {i} {x} {f} s = found-known (kindFor x) (subst (λ (j : Judged). JudgeView last pass i f j) (s .found) (judge-view last pass i f))
+pub stands-found : {last pass i : ℕ} {x : Item} {f : List ℕ} → Stands last pass x i f → FoundAs (telling last pass) (record { 0 = i }) (kindFor x) f
+stands-found {last} {pass} {i} {x} {f} s = found-known (kindFor x) (subst (λ (j : Judged). JudgeView (telling last pass) (record { 0 = i }) f j) (s .found) (judge-view (telling last pass) (record { 0 = i }) f))
 
 pub stands-long : {last pass i : ℕ} {x : Item} {f : List ℕ} → Stands last pass x i f → length f ≡ 33280
 stands-long s = stands-found s .typed .long
 
-pub stands-below : {last pass i : ℕ} {x : Item} {f : List ℕ} (n : ℕ) → Stands last pass x i f → i < n → judgeFrame last pass n f ≡ skipped
+pub stands-below : {last pass i : ℕ} {x : Item} {f : List ℕ} (n : ℕ) → Stands last pass x i f → i < n → judgeFrame (telling last pass) (record { 0 = n }) f ≡ skipped
 stands-below {last} {pass} {i} {x} {f} n s h =
     let a = stands-found s in
-    below-so last pass n f (kindFor x) (a .typed) (subst (λ (k : ℕ). k < n) (sym (a .number)) h)
+    below-so (telling last pass) (record { 0 = n }) f (kindFor x) (a .typed) (subst (λ (k : ℕ). k < n) (sym (a .number)) h)
 
 -- what it brings
 abbrev pub given : Item → ℕ → List Element → Reader

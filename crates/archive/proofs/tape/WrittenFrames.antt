@@ -20,6 +20,7 @@ use Rattle.recording.specs.Window.{blockAt}
 use Rattle.recording.specs.Fetch.{kindOf, elementOf, elementPlace, writtenElement}
 use Rattle.recording.proofs.BlockPlace.{place-inside, block-length}
 use Rattle.recording.specs.declared.session.Recording.{Recording}
+use Rattle.archive.proofs.tape.Stands.{telling}
 
 pub block-fits : (k : Kind) (b : List ℕ) → length b ≡ 32768 → elementFits k 33280 (length b) ≡ true
 block-fits Data b h = eq-eqb (length b) 32768 h
@@ -34,7 +35,7 @@ module _ (s : Recording) (window : List ℕ) (long : length window ≡ windowLen
   fitting = block-fits (kindOf s) (blockAt window (elementPlace s)) (block-length window (elementPlace s) inside)
 
   pub written-judged : {r : List ℕ} → s .copies .header .pass < 2 ^ 16 → ReadsAs (writtenElement s window) r
-      → judgeFrame (s .copies .header .last .0) (s .copies .header .pass) (numberOf (s .elements) (s .elements .outstanding)) r ≡ foundSaid (kindOf s)
+      → judgeFrame (telling (s .copies .header .last .0) (s .copies .header .pass)) (record { 0 = numberOf (s .elements) (s .elements .outstanding) }) r ≡ foundSaid (kindOf s)
   unfolding writtenElement elementOf
   written-judged small reads =
       judged-written (elementOf s) small (mod-lt (s .elements .first .0 + s .elements .outstanding) (lit< tt)) (blockAt window (elementPlace s)) fitting reads

@@ -1,44 +1,79 @@
--- Each branch is the case of the definition that its tests name. Assumes nothing.
-use mathlib.Core.Path.{sym, ap, _∙_}
+-- x Assumes nothing.
+use Rattle.header.proofs.ReadLaws.{taken-long}
+-- Each pair of arms is the case of the definition for what the parts are. Assumes nothing.
+use Rattle.header.proofs.Choices.{by-checked}
+use Rattle.header.specs.Read.{checkedSaid}
+use Rattle.header.specs.Choice.{none}
+use mathlib.Core.Path.{ap, sym, _∙_}
 use borrow.Author.Needs.{needs}
-use Rattle.geometry.specs.Said.{placeSaid}
-use Rattle.header.proofs.Choices.{wrong-first, wrong-second, right-lengths}
 use Rattle.header.proofs.choice.decide.Statement.{statement}
 use Rattle.header.proofs.choice.decide.Tie as tie
 
+read-header-requires : tie.Need-read-header-requires
+read-header-requires c κs = search needs
+
+read-header-requires-2 : tie.Need-read-header-requires-2
+read-header-requires-2 c κs = search needs
+
+enum-told : tie.Need-enum-told
+enum-told c = search needs
+
+enum-told-2 : tie.Need-enum-told-2
+enum-told-2 c = search needs
+
+newer-requires : tie.Need-newer-requires
+newer-requires c κs = (taken-long _ _ (sym (c .before .before .before .before .before .read-header .ensures) ∙ ap checkedSaid (c .before .before .enum-told .given .1)), taken-long _ _ (sym (c .before .before .before .before .read-header2 .ensures) ∙ ap checkedSaid (c .enum-told2 .given .1)))
+
+enum-known-other : tie.Need-enum-known-other
+enum-known-other c = search needs
+
+give-way-requires : tie.Need-give-way-requires
+give-way-requires c κs = search needs
+
+enum-known-one : tie.Need-enum-known-one
+enum-known-one c = search needs
+
+enum-told-3 : tie.Need-enum-told-3
+enum-told-3 c = search needs
+
+give-way-requires-2 : tie.Need-give-way-requires-2
+give-way-requires-2 c κs = search needs
+
+enum-known-other-2 : tie.Need-enum-known-other-2
+enum-known-other-2 c = search needs
+
+lower-requires : tie.Need-lower-requires
+lower-requires c κs = search needs
+
 returns : tie.Need-returns
-returns c = wrong-first _ _ _ (c .if1 .taken)
+returns c = c .newer .ensures ∙ by-checked _ _ _ (ap checkedSaid (sym (c .before .before .before .enum-told .given .1)) ∙ c .before .before .before .before .before .before .read-header .ensures) (ap checkedSaid (sym (c .before .enum-told2 .given .1)) ∙ c .before .before .before .before .before .read-header2 .ensures)
 
 returns-2 : tie.Need-returns-2
-returns-2 c = wrong-second _ _ _ (c .before .if1 .left) (c .if2 .taken)
-
-last-requires : tie.Need-last-requires
-last-requires c κs = search needs
-
-enum-known-place : tie.Need-enum-known-place
-enum-known-place c = search needs
-
-choice-for-requires : tie.Need-choice-for-requires
-choice-for-requires c κs = search needs
-
-enum-known-place-2 : tie.Need-enum-known-place-2
-enum-known-place-2 c = search needs
+returns-2 c = c .give-way .ensures ∙ by-checked _ _ _ (ap checkedSaid (sym (c .before .before .before .before .enum-told .given .1)) ∙ c .before .before .before .before .before .before .before .read-header .ensures) (ap checkedSaid (sym (c .before .before .other .given .1)) ∙ c .before .before .before .before .before .before .read-header2 .ensures)
 
 returns-3 : tie.Need-returns-3
-returns-3 c = c .choice-for .ensures ∙ right-lengths _ _ _ (ap placeSaid (sym (c .before .before .place .given .1)) ∙ c .before .before .before .before .last .ensures) (c .before .before .before .before .before .before .if1 .left) (c .before .before .before .before .before .if2 .left)
+returns-3 c = c .give-way2 .ensures ∙ by-checked _ _ _ (ap checkedSaid (sym (c .before .before .before .before .one .given .1)) ∙ c .before .before .before .before .before .before .before .read-header .ensures) (ap checkedSaid (sym (c .before .enum-told3 .given .1)) ∙ c .before .before .before .before .before .before .read-header2 .ensures)
 
 returns-4 : tie.Need-returns-4
-returns-4 c = right-lengths _ _ _ (ap placeSaid (sym (c .before .place2 .given .1)) ∙ c .before .before .before .last .ensures) (c .before .before .before .before .before .if1 .left) (c .before .before .before .before .if2 .left)
+returns-4 c = ap none (c .lower .ensures) ∙ by-checked _ _ _ (ap checkedSaid (sym (c .before .before .before .before .before .one .given .1)) ∙ c .before .before .before .before .before .before .before .before .read-header .ensures) (ap checkedSaid (sym (c .before .before .other2 .given .1)) ∙ c .before .before .before .before .before .before .before .read-header2 .ensures)
 
 pub decide-spec : {M : Type 1} → statement M
 decide-spec =
     tie.close
     (tie.spec
+    read-header-requires
+    read-header-requires-2
+    enum-told
+    enum-told-2
+    newer-requires
+    enum-known-other
+    give-way-requires
+    enum-known-one
+    enum-told-3
+    give-way-requires-2
+    enum-known-other-2
+    lower-requires
     returns
     returns-2
-    last-requires
-    enum-known-place
-    choice-for-requires
-    enum-known-place-2
     returns-3
     returns-4)

@@ -1,6 +1,5 @@
 -- The address is the one behind the command's. Assumes nothing.
 use mathlib.Core.Path.{_∙_}
-use native.Mathlib.Nat.{mod-mod}
 use borrow.Author.Needs.{needs}
 use Rattle.reading.proofs.session.Reading.advanced.Statement.{statement}
 use Rattle.reading.proofs.session.Reading.advanced.Tie as tie
@@ -17,23 +16,13 @@ add-wrapped c = search needs
 wrapped-requires : tie.Need-wrapped-requires
 wrapped-requires c κs = search needs
 
-onward-requires : tie.Need-onward-requires
-onward-requires c κs = search needs
-
-taken-requires : tie.Need-taken-requires
-taken-requires c κs = search needs
+moved-requires : tie.Need-moved-requires
+moved-requires c κs = search needs
 
 returns : tie.Need-returns
-returns c = c .taken .ensures ∙ rw (c .before .onward .ensures, c .before .before .wrapped .ensures, c .before .before .before .before .address .ensures, mod-mod)
+returns c = c .moved .ensures ∙ rw (c .before .wrapped .ensures, c .before .before .before .address .ensures)
 
 pub advanced-spec : {M : Type 1} → statement M
 advanced-spec =
     tie.close
-    (tie.spec
-    address-requires
-    cast-wrapped
-    add-wrapped
-    wrapped-requires
-    onward-requires
-    taken-requires
-    returns)
+    (tie.spec address-requires cast-wrapped add-wrapped wrapped-requires moved-requires returns)

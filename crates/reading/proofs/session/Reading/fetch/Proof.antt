@@ -1,9 +1,9 @@
 -- Each branch is the case of the definition that its tests name. Assumes nothing.
-use mathlib.Core.Path.{sym, _∙_}
-use borrow.Author.Tests.{lt-ltb, le-ltb}
-use borrow.Author.Needs.{needs}
-use Rattle.geometry.proofs.PickLaws.{pick-t, pick-f}
 use Rattle.reading.specs.Fetch.{fetchOf}
+use Rattle.geometry.proofs.PickLaws.{pick-t, pick-f}
+use borrow.Author.Tests.{lt-ltb, le-ltb}
+use mathlib.Core.Path.{sym, _∙_}
+use borrow.Author.Needs.{needs}
 use Rattle.reading.proofs.session.Reading.fetch.Statement.{statement}
 use Rattle.reading.proofs.session.Reading.fetch.Tie as tie
 
@@ -16,7 +16,7 @@ send-requires c κs = search needs
 
 returns-2 : tie.Need-returns-2
 unfolding fetchOf
-returns-2 c = c .send .ensures ∙ sym (pick-f _ (c .before .before .if1 .left) ∙ pick-t _ (c .before .if2 .taken))
+returns-2 c = c .send .ensures ∙ sym (pick-f _ (c .before .before .before .if1 .left) ∙ pick-t _ (c .before .before .if2 .taken))
 
 returns-3 : tie.Need-returns-3
 unfolding fetchOf
@@ -24,12 +24,7 @@ returns-3 c = sym (pick-f _ (c .before .before .if1 .left) ∙ pick-f _ (c .befo
 
 returns-4 : tie.Need-returns-4
 unfolding fetchOf
-returns-4 c =
-    sym
-    (pick-f _ (c .before .before .before .before .if1 .left)
-    ∙ pick-f _ (c .before .before .before .if2 .left)
-    ∙ pick-f _ (c .before .before .if3 .left)
-    ∙ pick-t _ (lt-ltb _ _ (c .if4 .taken)))
+returns-4 c = sym (pick-f _ (c .before .before .before .before .if1 .left) ∙ pick-f _ (c .before .before .before .if2 .left) ∙ pick-f _ (c .before .before .if3 .left) ∙ pick-t _ (lt-ltb _ _ (c .if4 .taken)))
 
 due-requires : tie.Need-due-requires
 due-requires c κs = search needs
@@ -39,14 +34,7 @@ send-requires-2 c κs = search needs
 
 returns-5 : tie.Need-returns-5
 unfolding fetchOf
-returns-5 c =
-    c .send2 .ensures
-    ∙ rw (c .before .due .ensures)
-    (sym
-    (pick-f _ (c .before .before .before .before .before .before .if1 .left)
-    ∙ pick-f _ (c .before .before .before .before .before .if2 .left)
-    ∙ pick-f _ (c .before .before .before .before .if3 .left)
-    ∙ pick-f _ (le-ltb _ _ (c .before .before .if4 .left))))
+returns-5 c = c .send2 .ensures ∙ rw (c .before .due .ensures) (sym (pick-f _ (c .before .before .before .before .before .before .if1 .left) ∙ pick-f _ (c .before .before .before .before .before .if2 .left) ∙ pick-f _ (c .before .before .before .before .if3 .left) ∙ pick-f _ (le-ltb _ _ (c .before .before .if4 .left))))
 
 pub fetch-spec : {M : Type 1} → statement M
 fetch-spec =

@@ -1,7 +1,7 @@
 -- Each kind is its case of the definition. Assumes nothing.
-use mathlib.Core.Path.{_∙_, sym, ap}
-use Rattle.judgement.specs.Judgement.{foundSaid}
 use Rattle.reading.specs.Reply.{judgedBy}
+use Rattle.judgement.specs.Judgement.{foundSaid}
+use mathlib.Core.Path.{_∙_, sym, ap}
 use borrow.Author.Needs.{needs}
 use Rattle.reading.proofs.session.Reading.found.Statement.{statement}
 use Rattle.reading.proofs.session.Reading.found.Tie as tie

@@ -1,6 +1,5 @@
 -- The address is 32 behind the command's, or 3,000. Assumes nothing.
 use mathlib.Core.Path.{_∙_}
-use native.Mathlib.Nat.{mod-mod}
 use borrow.Author.Needs.{needs}
 use Rattle.reading.proofs.session.Reading.jumped.Statement.{statement}
 use Rattle.reading.proofs.session.Reading.jumped.Tie as tie
@@ -20,14 +19,14 @@ past-reserved-requires c κs = search needs
 wrapped-requires : tie.Need-wrapped-requires
 wrapped-requires c κs = search needs
 
-onward-requires : tie.Need-onward-requires
-onward-requires c κs = search needs
+moved-requires : tie.Need-moved-requires
+moved-requires c κs = search needs
 
 taken-requires : tie.Need-taken-requires
 taken-requires c κs = search needs
 
 returns : tie.Need-returns
-returns c = c .taken .ensures ∙ rw (c .before .onward .ensures, c .before .before .wrapped .ensures, c .before .before .before .past-reserved .ensures, c .before .before .before .before .before .address .ensures, mod-mod)
+returns c = c .taken .ensures ∙ rw (c .before .moved .ensures, c .before .before .wrapped .ensures, c .before .before .before .past-reserved .ensures, c .before .before .before .before .before .address .ensures)
 
 pub jumped-spec : {M : Type 1} → statement M
 jumped-spec =
@@ -38,6 +37,6 @@ jumped-spec =
     add-past-reserved
     past-reserved-requires
     wrapped-requires
-    onward-requires
+    moved-requires
     taken-requires
     returns)

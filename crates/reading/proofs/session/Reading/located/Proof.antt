@@ -7,14 +7,14 @@ use Rattle.reading.proofs.session.Reading.located.Tie as tie
 address-requires : tie.Need-address-requires
 address-requires c κs = search needs
 
-onward-requires : tie.Need-onward-requires
-onward-requires c κs = search needs
+moved-requires : tie.Need-moved-requires
+moved-requires c κs = search needs
 
 taken-requires : tie.Need-taken-requires
 taken-requires c κs = search needs
 
 returns : tie.Need-returns
-returns c = c .taken .ensures ∙ rw (c .before .onward .ensures, c .before .before .address .ensures)
+returns c = c .taken .ensures ∙ rw (c .before .moved .ensures, c .before .before .address .ensures)
 
 pub located-spec : {M : Type 1} → statement M
-located-spec = tie.close (tie.spec address-requires onward-requires taken-requires returns)
+located-spec = tie.close (tie.spec address-requires moved-requires taken-requires returns)

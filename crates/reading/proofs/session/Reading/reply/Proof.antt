@@ -17,7 +17,7 @@ use Rattle.reading.proofs.session.Reading.reply.Statement.{statement}
 use Rattle.reading.proofs.session.Reading.reply.Tie as tie
 
 -- what answers the case of an arm answers the reply
-module _ (s : Reading) (r : Reply) (frame : List ℕ) {case : ℕ} (phase : (s .ended || not (s .awaiting)) ≡ false) (long : length frame ≡ 33280) (told : case ≡ caseOf s r) where
+module _ (s : Reading) (r : Reply) (frame : List ℕ) {case : ℕ} (phase : (s .ended || not (s .exchange .awaiting)) ≡ false) (long : length frame ≡ 33280) (told : case ≡ caseOf s r) where
   arm : {n : ℕ} {t : Taking} → case ≡ n → t ≡ answerOf s n frame → t ≡ replyOf s r frame
   unfolding replyOf
   arm key answer = answer ∙ sym (pick-f _ phase ∙ pick-t _ (eq-eqb _ _ long) ∙ ap (λ k. answerOf s k frame) (sym told ∙ key))

@@ -1,0 +1,266 @@
+-- A reply keeps the invariant, whatever the drive answered. Assumes nothing.
+use Prim.Native.Nat.{ℕ, _+_, _*_, _%_, _^_, _≤_, _<_}
+use mathlib.Core.Path.{_≡_, refl, sym, ap, subst, _∙_}
+use mathlib.Core.Bool.{Bool, true, false}
+use mathlib.Core.List.{List, [], _++_, append-nil}
+use mathlib.Core.Logic.{_⊎_, inl, inr}
+use mathlib.Core.Option.{Option, none, some}
+use native.Mathlib.Decide.{decLe}
+use native.Mathlib.Nat.{mod-eq-of-lt}
+use native.Mathlib.Omega.{arith}
+use borrow.Author.Tests.{ne-eqb, eq-eqb}
+use lib.ListN.{length}
+use Rattle.geometry.specs.Cartridge.{isUser, pastReserved}
+use Rattle.geometry.specs.declared.address.Address.{Address}
+use Rattle.geometry.proofs.PickLaws.{pick-t, pick-f}
+use Rattle.geometry.proofs.Impossible.{never}
+use Rattle.drive.specs.Command.{commandCode, commandAddress}
+use Rattle.drive.specs.Listed.{Means}
+use Rattle.drive.specs.Senses.{meaningOf, good, busy, recovered, unreadable, endOfData, endOfMedium}
+use Rattle.drive.specs.declared.command.Command.{Command}
+use Rattle.drive.specs.declared.command.Command.the-variants.{Read, Write, Locate, ReadPosition}
+use Rattle.drive.specs.declared.reply.Reply.{Reply}
+use Rattle.judgement.specs.Judgement as judgement
+use Rattle.judgement.specs.Judgement.{Judged, judgeFrame}
+use Rattle.judgement.specs.declared.told.Told.{Told}
+use Rattle.judgement.proofs.JudgeView.{JudgeView, judge-view, refused-known}
+use Rattle.reading.specs.Reply as reply
+use Rattle.reading.specs.Session.{withExpected}
+use Rattle.reading.specs.declared.session.Reading.{Reading}
+use Rattle.reading.proofs.ReplyView.{Taken, taken-so}
+use Rattle.geometry.proofs.PastReserved.{past-reserved-least}
+use Rattle.archive.specs.Tape.{Tape}
+use Rattle.archive.specs.Readings as readings
+use Rattle.archive.specs.Readings.{World, LentWith, replyNumber, delivered, endAfter, refusedAfter, repliesAfter, afterTaking, afterReply}
+use Rattle.archive.specs.Fold.{Reader, going, ended, stopped, advance, look, foldOf, wholeOf}
+use Rattle.archive.proofs.tape.ScanLaws.{fold-user, Final, fold-final}
+use Rattle.archive.proofs.tape.UserPlaces.{User, Landing, before, across, behind, user-ranges, ranges-user, Stand, user-next, landing, past-user}
+use Rattle.archive.proofs.reading.Bound.{Spent, few-further, few-crossed, few-jumped, few-ended}
+use Rattle.archive.proofs.reading.Facts.{Counts, fold-counts, ReadTape, fold-crosses, fold-blank, fold-jump}
+use Rattle.archive.proofs.reading.Fetches.{stands-within}
+use Rattle.archive.proofs.reading.Invariant.{Under, FewRead, Here, Ordered, locates, crosses, reads, Stood, Served, located, brought, missed, blank, no-more, waits, Agreed, to-seek, to-read, again, stops, finds-no-end, ReadInv, under, over, halted}
+
+-- a reply that brings a frame is brought with it
+pub lent-same : {X : Type 0} {frame lent : List ℕ} → LentWith (some frame) lent → (frame ≡ lent → X) → X
+lent-same (inl e) h = never (cc)
+lent-same (inr e) h = h (cc)
+
+-- a jump from an address of the tape lands a little above LAST at most
+land-low : {last a n : ℕ} → 3000 ≤ last → a ≤ last → Landing (a + 32) n → n ≤ last + 32
+land-low large l (before h e) = omega arith
+land-low large l (across h g e) = omega arith
+land-low large l (behind h e) = omega arith
+
+module _ {told : Told} {t : Tape} (k : ReadTape told t) (w : World) (u : Under told t (w .session) (w .notes .deliveries))
+    (r : Reply) (frame : List ℕ) (a : w .session .exchange .awaiting ≡ true) (long : length frame ≡ 33280) where
+  taken : Taken (w .session) frame
+  taken = record { phase = record { running = u .going-on; awaited = a }; long = long }
+
+  case-is : {c : Command} {m : ℕ} → w .session .exchange .command ≡ c → Means r m → reply.caseOf (w .session) r ≡ commandCode c * 256 + m
+  case-is {c} e means = ap (λ (x : Command). commandCode x * 256 + meaningOf (r .key) (r .asc) (r .ascq)) e ∙ ap (λ (x : ℕ). commandCode c * 256 + x) means
+
+  pub answers : {c : Command} {m : ℕ} → w .session .exchange .command ≡ c → Means r m → reply.replyOf (w .session) r frame ≡ reply.answerOf (w .session) (commandCode c * 256 + m) frame
+  answers e means = taken-so (w .session) r frame taken (case-is e means)
+
+  -- a READ of a user frame
+  module _ (b : Address) (e : w .session .exchange .command ≡ Read b) (user : isUser (told .last .0) (w .session .next .0) ≡ true) where
+    step : foldOf told t (w .session .next .0 + 1) ≡ look told (t (w .session .next .0)) (going (w .session .expected .0) (w .notes .deliveries))
+    step = fold-user told t (w .session .next .0) user ∙ ap (look told (t (w .session .next .0))) (u .so-far)
+
+    pub frame-read : t (w .session .next .0) ≡ some frame → foldOf told t (w .session .next .0 + 1) ≡ advance (judgeFrame told (w .session .expected) frame) frame (w .session .expected .0) (w .notes .deliveries)
+    unfolding look
+    frame-read there = step ∙ ap (λ v. look told v (going (w .session .expected .0) (w .notes .deliveries))) there
+
+    pub nothing-read : t (w .session .next .0) ≡ none → foldOf told t (w .session .next .0 + 1) ≡ going (w .session .expected .0) (w .notes .deliveries)
+    unfolding look
+    nothing-read there = step ∙ ap (λ v. look told v (going (w .session .expected .0) (w .notes .deliveries))) there
+
+    pub replied-frame : Means r good ⊎ Means r recovered → reply.replyOf (w .session) r frame ≡ reply.judgedBy (judgeFrame told (w .session .expected) frame) (w .session)
+    unfolding reply.answerOf reply.judgedOf
+    replied-frame (inl means) = answers e means ∙ ap (λ (x : Told). reply.judgedBy (judgeFrame x (w .session .expected) frame) (w .session)) (u .told-is)
+    replied-frame (inr means) = answers e means ∙ ap (λ (x : Told). reply.judgedBy (judgeFrame x (w .session .expected) frame) (w .session)) (u .told-is)
+
+  module _ (n : w .notes .refused ≡ 0) (m : w .notes .end ≡ false) (g : w .session .exchange .again ≡ false) where
+    taken-as : {x : reply.Taking} → reply.replyOf (w .session) r frame ≡ x → ReadInv told t (afterTaking w r frame x) → ReadInv told t (afterReply w r frame)
+    taken-as e i = subst (λ x. ReadInv told t (afterTaking w r frame x)) (sym e) i
+
+    -- a reply that counts
+    one-more : {i : ℕ} → Means r i → (i ≡ busy → ⊥) → repliesAfter r (w .notes .replies) ≡ w .notes .replies + 1
+    one-more means b = pick-f _ (ne-eqb _ busy (λ e. b (sym means ∙ e)))
+
+    unrefused : (said : reply.Said) → replyNumber said ≡ 0 → refusedAfter (replyNumber said) (w .notes .refused) ≡ 0
+    unrefused said e = ap (λ (x : ℕ). refusedAfter x (w .notes .refused)) e ∙ n
+
+    nothing-more : w .notes .deliveries ++ [] ≡ w .notes .deliveries
+    nothing-more = append-nil (w .notes .deliveries)
+
+    -- the session at an address that does not wrap
+    abbrev movedTo : ℕ → Bool → ℕ → Reading
+    movedTo next locate expected = withExpected (reply.movedOf (w .session) (record { 0 = next }) locate) (record { 0 = expected })
+
+    goes-on : (next expected : ℕ) (locate : Bool) (said : reply.Said) → replyNumber said ≡ 0 → endAfter said (w .notes .end) ≡ w .notes .end
+        → foldOf told t next ≡ going expected (w .notes .deliveries ++ delivered said frame)
+        → Agreed (told .last .0) t (movedTo next locate expected) (w .at) (repliesAfter r (w .notes .replies)) readings.none
+        → ReadInv told t (afterTaking w r frame (reply.answering (movedTo next locate expected) said))
+    goes-on next expected locate said z unended so-far agreed =
+        under (unrefused said z) (unended ∙ m) (record { told-is = u .told-is; going-on = u .going-on; unfinished = u .unfinished; so-far = so-far }) agreed
+
+    -- ---- LOCATE answered good
+
+    landed : (b : Address) → w .session .exchange .command ≡ Locate b → Means r good → w .at ≡ b .0 → Stand (told .last .0) (b .0) → foldOf told t (b .0) ≡ going (w .session .expected .0) (w .notes .deliveries) → Spent (b .0) (w .notes .replies + 1) → ReadInv told t (afterReply w r frame)
+    unfolding reply.answerOf
+    landed b e means at here so-far few =
+        taken-as (answers e means ∙ ap (λ (x : Command). reply.answering (movedTo (commandAddress x) false (w .session .expected .0)) reply.nothing) e)
+        (goes-on (b .0) (w .session .expected .0) false reply.nothing refl refl (so-far ∙ ap (going (w .session .expected .0)) (sym nothing-more))
+        (to-read refl g (inl here) refl at (subst (Spent (b .0)) (sym (one-more means (λ q. omega arith))) few)))
+
+    -- ---- READ
+
+    module _ (b : Address) (e : w .session .exchange .command ≡ Read b) (place : b .0 ≡ w .session .next .0) (user : isUser (told .last .0) (w .session .next .0) ≡ true) (read : w .session .locate ≡ false) (few : FewRead (w .session) (w .notes .replies)) where
+      next-low : w .session .next .0 ≤ told .last .0
+      next-low = stands-within (k .large) (inl user)
+
+      place-is : reply.addressOf (w .session) ≡ w .session .next .0
+      place-is = ap commandAddress e ∙ place
+
+      -- the next number does not wrap
+      small-number : w .session .expected .0 + 1 < 2 ^ 32
+      small-number =
+          let c : Counts (w .session .next .0) (going (w .session .expected .0) (w .notes .deliveries)) = subst (Counts (w .session .next .0)) (u .so-far) (fold-counts told t (w .session .next .0)) in
+          omega (arith, c .1, k .small, next-low)
+
+      moved-is : (x y : ℕ) (locate : Bool) (expected : ℕ) → x ≡ y → y < 2 ^ 32 → movedTo (x % 2 ^ 32) locate expected ≡ movedTo y locate expected
+      moved-is x y locate expected same low = ap (λ (q : ℕ). movedTo (q % 2 ^ 32) locate expected) same ∙ ap (λ (q : ℕ). movedTo q locate expected) (mod-eq-of-lt low)
+
+      next-here : Here (told .last .0) (movedTo (w .session .next .0 + 1) (w .session .locate) 0)
+      next-here = go (decLe (w .session .next .0 + 1) (told .last .0))
+        where
+          go : Dec (w .session .next .0 + 1 ≤ told .last .0) → Stand (told .last .0) (w .session .next .0 + 1) ⊎ (told .last .0 < w .session .next .0 + 1)
+          go (yes h) = inl (user-next (told .last .0) (w .session .next .0) user h)
+          go (no h) = inr (omega arith)
+
+      -- one address further
+      further : {i : ℕ} → Means r i → (i ≡ busy → ⊥) → (x y : ℕ) (said : reply.Said) → y ≡ x → replyNumber said ≡ 0 → endAfter said (w .notes .end) ≡ w .notes .end → w .at ≡ w .session .next .0 + 1
+          → foldOf told t (w .session .next .0 + 1) ≡ going x (w .notes .deliveries ++ delivered said frame)
+          → reply.replyOf (w .session) r frame ≡ reply.answering (withExpected (reply.advancedOf (w .session)) (record { 0 = y })) said
+          → ReadInv told t (afterReply w r frame)
+      further means b x y said same z unended at so-far replied =
+          taken-as
+          (replied
+          ∙ ap (λ (q : Reading). reply.answering q said) (moved-is (reply.addressOf (w .session) + 1) (w .session .next .0 + 1) (w .session .locate) y (ap (λ (q : ℕ). q + 1) place-is) (omega (arith, k .small, next-low)))
+          ∙ ap (λ (q : ℕ). reply.answering (movedTo (w .session .next .0 + 1) (w .session .locate) q) said) same)
+          (goes-on (w .session .next .0 + 1) x (w .session .locate) said z unended so-far
+          (to-read refl g next-here read at (subst (Spent (w .session .next .0 + 1)) (sym (one-more means b)) (few-further (user-ranges (told .last .0) (w .session .next .0) user) few))))
+
+      -- the fold stays where it ends or stops
+      whole-is : {x : Reader} → Final x → foldOf told t (w .session .next .0 + 1) ≡ x → wholeOf told t ≡ x
+      whole-is final so-far = fold-final told t (w .session .next .0 + 1) (told .last .0 + 1) (omega (arith, next-low)) final so-far
+
+      ends : {i : ℕ} → Means r i → (i ≡ busy → ⊥) → foldOf told t (w .session .next .0 + 1) ≡ ended (w .notes .deliveries)
+          → reply.replyOf (w .session) r frame ≡ reply.finishedOf (w .session)
+          → ReadInv told t (afterReply w r frame)
+      ends means b so-far replied =
+          taken-as replied
+          (over (unrefused reply.end refl) refl refl (u .going-on) refl g refl
+          (whole-is tt so-far ∙ ap ended (sym nothing-more))
+          (omega (arith, one-more means b, few-ended (k .large) next-low few)))
+
+      stopped-by : (i : ℕ) → (i ≡ 10) ⊎ (i ≡ 11) → foldOf told t (w .session .next .0 + 1) ≡ stopped i → reply.replyOf (w .session) r frame ≡ reply.ending (w .session) i → ReadInv told t (afterReply w r frame)
+      stopped-by i (inl q) so-far replied =
+          taken-as (replied ∙ ap (reply.ending (w .session)) q)
+          (halted m refl refl (stops (inl refl) (whole-is tt (so-far ∙ ap stopped q))))
+      stopped-by i (inr q) so-far replied =
+          taken-as (replied ∙ ap (reply.ending (w .session)) q)
+          (halted m refl refl (stops (inr refl) (whole-is tt (so-far ∙ ap stopped q))))
+
+      judged-by : {i : ℕ} → Means r i → (i ≡ busy → ⊥) → w .at ≡ w .session .next .0 + 1 → (j : Judged) → JudgeView told (w .session .expected) frame j
+          → foldOf told t (w .session .next .0 + 1) ≡ advance j frame (w .session .expected .0) (w .notes .deliveries)
+          → reply.replyOf (w .session) r frame ≡ reply.judgedBy j (w .session) → ReadInv told t (afterReply w r frame)
+      judged-by means b at judgement.skipped v so-far replied =
+          further means b (w .session .expected .0) (w .session .expected .0) reply.nothing refl refl refl at (so-far ∙ ap (going (w .session .expected .0)) (sym nothing-more)) replied
+      judged-by means b at (judgement.refused i) v so-far replied = stopped-by i (refused-known long v) so-far replied
+      judged-by means b at judgement.block v so-far replied = further means b (w .session .expected .0 + 1) _ reply.block (mod-eq-of-lt small-number) refl refl at so-far replied
+      judged-by means b at judgement.filemark v so-far replied = further means b (w .session .expected .0 + 1) _ reply.filemark (mod-eq-of-lt small-number) refl refl at so-far replied
+      judged-by means b at judgement.end v so-far replied = ends means b so-far replied
+
+      brought-so : Means r good ⊎ Means r recovered → t (w .session .next .0) ≡ some frame → w .at ≡ w .session .next .0 + 1 → ReadInv told t (afterReply w r frame)
+      brought-so (inl means) there at = judged-by means (λ q. omega arith) at (judgeFrame told (w .session .expected) frame) (judge-view told (w .session .expected) frame) (frame-read b e user there) (replied-frame b e user (inl means))
+      brought-so (inr means) there at = judged-by means (λ q. omega arith) at (judgeFrame told (w .session .expected) frame) (judge-view told (w .session .expected) frame) (frame-read b e user there) (replied-frame b e user (inr means))
+
+      missed-so : Means r unreadable → t (w .session .next .0) ≡ none → w .at ≡ w .session .next .0 + 1 → ReadInv told t (afterReply w r frame)
+      unfolding reply.answerOf
+      missed-so means there at =
+          further means (λ q. omega arith) (w .session .expected .0) (w .session .expected .0) reply.nothing refl refl refl at (nothing-read b e user there ∙ ap (going (w .session .expected .0)) (sym nothing-more)) (answers e means)
+
+      jumped-so : Means r endOfData → ((c : ℕ) → w .session .next .0 ≤ c → c < w .session .next .0 + 32 → t c ≡ none) → ReadInv told t (afterReply w r frame)
+      unfolding reply.answerOf
+      jumped-so means unread =
+          let there = w .session .next .0 in
+          taken-as
+          (answers e means
+          ∙ ap (λ (q : Reading). reply.answering q reply.nothing)
+          (moved-is (pastReserved (reply.addressOf (w .session) + 32)) (pastReserved (there + 32)) true (w .session .expected .0) (ap (λ (q : ℕ). pastReserved (q + 32)) place-is) (omega (arith, k .small, land-low (k .large) next-low (landing (there + 32))))))
+          (goes-on (pastReserved (there + 32)) (w .session .expected .0) true reply.nothing refl refl
+          (fold-jump k there unread ∙ u .so-far ∙ ap (going (w .session .expected .0)) (sym nothing-more))
+          (to-seek refl g jumped-here refl (subst (λ (x : ℕ). Spent (pastReserved (there + 32)) (x + 1)) (sym (one-more means (λ q. omega arith))) (few-jumped (landing (there + 32)) few))))
+        where
+          low : User (told .last .0) (w .session .next .0) → 10 ≤ w .session .next .0 + 32
+          low (inl h) = let x = h .0 in omega arith
+          low (inr h) = let x = h .0 in omega arith
+
+          jumped-here : Here (told .last .0) (movedTo (pastReserved (w .session .next .0 + 32)) true (w .session .expected .0))
+          jumped-here = go (decLe (w .session .next .0 + 32) (told .last .0))
+            where
+              go : Dec (w .session .next .0 + 32 ≤ told .last .0) → Stand (told .last .0) (pastReserved (w .session .next .0 + 32)) ⊎ (told .last .0 < pastReserved (w .session .next .0 + 32))
+              go (yes h) = inl (inl (past-user (told .last .0) (w .session .next .0 + 32) (low (user-ranges (told .last .0) (w .session .next .0) user)) h (k .large)))
+              go (no h) = inr (omega (arith, past-reserved-least (w .session .next .0 + 32)))
+
+      -- 00/00/02: nothing readable is left
+      lost-so : Means r endOfMedium → ((c : ℕ) → w .session .next .0 ≤ c → t c ≡ none) → ReadInv told t (afterReply w r frame)
+      unfolding reply.answerOf
+      lost-so means unread =
+          taken-as (answers e means)
+          (halted m refl refl (finds-no-end refl (fold-blank k (w .session .next .0) next-low unread ∙ u .so-far ∙ ap (going (w .session .expected .0)) (sym nothing-more))))
+
+    -- ---- busy
+
+    repeated : {c : Command} → w .session .exchange .command ≡ c → Means r busy → reply.replyOf (w .session) r frame ≡ reply.answering (reply.repeatedOf (w .session)) reply.nothing → Ordered (told .last .0) (w .session) (w .notes .replies) c → Stood (w .session) (w .at) c → ReadInv told t (afterReply w r frame)
+    repeated {c} e means replied o st =
+        taken-as replied
+        (under n m (record { told-is = u .told-is; going-on = u .going-on; unfinished = u .unfinished; so-far = u .so-far ∙ ap (going (w .session .expected .0)) (sym nothing-more) })
+        (subst (λ (x : ℕ). Agreed (told .last .0) t (reply.repeatedOf (w .session)) (w .at) x readings.none) (sym (pick-t _ (eq-eqb _ busy means)))
+        (again refl refl (subst (λ (x : Command). Ordered (told .last .0) (reply.repeatedOf (w .session)) (w .notes .replies) x) (sym e) (order o)) (subst (λ (x : Command). Stood (reply.repeatedOf (w .session)) (w .at) x) (sym e) (stood c st)))))
+      where
+        order : {c : Command} → Ordered (told .last .0) (w .session) (w .notes .replies) c → Ordered (told .last .0) (reply.repeatedOf (w .session)) (w .notes .replies) c
+        order (locates a e h l g) = locates a e h l g
+        order (crosses a e p l g) = crosses a e p l g
+        order (reads a e p l g) = reads a e p l g
+
+        stood : (c : Command) → Stood (w .session) (w .at) c → Stood (reply.repeatedOf (w .session)) (w .at) c
+        stood (Read a) h = h
+        stood (Write a) h = tt
+        stood (Locate a) h = tt
+        stood ReadPosition h = tt
+
+    repeats : {c : Command} → w .session .exchange .command ≡ c → Means r busy → Ordered (told .last .0) (w .session) (w .notes .replies) c → Stood (w .session) (w .at) c → ReadInv told t (afterReply w r frame)
+    unfolding reply.answerOf
+    repeats e means (locates b p h l few) st = repeated e means (answers e means) (locates b p h l few) st
+    repeats e means (crosses b p q l few) st = repeated e means (answers e means) (crosses b p q l few) st
+    repeats e means (reads b p q l few) st = repeated e means (answers e means) (reads b p q l few) st
+
+    -- ---- by what the drive gave
+
+    located-so : (b : Address) → w .session .exchange .command ≡ Locate b → Means r good → w .at ≡ b .0 → Ordered (told .last .0) (w .session) (w .notes .replies) (Locate b) → ReadInv told t (afterReply w r frame)
+    located-so b e means at (locates _ p h l few) =
+        landed b e means at (subst (Stand (told .last .0)) (sym p) h) (ap (foldOf told t) p ∙ u .so-far) (subst (λ (x : ℕ). Spent x (w .notes .replies + 1)) (sym p) few)
+    located-so b e means at (crosses _ p q l few) =
+        landed b e means at (inl (subst (λ (x : ℕ). isUser (told .last .0) x ≡ true) (sym p) (ranges-user (told .last .0) 3000 (inr (omega arith, k .large)))))
+        (ap (foldOf told t) p ∙ fold-crosses k ∙ ap (foldOf told t) (sym q) ∙ u .so-far) (few-crossed q p few)
+
+    pub serve-so : {given : Option (List ℕ)} (c : Command) → w .session .exchange .command ≡ c → LentWith given frame → Served (told .last .0) t (w .session) (w .at) (w .notes .replies) r given c → ReadInv told t (afterReply w r frame)
+    serve-so c e lent (located b means at o) = located-so b e means at o
+    serve-so c e lent (brought b read means there at (reads _ p q l few)) = lent-same lent (λ same. brought-so b e p q l few means (there ∙ ap some same) at)
+    serve-so c e lent (missed b means there at (reads _ p q l few)) = missed-so b e p q l few means there at
+    serve-so c e lent (blank b means none-there (reads _ p q l few)) = jumped-so b e p q l few means none-there
+    serve-so c e lent (no-more b means none-there (reads _ p q l few)) = lost-so b e p q l few means none-there
+    serve-so c e lent (waits c2 means o st) = repeats e means o st

@@ -1,0 +1,80 @@
+-- 01, "Reading a cartridge", as a whole: what a reading makes of a tape, address by address, and that every list of its calls gives that.
+use Prim.Native.Nat.{ℕ, zero, suc, _+_, _^_, _<_}
+use mathlib.Core.Path.{_≡_}
+use mathlib.Core.Bool.{true, false}
+use mathlib.Core.List.{List, [], _∷_, _++_}
+use mathlib.Core.Logic.{_⊎_}
+use mathlib.Core.Option.{Option, none, some}
+use lib.ListN.{take}
+use Rattle.geometry.specs.Pick.{pick}
+use Rattle.geometry.specs.Said.{address}
+use Rattle.geometry.specs.Cartridge.{lastOf, isUser}
+use Rattle.geometry.specs.declared.cartridge.Geometry.{Geometry}
+use Rattle.header.specs.Valid.{headerOf}
+use Rattle.judgement.specs.Judgement as judgement
+use Rattle.judgement.specs.Judgement.{Judged, judgeFrame}
+use Rattle.judgement.specs.declared.told.Told.{Told}
+use Rattle.reading.specs.Open.{toldOf, openOf}
+use Rattle.archive.specs.Tape.{Tape, Cartridge}
+use Rattle.archive.specs.Recordings.{Element, block, filemark}
+use Rattle.archive.specs.Readings.{World, Call, Runs, started}
+use Rattle.archive.specs.Demand.{Faithful}
+
+pub data Reader : Type 0 where
+  -- it goes on, with the number that it expects and what it has delivered
+  going : ℕ → List Element → Reader
+  -- EOD was read
+  ended : List Element → Reader
+  -- it was refused, with this number
+  stopped : ℕ → Reader
+
+-- a frame, by its judgement
+abbrev pub advance : Judged → List ℕ → ℕ → List Element → Reader
+advance judgement.skipped f n got = going n got
+advance (judgement.refused m) f n got = stopped m
+advance judgement.block f n got = going (n + 1) (got ++ block (take 32768 f) ∷ [])
+advance judgement.filemark f n got = going (n + 1) (got ++ filemark ∷ [])
+advance judgement.end f n got = ended got
+
+-- what an address reads as
+unfoldable pub look : Told → Option (List ℕ) → Reader → Reader
+look told none r = r
+look told (some f) (going n got) = advance (judgeFrame told (record { 0 = n }) f) f n got
+look told (some f) (ended got) = ended got
+look told (some f) (stopped m) = stopped m
+
+-- after the user frames below an address
+unfoldable pub foldOf : Told → Tape → ℕ → Reader
+foldOf told t zero = going 0 []
+foldOf told t (suc a) = pick (isUser (told .last .0) a) (look told (t a) (foldOf told t a)) (foldOf told t a)
+
+-- and over the whole tape
+abbrev pub wholeOf : Told → Tape → Reader
+wholeOf told t = foldOf told t (told .last .0 + 1)
+
+-- where a reading stands after a list of its calls
+pub data Outcome (told : Told) (t : Tape) (w : World) : Type 0 where
+  -- it goes on: it has delivered what the fold has at the next address
+  goes-on : w .notes .refused ≡ 0 → w .notes .end ≡ false
+      → foldOf told t (w .session .next .0) ≡ going (w .session .expected .0) (w .notes .deliveries) → Outcome told t w
+  -- the end was answered
+  at-end : w .notes .refused ≡ 0 → w .notes .end ≡ true → wholeOf told t ≡ ended (w .notes .deliveries) → Outcome told t w
+  -- refused with 10 or 11
+  stops : (w .notes .refused ≡ 10) ⊎ (w .notes .refused ≡ 11) → w .notes .end ≡ false → wholeOf told t ≡ stopped (w .notes .refused) → Outcome told t w
+  -- refused with 12: the whole tape has no end
+  finds-no-end : w .notes .refused ≡ 12 → w .notes .end ≡ false
+      → wholeOf told t ≡ going (w .session .expected .0) (w .notes .deliveries) → Outcome told t w
+
+pub record IsFold (told : Told) (t : Tape) (w : World) : Type 0 where
+  pub outcome : Outcome told t w
+  -- where the fold over the whole tape ends, every list goes on to that end
+  pub faithful : (xs : List Element) → wholeOf told t ≡ ended xs → Faithful (told .last .0) xs w
+
+-- every list of a reading's calls, on any cartridge and any header that the opening accepts, whoever wrote them
+unfoldable pub ReadingIsFold : Type 0
+ReadingIsFold =
+    (g : Geometry) (last : ℕ) (t : Tape) (h : List ℕ) (at : ℕ) (calls : List Call) (w : World)
+    → g .segtrk < 2 ^ 16 → g .trks < 2 ^ 16 → lastOf g ≡ address last
+    → Cartridge last t → openOf g h .number ≡ 0
+    → Runs t (started (openOf g h .session) at) calls w
+    → IsFold (toldOf (headerOf h)) t w

@@ -1,0 +1,37 @@
+-- 01, "AUX bytes" and "Refused calls": a lent header is taken for valid, or refused with 1, 2 or 3.
+use Prim.Native.Nat.{ℕ}
+use mathlib.Core.List.{List}
+use lib.Dec.{eqb}
+use lib.ListN.{length}
+use Rattle.geometry.specs.Pick.{pick}
+use Rattle.geometry.specs.Refused.{refusalNumber}
+use Rattle.geometry.specs.Said as said
+use Rattle.geometry.specs.Said.{Said}
+use Rattle.geometry.specs.Cartridge.{lastOf}
+use Rattle.geometry.specs.declared.cartridge.Geometry.{Geometry}
+use Rattle.frame.specs.declared.header.Header.{Header}
+use Rattle.header.specs.declared.read.Checked as read
+use Rattle.header.specs.declared.read.Checked.the-variants as C
+use Rattle.header.specs.Valid.{validHeader, headerOf}
+
+-- its fields, or the refusal's number
+pub data Checked : Type 0 where
+  valid : Header → Checked
+  refused : ℕ → Checked
+
+abbrev pub checkedSaid : read.Checked → Checked
+checkedSaid (C.Valid h) = valid h
+checkedSaid (C.Refused r) = refused (refusalNumber r)
+
+-- 3: invalid on a cartridge with this LAST
+unfoldable pub headerOn : ℕ → List ℕ → Checked
+headerOn last h = pick (validHeader last h) (valid (headerOf h)) (refused 3)
+
+-- 2: the geometry's
+abbrev pub headerFor : Said → List ℕ → Checked
+headerFor (said.address last) h = headerOn last h
+headerFor (said.refused n) h = refused n
+
+-- 1: its length
+unfoldable pub readHeader : Geometry → List ℕ → Checked
+readHeader g h = pick (eqb (length h) 33280) (headerFor (lastOf g) h) (refused 1)
