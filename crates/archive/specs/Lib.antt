@@ -6,3 +6,4 @@ pub mod Readings
 pub mod Demand
 pub mod Fold
 pub mod Sample
+pub mod Refusals

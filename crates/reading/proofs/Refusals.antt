@@ -20,7 +20,7 @@ use Rattle.reading.proofs.ReplyView as replying
 -- what a refusal leaves of a session
 pub record Leaves (n : ℕ) (before after : Reading) : Type 0 where
   pub unchanged : n ≤ 7 → after ≡ before
-  pub ended : 8 ≤ n → after .ended ≡ true
+  pub ended : 8 ≤ n → after ≡ endedOf before
 
 unchanged-by : (n : ℕ) {s : Reading} → n ≤ 7 → Leaves n s s
 unchanged-by n h = record { unchanged = λ _. refl; ended = λ k. absurd (omega arith) }

@@ -30,7 +30,7 @@ use Rattle.recording.proofs.ReplyView as replying
 -- what a call with this refusal leaves of a session
 pub record Leaves (n : ℕ) (before after : Recording) : Type 0 where
   pub unchanged : 1 ≤ n → n ≤ 7 → after ≡ before
-  pub ended : 8 ≤ n → after .ended ≡ true
+  pub ended : 8 ≤ n → after ≡ endedOf before
 
 accepted-by : {s t : Recording} → Leaves 0 s t
 accepted-by = record { unchanged = λ k _. absurd (omega arith); ended = λ k. absurd (omega arith) }

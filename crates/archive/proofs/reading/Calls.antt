@@ -1,5 +1,5 @@
 -- Each call of a reading keeps its invariant. Assumes nothing.
-use Prim.Native.Nat.{ℕ, _≤_}
+use Prim.Native.Nat.{ℕ}
 use mathlib.Core.Path.{_≡_, refl, sym, ap, subst, _∙_}
 use mathlib.Core.Bool.{Bool, true, false, not}
 use mathlib.Core.List.{List}
@@ -16,34 +16,17 @@ use Rattle.reading.specs.Fetch as fetch
 use Rattle.reading.specs.Reply as reply
 use Rattle.reading.specs.declared.session.Reading.{Reading}
 use Rattle.reading.proofs.Ended.{ended-fetch}
-use Rattle.reading.proofs.Refusals.{refused-fetch, refused-reply}
 use Rattle.archive.specs.Tape.{Tape}
 use Rattle.archive.specs.Recordings.{TakesEffect}
 use Rattle.archive.specs.Readings as readings
 use Rattle.archive.specs.Readings.{World, LentWith, withSession, Calls, Runs, fetchNumber, replyNumber, afterReply}
 use Rattle.archive.proofs.tape.Basics.{no-effect}
+use Rattle.archive.proofs.Refusals.{refused-calls}
 use Rattle.archive.proofs.reading.Facts.{ReadTape}
 use Rattle.archive.proofs.reading.Invariant.{Under, Agreed, served, ReadInv, under, over, halted}
 use Rattle.archive.proofs.reading.Serves.{none-answered, read-keeps-move}
 use Rattle.archive.proofs.reading.Fetches.{fetch-flight, fetch-end}
 use Rattle.archive.proofs.reading.Replies.{serve-so}
-
--- the session that a call refused with 1 to 7 returned is the one that it got
-pub same-session : (s : Reading) (c : readings.Call) → 1 ≤ readings.refusal s c → readings.refusal s c ≤ 7 → readings.returned s c ≡ s
-same-session s readings.fetching l h = go (fetch.fetchOf s .said) refl l h
-  where
-    go : (x : fetch.Said) → fetch.fetchOf s .said ≡ x → 1 ≤ fetchNumber x → fetchNumber x ≤ 7 → fetch.fetchOf s .session ≡ s
-    go (fetch.command _ _) e l h = absurd (omega arith)
-    go fetch.end e l h = absurd (omega arith)
-    go (fetch.refused m) e l h = refused-fetch s m e .unchanged h
-same-session s (readings.replying r frame) l h = go (reply.replyOf s r frame .said) refl l h
-  where
-    go : (x : reply.Said) → reply.replyOf s r frame .said ≡ x → 1 ≤ replyNumber x → replyNumber x ≤ 7 → reply.replyOf s r frame .session ≡ s
-    go reply.nothing e l h = absurd (omega arith)
-    go reply.block e l h = absurd (omega arith)
-    go reply.filemark e l h = absurd (omega arith)
-    go reply.end e l h = absurd (omega arith)
-    go (reply.refused m) e l h = refused-reply s m frame r e .unchanged h
 
 -- a lent frame of another length is refused with 1
 short : (s : Reading) (r : Reply) (frame : List ℕ) → s .ended ≡ false → s .exchange .awaiting ≡ true → eqb (length frame) 33280 ≡ false → reply.replyOf s r frame ≡ reply.refusing s 1
@@ -64,7 +47,7 @@ module _ {told : Told} {t : Tape} (k : ReadTape told t) where
       serve-so k w u r frame a (right-length (w .session) r frame (u .going-on) a te) n m g (w .session .exchange .command) refl lent v
 
   read-keeps-call : (w v : World) (c : readings.Call) → ReadInv told t w → Calls w c v → ReadInv told t v
-  read-keeps-call w v c i (readings.refuses _ l h) = subst (λ (s : Reading). ReadInv told t (withSession w s)) (sym (same-session (w .session) c l h)) i
+  read-keeps-call w v c i (readings.refuses _ l h) = subst (λ (s : Reading). ReadInv told t (withSession w s)) (sym (refused-calls .reading (w .session) c .unchanged l h)) i
   read-keeps-call w v c (under n m u a) (readings.fetches te) = fetch-flight k w u n m refl a te
   read-keeps-call w v c (over n m f e a g q d b) (readings.fetches te) = fetch-end k w e a g f (over n m f e a g q d b)
   read-keeps-call w v c (halted m e q h) (readings.fetches te) =

@@ -1,20 +1,18 @@
 -- Every call keeps the invariant. Assumes nothing.
 use Prim.Native.Nat.{ℕ, _≤_}
 use mathlib.Core.List.{List}
-use mathlib.Core.Path.{_≡_, refl, sym, subst, _∙_}
+use mathlib.Core.Path.{_≡_, refl, sym, subst, _∙_, ap}
 use mathlib.Core.Bool.{true}
 use mathlib.Core.Logic.{inl, inr}
 use native.Mathlib.Omega.{arith}
 use Rattle.drive.specs.declared.reply.Reply.{Reply}
-use Rattle.recording.specs.Fetch as fetch
-use Rattle.recording.specs.Fetch.{Said, fetchOf}
 use Rattle.recording.specs.Reply.{replyOf}
 use Rattle.recording.specs.declared.session.Recording.{Recording}
 use Rattle.geometry.proofs.PickLaws.{pick-by}
 use Rattle.buffer.specs.Bytes.{agree}
 use Rattle.buffer.proofs.Agreement.{agree-is}
 use Rattle.recording.proofs.ListedReplies.{unlisted-refused}
-use Rattle.recording.proofs.Refusals.{refused-window, refused-block, refused-filemark, refused-close, refused-fetch, refused-reply}
+use Rattle.recording.proofs.Refusals.{refused-window, refused-reply}
 use Rattle.archive.specs.Recordings as recordings
 use Rattle.archive.specs.Recordings.{World, TakesEffect, afterReply}
 use Rattle.archive.specs.Demand.{Within}
@@ -29,6 +27,7 @@ use Rattle.archive.proofs.recording.ElementReplies.{writing, ending-one
 use Rattle.archive.proofs.recording.Invariant as inv
 use Rattle.archive.proofs.recording.Invariant.{Course, Live, Rejecting, Inv, live, rejecting, over}
 use Rattle.archive.proofs.recording.Setting.{Setting}
+use Rattle.archive.proofs.Refusals.{refused-calls}
 
 -- ---- a reply that is not listed
 
@@ -36,7 +35,7 @@ rejecting-reply : {last pass : ℕ} {premises : Type 0} (w : World) (r : Reply) 
 rejecting-reply w r written d same =
     let s = w .session in
     let refused : replyOf s (d .reply) .number ≡ 8 = unlisted-refused s (d .reply) (d .going) (d .awaits) (d .off-headers) (d .unlisted) in
-    let ended : replyOf s (d .reply) .session .ended ≡ true = refused-reply s (d .reply) .ended (omega arith) in
+    let ended : replyOf s (d .reply) .session .ended ≡ true = ap (λ (x : Recording). x .ended) (refused-reply s (d .reply) .ended (omega arith)) in
     over written (record { ended = subst (λ (x : Reply). replyOf s x .session .ended ≡ true) same ended; none = refl; safe = d .safe; unreported = d .unreported })
 
 -- ---- a reply
@@ -55,21 +54,7 @@ keeps-reply w r set (over wr o) q te = none-answered (sym (o .none) ∙ q)
 
 -- ---- a refused call
 
--- the session that a call refused with 1 to 7 returned is the one that it got
-pub same-session : (s : Recording) (c : recordings.Call) → 1 ≤ recordings.refusal s c → recordings.refusal s c ≤ 7 → recordings.returned s c ≡ s
-same-session s (recordings.accept-block b window) l h = refused-block s b window .unchanged l h
-same-session s recordings.accept-filemark l h = refused-filemark s .unchanged l h
-same-session s recordings.close l h = refused-close s .unchanged l h
-same-session s (recordings.fetch window frame) l h = go (fetchOf s window frame .said) refl l h
-  where
-    go : (x : Said) → fetchOf s window frame .said ≡ x → 1 ≤ recordings.fetchNumber x → recordings.fetchNumber x ≤ 7 → fetchOf s window frame .session ≡ s
-    go (fetch.command _ _) e l h = absurd (omega arith)
-    go fetch.idle e l h = absurd (omega arith)
-    go fetch.done e l h = absurd (omega arith)
-    go (fetch.refused n) e l h = refused-fetch s n window frame e .unchanged l h
-same-session s (recordings.reply r) l h = refused-reply s r .unchanged l h
-
--- and so is the window
+-- it leaves the window
 same-window : (w : World) (c : recordings.Call) → 1 ≤ recordings.refusal (w .session) c → recordings.windowAfter w c ≡ w .window
 same-window w (recordings.accept-block b lent) l =
     pick-by (λ (x : List ℕ). x ≡ w .window) (agree lent (w .window)) (λ e. refused-window (w .session) b lent l ∙ agree-is lent (w .window) e) (λ _. refl)
@@ -83,7 +68,7 @@ withWindow w s window = record { session = s; window = window; unaltered = w .un
 
 pub keeps-call : {last pass : ℕ} {premises : Type 0} (w v : World) (c : recordings.Call) → Setting last pass → Inv last pass premises w → recordings.Calls w c v → Inv last pass premises v
 keeps-call {last} {pass} {premises} w v c set i (recordings.refuses _ l h) =
-    subst (λ (s : Recording). Inv last pass premises (withWindow w s (recordings.windowAfter w c))) (sym (same-session (w .session) c l h))
+    subst (λ (s : Recording). Inv last pass premises (withWindow w s (recordings.windowAfter w c))) (sym (refused-calls .recording (w .session) c .unchanged l h))
     (subst (λ (x : List ℕ). Inv last pass premises (withWindow w (w .session) x)) (sym (same-window w c l)) i)
 keeps-call w v c set i (recordings.accepts-block b lent te) = keeps-block w b lent set i te
 keeps-call w v c set i (recordings.accepts-filemark te) = keeps-filemark w set i te

@@ -1,0 +1,101 @@
+-- What a refused call leaves. Assumes nothing.
+use Prim.Native.Nat.{ℕ, _≤_}
+use mathlib.Core.Path.{_≡_, refl, ap}
+use mathlib.Core.Bool.{true}
+use mathlib.Core.List.{List}
+use native.Mathlib.Omega.{arith}
+use Rattle.drive.specs.declared.reply.Reply.{Reply}
+use Rattle.recording.specs.Session as session
+use Rattle.recording.specs.Fetch as fetch
+use Rattle.recording.specs.Fetch.{Fetching, fetchOf}
+use Rattle.recording.specs.declared.session.Recording.{Recording}
+use Rattle.recording.proofs.Ended as ended
+use Rattle.recording.proofs.FetchView as view
+use Rattle.recording.proofs.Refusals.{Leaves, refused-window, refused-block, refused-filemark, refused-close, refused-fetch, refused-reply}
+use Rattle.reading.specs.Fetch as reading
+use Rattle.reading.specs.Reply as reply
+use Rattle.reading.specs.declared.session.Reading.{Reading}
+use Rattle.reading.proofs.Ended as reading-ended
+use Rattle.reading.proofs.Refusals as read
+use Rattle.archive.specs.Recordings as recordings
+use Rattle.archive.specs.Readings as readings
+use Rattle.archive.specs.Refusals.{lentBy, leftBy, RefusedCalls}
+
+-- ---- a recording
+
+frame-left : (s : Recording) (window frame : List ℕ) {x : Fetching} → view.FetchView s window frame x → 1 ≤ recordings.fetchNumber (x .said) → x .frame ≡ frame
+unfolding fetch.sending
+frame-left s window frame (view.wrongPhase _) h = refl
+frame-left s window frame (view.wrongLength _ _ _) h = refl
+frame-left s window frame (view.repeating _ _) h = absurd (omega arith)
+frame-left s window frame (view.copying _ _ _) h = absurd (omega arith)
+frame-left s window frame (view.stepping _ _ _ _ _) h = absurd (omega arith)
+frame-left s window frame (view.resting _ _ _ _) h = refl
+frame-left s window frame (view.stopping _ _ _ _ _) h = refl
+frame-left s window frame (view.finished _ _ _) h = refl
+
+left-as-lent : (s : Recording) (c : recordings.Call) → 1 ≤ recordings.refusal s c → leftBy s c ≡ lentBy c
+left-as-lent s (recordings.accept-block b window) h = refused-window s b window h
+left-as-lent s recordings.accept-filemark h = refl
+left-as-lent s recordings.close h = refl
+left-as-lent s (recordings.fetch window frame) h = frame-left s window frame (view.fetch-view s window frame) h
+left-as-lent s (recordings.reply r) h = refl
+
+fetch-leaves : (s : Recording) (window frame : List ℕ) (x : fetch.Said) → fetchOf s window frame .said ≡ x → 1 ≤ recordings.fetchNumber x → Leaves (recordings.fetchNumber x) s (fetchOf s window frame .session)
+fetch-leaves s window frame (fetch.command _ _) e h = absurd (omega arith)
+fetch-leaves s window frame fetch.idle e h = absurd (omega arith)
+fetch-leaves s window frame fetch.done e h = absurd (omega arith)
+fetch-leaves s window frame (fetch.refused n) e h = refused-fetch s n window frame e
+
+leaves : (s : Recording) (c : recordings.Call) → 1 ≤ recordings.refusal s c → Leaves (recordings.refusal s c) s (recordings.returned s c)
+leaves s (recordings.accept-block b window) h = refused-block s b window
+leaves s recordings.accept-filemark h = refused-filemark s
+leaves s recordings.close h = refused-close s
+leaves s (recordings.fetch window frame) h = fetch-leaves s window frame (fetchOf s window frame .said) refl h
+leaves s (recordings.reply r) h = refused-reply s r
+
+refused-7 : (s : Recording) (c : recordings.Call) → s .ended ≡ true → recordings.refusal s c ≡ 7
+refused-7 s (recordings.accept-block b window) e = ap (λ x. x .result .number) (ended.ended-block s e b window)
+refused-7 s recordings.accept-filemark e = ap (λ (x : session.Result). x .number) (ended.ended-filemark s e)
+refused-7 s recordings.close e = ap (λ (x : session.Result). x .number) (ended.ended-close s e)
+refused-7 s (recordings.fetch window frame) e = ap (λ (x : Fetching). recordings.fetchNumber (x .said)) (ended.ended-fetch s e window frame)
+refused-7 s (recordings.reply r) e = ap (λ (x : session.Result). x .number) (ended.ended-reply s e r)
+
+-- ---- a reading
+
+read-fetch-leaves : (s : Reading) (x : reading.Said) → reading.fetchOf s .said ≡ x → 1 ≤ readings.fetchNumber x → read.Leaves (readings.fetchNumber x) s (reading.fetchOf s .session)
+read-fetch-leaves s (reading.command _ _) e h = absurd (omega arith)
+read-fetch-leaves s reading.end e h = absurd (omega arith)
+read-fetch-leaves s (reading.refused n) e h = read.refused-fetch s n e
+
+read-reply-leaves : (s : Reading) (r : Reply) (frame : List ℕ) (x : reply.Said) → reply.replyOf s r frame .said ≡ x → 1 ≤ readings.replyNumber x → read.Leaves (readings.replyNumber x) s (reply.replyOf s r frame .session)
+read-reply-leaves s r frame reply.nothing e h = absurd (omega arith)
+read-reply-leaves s r frame reply.block e h = absurd (omega arith)
+read-reply-leaves s r frame reply.filemark e h = absurd (omega arith)
+read-reply-leaves s r frame reply.end e h = absurd (omega arith)
+read-reply-leaves s r frame (reply.refused n) e h = read.refused-reply s n frame r e
+
+read-leaves : (s : Reading) (c : readings.Call) → 1 ≤ readings.refusal s c → read.Leaves (readings.refusal s c) s (readings.returned s c)
+read-leaves s readings.fetching h = read-fetch-leaves s (reading.fetchOf s .said) refl h
+read-leaves s (readings.replying r frame) h = read-reply-leaves s r frame (reply.replyOf s r frame .said) refl h
+
+read-refused-7 : (s : Reading) (c : readings.Call) → s .ended ≡ true → readings.refusal s c ≡ 7
+read-refused-7 s readings.fetching e = ap (λ (x : reading.Fetching). readings.fetchNumber (x .said)) (reading-ended.ended-fetch s e)
+read-refused-7 s (readings.replying r frame) e = ap (λ (x : reply.Taking). readings.replyNumber (x .said)) (reading-ended.ended-reply s e r frame)
+
+-- ---- both
+
+pub refused-calls : RefusedCalls
+refused-calls = record {
+  recording = λ s c. record {
+    untouched = left-as-lent s c;
+    unchanged = λ l h. leaves s c l .unchanged l h;
+    ended = λ h. leaves s c (omega arith) .ended h;
+    only-7 = refused-7 s c;
+  };
+  reading = λ s c. record {
+    unchanged = λ l h. read-leaves s c l .unchanged h;
+    ended = λ h. read-leaves s c (omega arith) .ended h;
+    only-7 = read-refused-7 s c;
+  };
+}

@@ -1,0 +1,48 @@
+-- 01, "Refused calls": what a refused call leaves, for every call of both sessions and on every input.
+use Prim.Native.Nat.{ℕ, _≤_}
+use mathlib.Core.Path.{_≡_}
+use mathlib.Core.Bool.{true}
+use mathlib.Core.List.{List, []}
+use Rattle.recording.specs.Session as recording
+use Rattle.recording.specs.Accept.{blockOf}
+use Rattle.recording.specs.Fetch.{fetchOf}
+use Rattle.recording.specs.declared.session.Recording.{Recording}
+use Rattle.reading.specs.Session as reading
+use Rattle.reading.specs.declared.session.Reading.{Reading}
+use Rattle.archive.specs.Recordings as recordings
+use Rattle.archive.specs.Readings as readings
+
+-- the buffer that a call lends to be written to: the window of an accept, the frame of a fetch. No call of a reading has one
+abbrev pub lentBy : recordings.Call → List ℕ
+lentBy (recordings.accept-block b window) = window
+lentBy recordings.accept-filemark = []
+lentBy recordings.close = []
+lentBy (recordings.fetch window frame) = frame
+lentBy (recordings.reply r) = []
+
+-- and as the call leaves it
+abbrev pub leftBy : Recording → recordings.Call → List ℕ
+leftBy s (recordings.accept-block b window) = blockOf s b window .window
+leftBy s recordings.accept-filemark = []
+leftBy s recordings.close = []
+leftBy s (recordings.fetch window frame) = fetchOf s window frame .frame
+leftBy s (recordings.reply r) = []
+
+pub record RecordingRefused (s : Recording) (c : recordings.Call) : Type 0 where
+  -- buffers stay untouched
+  pub untouched : 1 ≤ recordings.refusal s c → leftBy s c ≡ lentBy c
+  -- 1 to 7: session unchanged
+  pub unchanged : 1 ≤ recordings.refusal s c → recordings.refusal s c ≤ 7 → recordings.returned s c ≡ s
+  -- 8 to 12: session ended, and otherwise as it was
+  pub ended : 8 ≤ recordings.refusal s c → recordings.returned s c ≡ recording.endedOf s
+  -- and only 7 follows
+  pub only-7 : s .ended ≡ true → recordings.refusal s c ≡ 7
+
+pub record ReadingRefused (s : Reading) (c : readings.Call) : Type 0 where
+  pub unchanged : 1 ≤ readings.refusal s c → readings.refusal s c ≤ 7 → readings.returned s c ≡ s
+  pub ended : 8 ≤ readings.refusal s c → readings.returned s c ≡ reading.endedOf s
+  pub only-7 : s .ended ≡ true → readings.refusal s c ≡ 7
+
+pub record RefusedCalls : Type 0 where
+  pub recording : (s : Recording) (c : recordings.Call) → RecordingRefused s c
+  pub reading : (s : Reading) (c : readings.Call) → ReadingRefused s c
