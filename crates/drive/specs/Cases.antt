@@ -1,7 +1,7 @@
 -- 01, "Replies": a command with the meaning of its reply, as one number by which a session tells replies apart.
 use Prim.Native.Nat.{ℕ, _+_, _*_}
 use Rattle.drive.specs.Command.{commandCode}
-use Rattle.drive.specs.Senses.{meaningOf, good, busy, writeError, volumeOverflow}
+use Rattle.drive.specs.Senses.{meaningOf, good, busy, writeError, volumeOverflow, recovered, unreadable, endOfData, endOfMedium}
 use Rattle.drive.specs.declared.command.Command.{Command}
 use Rattle.drive.specs.declared.reply.Reply.{Reply}
 
@@ -41,3 +41,22 @@ positionBusy = caseNumber 0x34 busy
 
 abbrev pub positionFailed : ℕ
 positionFailed = caseNumber 0x34 writeError
+
+-- READ
+abbrev pub readGood : ℕ
+readGood = caseNumber 0x08 good
+
+abbrev pub readBusy : ℕ
+readBusy = caseNumber 0x08 busy
+
+abbrev pub readRecovered : ℕ
+readRecovered = caseNumber 0x08 recovered
+
+abbrev pub readUnreadable : ℕ
+readUnreadable = caseNumber 0x08 unreadable
+
+abbrev pub readEndOfData : ℕ
+readEndOfData = caseNumber 0x08 endOfData
+
+abbrev pub readEndOfMedium : ℕ
+readEndOfMedium = caseNumber 0x08 endOfMedium

@@ -27,6 +27,19 @@ pub const POSITION_BUSY: u16 = 0x3402;
 // 03/0C/00.
 pub const POSITION_FAILED: u16 = 0x3403;
 
+// READ.
+pub const READ_GOOD: u16 = 0x0801;
+
+pub const READ_BUSY: u16 = 0x0802;
+
+pub const READ_RECOVERED: u16 = 0x0805;
+
+pub const READ_UNREADABLE: u16 = 0x0806;
+
+pub const READ_END_OF_DATA: u16 = 0x0807;
+
+pub const READ_END_OF_MEDIUM: u16 = 0x0808;
+
 // Which of these a reply to a command is, or another number.
 pub fn case_of(c: Command, reply: Reply) -> u16
     ensures { λ r. ⌜ r ≡ caseOf c reply ⌝ }

@@ -1,5 +1,5 @@
 -- 01, "Reading a cartridge" and "Replies", on READ: what a reply with a lent frame answers and leaves.
-use Prim.Native.Nat.{ℕ, _+_, _*_, _%_, _^_}
+use Prim.Native.Nat.{ℕ, _+_, _%_, _^_}
 use mathlib.Core.Bool.{Bool, true, false, _||_, not}
 use mathlib.Core.List.{List}
 use lib.Dec.{eqb}
@@ -8,8 +8,9 @@ use Rattle.geometry.specs.Pick.{pick}
 use Rattle.geometry.specs.Refused.{refusalNumber}
 use Rattle.geometry.specs.Cartridge.{pastReserved}
 use Rattle.geometry.specs.declared.address.Address.{Address}
-use Rattle.drive.specs.Command.{commandCode, commandAddress}
-use Rattle.drive.specs.Senses.{meaningOf}
+use Rattle.drive.specs.Command.{commandAddress}
+use Rattle.drive.specs.Cases as cases
+use Rattle.drive.specs.Cases.{locateGood, locateBusy, readGood, readBusy, readRecovered, readUnreadable, readEndOfData, readEndOfMedium}
 use Rattle.drive.specs.Exchange as exchange
 use Rattle.drive.specs.declared.reply.Reply.{Reply}
 use Rattle.judgement.specs.Judgement as judgement
@@ -103,25 +104,24 @@ judgedOf s frame = judgedBy (judgement.judgeFrame (s .told) (s .expected) frame)
 abbrev pub jumpedOf : Reading → Taking
 jumpedOf s = answering (movedOf s (wrapped (pastReserved (addressOf s + 32))) true) nothing
 
--- the command's code and, as the low byte, the meaning of the sense triple
 abbrev pub caseOf : Reading → Reply → ℕ
-caseOf s r = commandCode (s .exchange .command) * 256 + meaningOf (r .key) (r .asc) (r .ascq)
+caseOf s r = cases.caseOf (s .exchange .command) r
 
 -- by the command and the meaning of its reply; anything else: refusal 8
 unfoldable pub answerOf : Reading → ℕ → List ℕ → Taking
 answerOf s n frame =
     -- LOCATE and READ, busy
-    pick (eqb n 0x2B02 || eqb n 0x0802) (answering (repeatedOf s) nothing)
+    pick (eqb n locateBusy || eqb n readBusy) (answering (repeatedOf s) nothing)
     -- LOCATE, good
-    (pick (eqb n 0x2B01) (locatedOf s)
+    (pick (eqb n locateGood) (locatedOf s)
     -- READ, good or recovered, with a frame
-    (pick (eqb n 0x0801 || eqb n 0x0805) (judgedOf s frame)
+    (pick (eqb n readGood || eqb n readRecovered) (judgedOf s frame)
     -- READ, 03/11/00: one unreadable address
-    (pick (eqb n 0x0806) (skippedOf s)
+    (pick (eqb n readUnreadable) (skippedOf s)
     -- READ, 08/00/05
-    (pick (eqb n 0x0807) (jumpedOf s)
+    (pick (eqb n readEndOfData) (jumpedOf s)
     -- READ, 00/00/02
-    (pick (eqb n 0x0808) (ending s 12)
+    (pick (eqb n readEndOfMedium) (ending s 12)
     (ending s 8))))))
 
 -- refusal 7 without a command; 1 where the frame's length is wrong

@@ -3,14 +3,21 @@ ghost use mathlib.Core.Path.{_≡_};
 ghost use Prim.Native.Nat.{_%_, _^_};
 ghost use Rattle.geometry.specs.Refused.{refusalNumber};
 ghost use Rattle.judgement.specs.Judgement.{foundSaid};
-ghost use Rattle.reading.specs.Reply.{deliverySaid, takenSaid, answering, refusing, ending, repeatedOf, movedOf, advancedOf, locatedOf, skippedOf, deliveredOf, finishedOf, judgedBy, judgedOf, jumpedOf, caseOf, replyOf};
+ghost use Rattle.reading.specs.Reply.{deliverySaid, takenSaid, answering, refusing, ending, repeatedOf, movedOf, advancedOf, locatedOf, skippedOf, deliveredOf, finishedOf, judgedBy, judgedOf, jumpedOf, replyOf};
 use crate::session::Delivery;
 use crate::session::Reading;
 use crate::session::Taken;
+use drive::LOCATE_BUSY;
+use drive::LOCATE_GOOD;
+use drive::READ_BUSY;
+use drive::READ_END_OF_DATA;
+use drive::READ_END_OF_MEDIUM;
+use drive::READ_GOOD;
+use drive::READ_RECOVERED;
+use drive::READ_UNREADABLE;
 use drive::Reply;
 use drive::address;
-use drive::code;
-use drive::meaning;
+use drive::case_of;
 use frame::Kind;
 use geometry::Address;
 use geometry::Refusal;
@@ -18,23 +25,6 @@ use geometry::Seq;
 use geometry::past_reserved;
 use judgement::Judgement;
 use judgement::judge_frame;
-
-// The replies that are listed for a reading's commands: the command's code and, as the low byte, the meaning of the sense triple.
-const LOCATE_GOOD: u16 = 0x2B01;
-
-const LOCATE_BUSY: u16 = 0x2B02;
-
-const READ_GOOD: u16 = 0x0801;
-
-const READ_BUSY: u16 = 0x0802;
-
-const READ_RECOVERED: u16 = 0x0805;
-
-const READ_UNREADABLE: u16 = 0x0806;
-
-const READ_END_OF_DATA: u16 = 0x0807;
-
-const READ_END_OF_MEDIUM: u16 = 0x0808;
 
 // A number as an address. It wraps only in a session that no call returned.
 fn wrapped(n: u64) -> Address
@@ -44,15 +34,6 @@ fn wrapped(n: u64) -> Address
 }
 
 impl Reading {
-    // The command's code and, as the low byte, the meaning of the reply's sense triple.
-    fn case(self, reply: Reply) -> u16
-        ensures { λ r. ⌜ r ≡ caseOf self reply ⌝ }
-    {
-        let exchange = self.exchange;
-        let c = exchange.command;
-        (code(c) as u16) * 256 + (meaning(reply.key, reply.asc, reply.ascq) as u16)
-    }
-
     fn taken(self, delivery: Delivery) -> Taken
         ensures { λ r. ⌜ takenSaid r ≡ answering self (deliverySaid delivery) ⌝ }
     {
@@ -187,7 +168,9 @@ impl Reading {
         if frame.len() != 33280 {
             return self.refuse(Refusal::Length);
         }
-        let case = self.case(reply);
+        let exchange = self.exchange;
+        let c = exchange.command;
+        let case = case_of(c, reply);
         match case {
             // LOCATE and READ, 02/04/01 and 02/04/08: the same command again
             LOCATE_BUSY | READ_BUSY => self.repeated().taken(Delivery::Nothing),

@@ -40,8 +40,8 @@ returns-2 : tie.Need-returns-2
 unfolding replyOf
 returns-2 c = c .refuse2 .ensures ∙ sym (pick-f _ (c .before .before .if1 .left) ∙ pick-f _ (ne-eqb _ _ (c .before .if2 .taken)))
 
-case-requires : tie.Need-case-requires
-case-requires c κs = search needs
+case-of-requires : tie.Need-case-of-requires
+case-of-requires c κs = search needs
 
 repeated-requires : tie.Need-repeated-requires
 repeated-requires c κs = search needs
@@ -70,47 +70,47 @@ end-requires-2 c κs = search needs
 returns-3 : tie.Need-returns-3
 unfolding answerOf
 returns-3 c =
-    let a = c .before .before .before .before .before .before .before .before .before .args in
+    let a = c .before .before .before .before .before .before .before .before .before .before .args in
     let answer = c .taken .ensures ∙ ap (λ s. answering s nothing) (c .before .repeated .ensures) in
-    arm-of-two (a .self) (a .reply) (now (a .frame)) (c .before .before .before .before .before .if1 .left) (c .before .before .before .before .if2 .left) (c .before .before .before .case .ensures) (c .before .before .match .keys1) answer answer
+    arm-of-two (a .self) (a .reply) (now (a .frame)) (c .before .before .before .before .before .before .if1 .left) (c .before .before .before .before .before .if2 .left) (c .before .before .before .case-of .ensures) (c .before .before .match .keys1) answer answer
 
 returns-4 : tie.Need-returns-4
 unfolding answerOf
 returns-4 c =
-    let a = c .before .before .before .before .before .before .before .before .args in
-    arm (a .self) (a .reply) (now (a .frame)) (c .before .before .before .before .if1 .left) (c .before .before .before .if2 .left) (c .before .before .case .ensures) (c .before .match .keys2) (c .located .ensures)
+    let a = c .before .before .before .before .before .before .before .before .before .args in
+    arm (a .self) (a .reply) (now (a .frame)) (c .before .before .before .before .before .if1 .left) (c .before .before .before .before .if2 .left) (c .before .before .case-of .ensures) (c .before .match .keys2) (c .located .ensures)
 
 returns-5 : tie.Need-returns-5
 unfolding answerOf
 returns-5 c =
-    let a = c .before .before .before .before .before .before .before .before .args in
+    let a = c .before .before .before .before .before .before .before .before .before .args in
     let answer = c .judged .ensures in
-    arm-of-two (a .self) (a .reply) (now (a .frame)) (c .before .before .before .before .if1 .left) (c .before .before .before .if2 .left) (c .before .before .case .ensures) (c .before .match .keys3) answer answer
+    arm-of-two (a .self) (a .reply) (now (a .frame)) (c .before .before .before .before .before .if1 .left) (c .before .before .before .before .if2 .left) (c .before .before .case-of .ensures) (c .before .match .keys3) answer answer
 
 returns-6 : tie.Need-returns-6
 unfolding answerOf
 returns-6 c =
-    let a = c .before .before .before .before .before .before .before .before .args in
-    arm (a .self) (a .reply) (now (a .frame)) (c .before .before .before .before .if1 .left) (c .before .before .before .if2 .left) (c .before .before .case .ensures) (c .before .match .keys4) (c .skipped .ensures)
+    let a = c .before .before .before .before .before .before .before .before .before .args in
+    arm (a .self) (a .reply) (now (a .frame)) (c .before .before .before .before .before .if1 .left) (c .before .before .before .before .if2 .left) (c .before .before .case-of .ensures) (c .before .match .keys4) (c .skipped .ensures)
 
 returns-7 : tie.Need-returns-7
 unfolding answerOf
 returns-7 c =
-    let a = c .before .before .before .before .before .before .before .before .args in
-    arm (a .self) (a .reply) (now (a .frame)) (c .before .before .before .before .if1 .left) (c .before .before .before .if2 .left) (c .before .before .case .ensures) (c .before .match .keys5) (c .jumped .ensures)
+    let a = c .before .before .before .before .before .before .before .before .before .args in
+    arm (a .self) (a .reply) (now (a .frame)) (c .before .before .before .before .before .if1 .left) (c .before .before .before .before .if2 .left) (c .before .before .case-of .ensures) (c .before .match .keys5) (c .jumped .ensures)
 
 returns-8 : tie.Need-returns-8
 unfolding answerOf
 returns-8 c =
-    let a = c .before .before .before .before .before .before .before .before .args in
-    arm (a .self) (a .reply) (now (a .frame)) (c .before .before .before .before .if1 .left) (c .before .before .before .if2 .left) (c .before .before .case .ensures) (c .before .match .keys6) (c .end .ensures)
+    let a = c .before .before .before .before .before .before .before .before .before .args in
+    arm (a .self) (a .reply) (now (a .frame)) (c .before .before .before .before .before .if1 .left) (c .before .before .before .before .if2 .left) (c .before .before .case-of .ensures) (c .before .match .keys6) (c .end .ensures)
 
 returns-9 : tie.Need-returns-9
 unfolding answerOf
 returns-9 c =
-    let a = c .before .before .before .before .before .before .before .before .args in
+    let a = c .before .before .before .before .before .before .before .before .before .args in
     let n = c .before .match .rest in
-    arm (a .self) (a .reply) (now (a .frame)) (c .before .before .before .before .if1 .left) (c .before .before .before .if2 .left) (c .before .before .case .ensures) refl
+    arm (a .self) (a .reply) (now (a .frame)) (c .before .before .before .before .before .if1 .left) (c .before .before .before .before .if2 .left) (c .before .before .case-of .ensures) refl
     (c .end2 .ensures
     ∙ sym
     (pick-f _ (neither _ _ (ne-eqb _ _ (λ e. n .0 .0 .0 .0 .0 .1 (inr e))) (ne-eqb _ _ (λ e. n .0 .0 .0 .0 .0 .1 (inl e))))
@@ -128,7 +128,7 @@ reply-spec =
     returns
     refuse-requires-2
     returns-2
-    case-requires
+    case-of-requires
     repeated-requires
     taken-requires
     located-requires
