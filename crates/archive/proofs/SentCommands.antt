@@ -3,7 +3,7 @@ use Prim.Native.Nat.{ℕ}
 use mathlib.Core.Path.{_≡_, ap, _∙_}
 use mathlib.Core.List.{List}
 use Rattle.geometry.proofs.Impossible.{never}
-use Rattle.drive.specs.Command.{commandCode, commandAddress, commandBy}
+use Rattle.drive.specs.Command.{commandCode, commandAddress, commandBy, commandFor}
 use Rattle.drive.specs.declared.command.Command.{Command}
 use Rattle.drive.proofs.Cases.{command-by}
 use Rattle.recording.specs.Fetch as recording
@@ -40,7 +40,7 @@ module _ (s : Recording) (lent frame : List ℕ) (n a : ℕ) where
       go (view.wrongLength _ _ _) e = never (cc)
       go (view.repeating _ _) e = sends (s .exchange .command) e
       go (view.copying _ _ _) e = sends _ e
-      go (view.stepping _ _ _ c _) e = sends c e
+      go (view.stepping _ _ _ x _) e = sends (commandFor x) e
       go (view.resting _ _ _ _) e = never (cc)
       go (view.stopping _ _ _ _ _) e = never (cc)
       go (view.finished _ _ _) e = never (cc)

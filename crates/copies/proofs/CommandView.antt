@@ -1,23 +1,21 @@
 -- The command that is due, by cases, each with what is known there. Assumes nothing.
 use Prim.Native.Nat.{ℕ, _≤_, _<_}
-use mathlib.Core.Path.{_≡_}
+use mathlib.Core.Path.{_≡_, sym, ap}
 use mathlib.Core.Bool.{true, false, _&&_, and-eq-true-iff}
 use mathlib.Core.Logic.{_⊎_, ⊎-elim, inl, inr}
 use native.Mathlib.Omega.{arith}
 use lib.Dec.{ltb}
 use borrow.Author.Tests.{ltb-true, ltb-false}
-use Rattle.geometry.specs.declared.address.Address.{Address}
 use Rattle.geometry.proofs.PickLaws.{pick-by}
-use Rattle.drive.specs.declared.command.Command.{Command}
-use Rattle.drive.specs.declared.command.Command.the-variants.{Write, Locate, ReadPosition}
+use Rattle.drive.specs.Command.{Sent, write, locate, readPosition}
 use Rattle.copies.specs.declared.state.Copies.{Copies}
 use Rattle.copies.specs.Copies.{headerAt, commandOf}
 use Rattle.geometry.proofs.TestLaws.{and-false}
 
-pub data CommandView (depth : ℕ) (c : Copies) : Command → Type 0 where
-  locating : c .locate ≡ true → CommandView depth c (Locate (headerAt c))
-  writing : c .locate ≡ false → c .copy < 5 → c .outstanding < depth → CommandView depth c (Write (headerAt c))
-  asking : c .locate ≡ false → (5 ≤ c .copy) ⊎ (depth ≤ c .outstanding) → CommandView depth c ReadPosition
+pub data CommandView (depth : ℕ) (c : Copies) : Sent → Type 0 where
+  locating : c .locate ≡ true → CommandView depth c (locate (headerAt c))
+  writing : c .locate ≡ false → c .copy < 5 → c .outstanding < depth → CommandView depth c (write (headerAt c))
+  asking : c .locate ≡ false → (5 ≤ c .copy) ⊎ (depth ≤ c .outstanding) → CommandView depth c readPosition
 
 pub command-view : (depth : ℕ) (c : Copies) → CommandView depth c (commandOf depth c)
 unfolding commandOf
@@ -29,16 +27,16 @@ command-view depth c =
     (λ fails. asking f (⊎-elim (λ e. inl (ltb-false _ _ e)) (λ e. inr (ltb-false _ _ e)) (and-false (ltb (c .copy) 5) (ltb (c .outstanding) depth) fails))))
 
 -- a WRITE is only due where the group has a copy left and the drive has room for it
-pub record WriteDue (depth : ℕ) (c : Copies) (a : Address) : Type 0 where
+pub record WriteDue (depth : ℕ) (c : Copies) (a : ℕ) : Type 0 where
   pub placed : c .locate ≡ false
   pub left : c .copy < 5
   pub room : c .outstanding < depth
   pub place : a ≡ headerAt c
 
-write-in-view : (depth : ℕ) (c : Copies) (a : Address) (k : Command) → CommandView depth c k → k ≡ Write a → WriteDue depth c a
-write-in-view depth c a _ (locating t) e = let z : _≡_ {A = ℕ} 0 1 = cc in absurd (omega arith)
-write-in-view depth c a _ (writing f left room) e = record { placed = f; left = left; room = room; place = cc }
-write-in-view depth c a _ (asking f w) e = let z : _≡_ {A = ℕ} 0 1 = cc in absurd (omega arith)
+write-in-view : (depth : ℕ) (c : Copies) (a : ℕ) (k : Sent) → CommandView depth c k → k ≡ write a → WriteDue depth c a
+write-in-view depth c a _ (locating t) e = absurd (omega (arith, ap (λ (x : Sent). x .code) e))
+write-in-view depth c a _ (writing f left room) e = record { placed = f; left = left; room = room; place = ap (λ (x : Sent). x .address) (sym e) }
+write-in-view depth c a _ (asking f w) e = absurd (omega (arith, ap (λ (x : Sent). x .code) e))
 
-pub write-due : (depth : ℕ) (c : Copies) (a : Address) → commandOf depth c ≡ Write a → WriteDue depth c a
+pub write-due : (depth : ℕ) (c : Copies) (a : ℕ) → commandOf depth c ≡ write a → WriteDue depth c a
 write-due depth c a e = write-in-view depth c a (commandOf depth c) (command-view depth c) e

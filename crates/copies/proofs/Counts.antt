@@ -2,9 +2,8 @@
 use Prim.Native.Nat.{ℕ, _+_, _-_, _*_, _%_, _^_, _≤_, _<_}
 use mathlib.Core.Path.{_≡_}
 use native.Mathlib.Omega.{arith}
-use Rattle.geometry.specs.declared.address.Address.{Address}
 use Rattle.frame.specs.declared.header.Header.{Header}
-use Rattle.drive.specs.declared.command.Command.the-variants.{Write}
+use Rattle.drive.specs.Command.{write}
 use Rattle.copies.specs.declared.state.Copies.{Copies}
 use Rattle.copies.specs.Copies.{startOf, commandOf, Said, more, complete, refused, locatedOf, takenOf, confirmedOf, onwardOf, failedAt, firstAddress, oldestAddress, nextAddress}
 use Rattle.copies.proofs.CommandView.{write-due}
@@ -63,5 +62,5 @@ module _ (c : Copies) (g : CountsOf c) where
   onward-counts = onward-in-view (onwardOf c) (onward-view c)
 
 -- a WRITE that is answered was due
-pub written-counts : (depth : ℕ) (c : Copies) (a : Address) → CountsOf c → commandOf depth c ≡ Write a → CountsOf (takenOf c)
+pub written-counts : (depth : ℕ) (c : Copies) (a : ℕ) → CountsOf c → commandOf depth c ≡ write a → CountsOf (takenOf c)
 written-counts depth c a g due = taken-counts c g (write-due depth c a due .left)

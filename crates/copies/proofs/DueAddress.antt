@@ -4,12 +4,10 @@ use mathlib.Core.Path.{_≡_, refl, sym, ap, _∙_}
 use mathlib.Core.Bool.{Bool, true, false, false≢true}
 use mathlib.Core.Logic.{_⊎_, ⊎-elim}
 use native.Mathlib.Omega.{arith}
-use Rattle.geometry.specs.declared.address.Address.{Address}
 use Rattle.frame.specs.declared.header.Header.{Header}
-use Rattle.drive.specs.declared.command.Command.{Command}
-use Rattle.drive.specs.declared.command.Command.the-variants.{Write, Locate}
+use Rattle.drive.specs.Command.{Sent, write, locate}
 use Rattle.copies.specs.declared.state.Copies.{Copies}
-use Rattle.copies.specs.Copies.{startOf, headerAt, commandOf, Said, more, complete, refused, onwardOf, nextAddress}
+use Rattle.copies.specs.Copies.{startOf, commandOf, Said, more, complete, refused, onwardOf, nextAddress}
 use Rattle.copies.proofs.HeaderPlaces.{header-from-first}
 use Rattle.copies.proofs.CommandView.{CommandView, locating, writing, asking, command-view, write-due}
 use Rattle.copies.proofs.AnswerView.{OnwardView, unfinished, turning, unwritten, through, onward-view}
@@ -44,17 +42,13 @@ onward-in-view c _ empty (through filled none later some) = tt
 pub onward-placed : (c : Copies) → (c .locate ≡ true → c .outstanding ≡ 0) → PlacedSaid (onwardOf c)
 onward-placed c empty = onward-in-view c (onwardOf c) empty (onward-view c)
 
-pub write-address : (depth : ℕ) (c : Copies) (a : Address) → commandOf depth c ≡ Write a → a .0 ≡ nextAddress c
-write-address depth c a e =
-    let due = write-due depth c a e in
-    ap (λ (x : Address). x .0) (due .place) ∙ header-from-first (c .group) (c .copy) (due .left)
+pub write-address : (depth : ℕ) (c : Copies) (a : ℕ) → commandOf depth c ≡ write a → a ≡ nextAddress c
+write-address depth c a e = let due = write-due depth c a e in due .place ∙ header-from-first (c .group) (c .copy) (due .left)
 
-locate-in-view : (depth : ℕ) (c : Copies) (a : Address) (k : Command) → PlacedOf c → CommandView depth c k → k ≡ Locate a → a .0 ≡ nextAddress c
-locate-in-view depth c a _ p (locating t) e =
-    let same : a ≡ headerAt c = cc in
-    ap (λ (x : Address). x .0) same ∙ header-from-first (c .group) (c .copy) (p .left t)
-locate-in-view depth c a _ p (writing f left room) e = let z : _≡_ {A = ℕ} 0 1 = cc in absurd (omega arith)
-locate-in-view depth c a _ p (asking f w) e = let z : _≡_ {A = ℕ} 0 1 = cc in absurd (omega arith)
+locate-in-view : (depth : ℕ) (c : Copies) (a : ℕ) (k : Sent) → PlacedOf c → CommandView depth c k → k ≡ locate a → a ≡ nextAddress c
+locate-in-view depth c a _ p (locating t) e = ap (λ (x : Sent). x .address) (sym e) ∙ header-from-first (c .group) (c .copy) (p .left t)
+locate-in-view depth c a _ p (writing f left room) e = absurd (omega (arith, ap (λ (x : Sent). x .code) e))
+locate-in-view depth c a _ p (asking f w) e = absurd (omega (arith, ap (λ (x : Sent). x .code) e))
 
-pub locate-address : (depth : ℕ) (c : Copies) (a : Address) → PlacedOf c → commandOf depth c ≡ Locate a → a .0 ≡ nextAddress c
+pub locate-address : (depth : ℕ) (c : Copies) (a : ℕ) → PlacedOf c → commandOf depth c ≡ locate a → a ≡ nextAddress c
 locate-address depth c a p e = locate-in-view depth c a (commandOf depth c) p (command-view depth c) e

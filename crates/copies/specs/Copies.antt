@@ -6,10 +6,8 @@ use lib.Dec.{eqb, ltb, leb}
 use Rattle.geometry.specs.Pick.{pick}
 use Rattle.geometry.specs.Refused.{refusalNumber}
 use Rattle.geometry.specs.Cartridge.{headerAddress}
-use Rattle.geometry.specs.declared.address.Address.{Address}
 use Rattle.frame.specs.declared.header.Header.{Header}
-use Rattle.drive.specs.declared.command.Command.{Command}
-use Rattle.drive.specs.declared.command.Command.the-variants.{Write, Locate, ReadPosition}
+use Rattle.drive.specs.Command.{Sent, write, locate, readPosition}
 use Rattle.copies.specs.declared.state.Copies.{Copies}
 use Rattle.copies.specs.declared.answer.Progress.{Progress}
 use Rattle.copies.specs.declared.answer.Progress.the-variants.{More, Complete, Refused}
@@ -19,14 +17,14 @@ abbrev pub startOf : Header → Copies
 startOf h = record { header = h; group = 0; copy = 0; outstanding = 0; confirmed = 0; locate = true }
 
 -- the address of the next copy
-abbrev pub headerAt : Copies → Address
-headerAt c = record { 0 = headerAddress (c .group) (c .copy) }
+abbrev pub headerAt : Copies → ℕ
+headerAt c = headerAddress (c .group) (c .copy)
 
 -- the command that is due
-unfoldable pub commandOf : ℕ → Copies → Command
+unfoldable pub commandOf : ℕ → Copies → Sent
 commandOf depth c =
-    pick (c .locate) (Locate (headerAt c))
-    (pick (ltb (c .copy) 5 && ltb (c .outstanding) depth) (Write (headerAt c)) ReadPosition)
+    pick (c .locate) (locate (headerAt c))
+    (pick (ltb (c .copy) 5 && ltb (c .outstanding) depth) (write (headerAt c)) readPosition)
 
 -- how far the copies are after a reply
 pub data Said : Type 0 where

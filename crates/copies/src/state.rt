@@ -1,6 +1,7 @@
 // Which copy is written next, and the command that is due.
 ghost use mathlib.Core.Path.{_≡_};
-ghost use Rattle.copies.specs.Copies.{startOf, headerAt, commandOf};
+ghost use Rattle.drive.specs.Command.{commandSaid};
+ghost use Rattle.copies.specs.Copies.{startOf, commandOf};
 use drive::Command;
 use frame::Header;
 use geometry::header_address;
@@ -36,7 +37,7 @@ impl Copies {
 
     // The command that is due, for a drive that buffers `depth` frames.
     pub fn command(self, depth: u8) -> Command
-        ensures { λ r. ⌜ r ≡ commandOf depth self ⌝ }
+        ensures { λ r. ⌜ commandSaid r ≡ commandOf depth self ⌝ }
     {
         let address = header_address(self.group, self.copy);
         if self.locate {

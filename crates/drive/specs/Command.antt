@@ -24,3 +24,24 @@ commandBy code a =
     pick (eqb code 0x08) (Read (record { 0 = a }))
     (pick (eqb code 0x0A) (Write (record { 0 = a }))
     (pick (eqb code 0x2B) (Locate (record { 0 = a })) ReadPosition))
+
+-- a command as it is sent: operation code and address
+pub record Sent : Type 0 where
+  pub code : ℕ
+  pub address : ℕ
+
+abbrev pub commandSaid : Command → Sent
+commandSaid c = record { code = commandCode c; address = commandAddress c }
+
+abbrev pub commandFor : Sent → Command
+commandFor x = commandBy (x .code) (x .address)
+
+-- those of a recording
+abbrev pub write : ℕ → Sent
+write a = record { code = 0x0A; address = a }
+
+abbrev pub locate : ℕ → Sent
+locate a = record { code = 0x2B; address = a }
+
+abbrev pub readPosition : Sent
+readPosition = record { code = 0x34; address = 0 }

@@ -7,9 +7,8 @@ use native.Mathlib.Omega.{arith}
 use borrow.Author.Tests.{ltb-true, ltb-false, leb-true, leb-false, eqb-true, eqb-false}
 use lib.Dec.{eqb, ltb, leb}
 use Rattle.geometry.proofs.PickLaws.{pick-by}
-use Rattle.drive.specs.declared.command.Command.the-variants.{Write, Locate, ReadPosition}
+use Rattle.drive.specs.Command.{write, locate, readPosition}
 use Rattle.elements.specs.declared.state.Elements.{Elements}
-use Rattle.elements.specs.Elements.{at}
 use Rattle.elements.specs.Due.{Said, send, idle, refused, aboveEnd, mustConfirm, dueOf}
 use Rattle.geometry.proofs.TestLaws.{or-true, or-false, either-left, either-right, and-true, not-both}
 
@@ -19,18 +18,18 @@ Waits depth e = (depth ≤ e .outstanding) ⊎ ((0 < e .outstanding) × ((e .nex
 
 pub data DueView (depth : ℕ) (e : Elements) : Said → Type 0 where
   -- 1
-  relocating : e .relocate ≡ true → DueView depth e (send (Locate (e .target)))
+  relocating : e .relocate ≡ true → DueView depth e (send (locate (e .target .0)))
   -- 2
   resting : e .relocate ≡ false → e .pending ≤ e .outstanding → e .outstanding ≡ 0 → DueView depth e idle
-  settling : e .relocate ≡ false → e .pending ≤ e .outstanding → 0 < e .outstanding → DueView depth e (send ReadPosition)
+  settling : e .relocate ≡ false → e .pending ≤ e .outstanding → 0 < e .outstanding → DueView depth e (send readPosition)
   -- 3
-  confirming : e .relocate ≡ false → e .outstanding < e .pending → Waits depth e → DueView depth e (send ReadPosition)
+  confirming : e .relocate ≡ false → e .outstanding < e .pending → Waits depth e → DueView depth e (send readPosition)
   -- 4
   full : e .relocate ≡ false → e .outstanding < e .pending → e .outstanding ≡ 0 → e .limit .0 ≤ e .next .0 → DueView depth e (refused 9)
   -- 5
-  jumping : e .relocate ≡ false → e .outstanding < e .pending → e .outstanding ≡ 0 → e .next .0 < e .limit .0 → e .next .0 ≡ 2990 → DueView depth e (send (Locate (at 3000)))
+  jumping : e .relocate ≡ false → e .outstanding < e .pending → e .outstanding ≡ 0 → e .next .0 < e .limit .0 → e .next .0 ≡ 2990 → DueView depth e (send (locate 3000))
   -- 6
-  writing : e .relocate ≡ false → e .outstanding < e .pending → e .outstanding < depth → e .next .0 < e .limit .0 → (e .next .0 ≡ 2990 → ⊥) → DueView depth e (send (Write (e .next)))
+  writing : e .relocate ≡ false → e .outstanding < e .pending → e .outstanding < depth → e .next .0 < e .limit .0 → (e .next .0 ≡ 2990 → ⊥) → DueView depth e (send (write (e .next .0)))
 
 module _ (depth : ℕ) (e : Elements) where
   -- the next address is 2,990 or above END
@@ -63,6 +62,6 @@ module _ (depth : ℕ) (e : Elements) where
       (λ n. writing r (leb-false _ _ p) (not-full c) (leb-false _ _ a) (eqb-false _ _ n))))))
 
 -- a READ POSITION goes out only for something outstanding
-pub something-outstanding : (depth : ℕ) (e : Elements) → 0 < depth → DueView depth e (send ReadPosition) → 0 < e .outstanding
+pub something-outstanding : (depth : ℕ) (e : Elements) → 0 < depth → DueView depth e (send readPosition) → 0 < e .outstanding
 something-outstanding depth e h (settling r p o) = o
 something-outstanding depth e h (confirming r p o) = ⊎-elim (λ d. omega arith) (λ w. w .0) o

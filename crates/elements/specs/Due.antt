@@ -4,20 +4,18 @@ use mathlib.Core.Bool.{Bool, _&&_, _||_}
 use lib.Dec.{eqb, ltb, leb}
 use Rattle.geometry.specs.Pick.{pick}
 use Rattle.geometry.specs.Refused.{refusalNumber}
-use Rattle.drive.specs.declared.command.Command.{Command}
-use Rattle.drive.specs.declared.command.Command.the-variants.{Write, Locate, ReadPosition}
+use Rattle.drive.specs.Command.{Sent, commandSaid, write, locate, readPosition}
 use Rattle.elements.specs.declared.state.Elements.{Elements}
 use Rattle.elements.specs.declared.due.Due.{Due}
 use Rattle.elements.specs.declared.due.Due.the-variants as D
-use Rattle.elements.specs.Elements.{at}
 
 pub data Said : Type 0 where
-  send : Command → Said
+  send : Sent → Said
   idle : Said
   refused : ℕ → Said
 
 abbrev pub dueSaid : Due → Said
-dueSaid (D.Send c) = send c
+dueSaid (D.Send c) = send (commandSaid c)
 dueSaid D.Idle = idle
 dueSaid (D.Refused r) = refused (refusalNumber r)
 
@@ -32,14 +30,14 @@ mustConfirm depth e = leb depth (e .outstanding) || (ltb 0 (e .outstanding) && (
 unfoldable pub dueOf : ℕ → Elements → Said
 dueOf depth e =
     -- 1: a write error is noted: LOCATE its target
-    pick (e .relocate) (send (Locate (e .target)))
+    pick (e .relocate) (send (locate (e .target .0)))
     -- 2: nothing due: READ POSITION if any is outstanding, else idle
-    (pick (leb (e .pending) (e .outstanding)) (pick (eqb (e .outstanding) 0) idle (send ReadPosition))
+    (pick (leb (e .pending) (e .outstanding)) (pick (eqb (e .outstanding) 0) idle (send readPosition))
     -- 3
-    (pick (mustConfirm depth e) (send ReadPosition)
+    (pick (mustConfirm depth e) (send readPosition)
     -- 4: next address above END: refusal 9
     (pick (aboveEnd e) (refused 9)
     -- 5: next address 2,990: LOCATE 3,000
-    (pick (eqb (e .next .0) 2990) (send (Locate (at 3000)))
+    (pick (eqb (e .next .0) 2990) (send (locate 3000))
     -- 6: otherwise WRITE
-    (send (Write (e .next)))))))
+    (send (write (e .next .0)))))))

@@ -8,7 +8,7 @@ use lib.Dec.{eqb}
 use lib.ListN.{length}
 use borrow.Author.Tests.{eq-eqb, ne-eqb, eqb-true, eqb-false}
 use Rattle.geometry.proofs.PickLaws.{pick-t, pick-f, pick-by}
-use Rattle.drive.specs.declared.command.Command.{Command}
+use Rattle.drive.specs.Command.{Sent, commandFor}
 use Rattle.copies.specs.Copies as copies
 use Rattle.elements.specs.Due as due
 use Rattle.geometry.proofs.TestLaws.{or-true, or-false, and-true, and-false}
@@ -33,8 +33,8 @@ pub data FetchView (s : Recording) (window frame : List ℕ) : Fetching → Type
   wrongPhase : (s .ended ≡ true) ⊎ (s .exchange .awaiting ≡ true) → FetchView s window frame (record { session = s; said = refused 7; frame = frame })
   wrongLength : s .ended ≡ false → s .exchange .awaiting ≡ false → WrongLength s window frame → FetchView s window frame (record { session = s; said = refused 1; frame = frame })
   repeating : Ready s window frame → s .exchange .again ≡ true → FetchView s window frame (sending s (s .exchange .command) window frame)
-  copying : Ready s window frame → s .exchange .again ≡ false → HeaderStage s → FetchView s window frame (sending s (copies.commandOf (s .setup .depth) (s .copies)) window frame)
-  stepping : Ready s window frame → s .exchange .again ≡ false → ElementStage s → (c : Command) → due.dueOf (s .setup .depth) (s .elements) ≡ due.send c → FetchView s window frame (sending s c window frame)
+  copying : Ready s window frame → s .exchange .again ≡ false → HeaderStage s → FetchView s window frame (sending s (commandFor (copies.commandOf (s .setup .depth) (s .copies))) window frame)
+  stepping : Ready s window frame → s .exchange .again ≡ false → ElementStage s → (x : Sent) → due.dueOf (s .setup .depth) (s .elements) ≡ due.send x → FetchView s window frame (sending s (commandFor x) window frame)
   resting : Ready s window frame → s .exchange .again ≡ false → ElementStage s → due.dueOf (s .setup .depth) (s .elements) ≡ due.idle → FetchView s window frame (record { session = s; said = idle; frame = frame })
   stopping : Ready s window frame → s .exchange .again ≡ false → ElementStage s → (n : ℕ) → due.dueOf (s .setup .depth) (s .elements) ≡ due.refused n → FetchView s window frame (record { session = endedOf s; said = refused n; frame = frame })
   finished : Ready s window frame → s .exchange .again ≡ false → s .stage ≡ S.Done → FetchView s window frame (record { session = s; said = done; frame = frame })

@@ -10,6 +10,7 @@ use lib.ListN.{length}
 use Rattle.geometry.proofs.Impossible.{never}
 use Rattle.geometry.proofs.PickLaws.{pick-by}
 use Rattle.drive.specs.declared.reply.Reply.{Reply}
+use Rattle.drive.specs.Command.{commandFor}
 use Rattle.drive.specs.declared.command.Command.{Command}
 use Rattle.copies.specs.Copies as copies
 use Rattle.copies.specs.declared.state.Copies.{Copies}
@@ -129,7 +130,7 @@ module _ (s : Recording) where
       go (fetching.wrongLength _ _ _) e = let number : 1 ≡ n = cc in unchanged-by n (omega arith)
       go (fetching.repeating _ _) e = never (sends s _ window frame e)
       go (fetching.copying _ _ _) e = never (sends s _ window frame e)
-      go (fetching.stepping _ _ _ c _) e = never (sends s c window frame e)
+      go (fetching.stepping _ _ _ x _) e = never (sends s (commandFor x) window frame e)
       go (fetching.resting _ _ _ _) e = never (cc)
       go (fetching.stopping _ _ _ m q) e = let number : m ≡ n = cc in ended-by n (omega (arith, due-number (dues.due-view (s .setup .depth) (s .elements)) q))
       go (fetching.finished _ _ _) e = never (cc)

@@ -12,7 +12,7 @@ use Rattle.frame.specs.Header.{headerFrame}
 use Rattle.frame.specs.declared.element.Element.{Element}
 use Rattle.frame.specs.declared.element.Kind.{Kind}
 use Rattle.frame.specs.declared.element.Kind.the-variants as K
-use Rattle.drive.specs.Command.{commandCode, commandAddress}
+use Rattle.drive.specs.Command.{commandCode, commandAddress, commandFor}
 use Rattle.drive.specs.Exchange.{sentOf}
 use Rattle.drive.specs.declared.command.Command.{Command}
 use Rattle.drive.specs.declared.command.Command.the-variants.{Read, Write, Locate, ReadPosition}
@@ -43,10 +43,10 @@ decisionSaid A.Done = done
 decisionSaid (A.Refused r) = refuse (refusalNumber r)
 
 abbrev pub headerDue : Recording → Decision
-headerDue s = send (copies.commandOf (s .setup .depth) (s .copies))
+headerDue s = send (commandFor (copies.commandOf (s .setup .depth) (s .copies)))
 
 abbrev pub elementDueBy : due.Said → Decision
-elementDueBy (due.send c) = send c
+elementDueBy (due.send x) = send (commandFor x)
 elementDueBy due.idle = idle
 elementDueBy (due.refused n) = refuse n
 

@@ -16,6 +16,7 @@ use Rattle.buffer.specs.Bytes.{agree}
 use Rattle.buffer.proofs.Agreement.{agree-is}
 use Rattle.frame.specs.Header.{headerFrame}
 use Rattle.archive.specs.Conduct.{Drive, empty}
+use Rattle.drive.specs.Command.{Sent, commandFor}
 use Rattle.drive.specs.declared.command.Command.{Command}
 use Rattle.drive.specs.declared.command.Command.the-variants.{Read, Write, Locate, ReadPosition}
 use Rattle.drive.proofs.Cases.{command-by}
@@ -185,11 +186,11 @@ module _ {last pass : ℕ} {premises : Type 0} (w : World) (lent frame : List �
         (goes-out c (l .edge) (course (record { counts = agree .counts; placed = agree .placed; copying = copies.under-way c (frameFor c (w .session) lent frame) refl refl refl (header-sent c) asked }))
         (λ p u same. content-out c p u same (l .content p u .seen) (λ _ _ el _. header-not-element (w .session) st el)))
 
-    asks-header : {c : Command} → PlacedOf (w .session .copies) → command.CommandView (w .session .setup .depth) (w .session .copies) c → w .session .exchange .again ≡ false → Copying (w .session) (w .drive) recordings.none → CopyAsks (w .session .copies) (w .drive) c
+    asks-header : {x : Sent} → PlacedOf (w .session .copies) → command.CommandView (w .session .setup .depth) (w .session .copies) x → w .session .exchange .again ≡ false → Copying (w .session) (w .drive) recordings.none → CopyAsks (w .session .copies) (w .drive) (commandFor x)
     asks-header pl (command.locating t) ag (copies.at-place a g x) = clash t (x .placed)
-    asks-header pl (command.locating t) ag (copies.to-seek a g x) = copies.seeks (copying.headerAt (w .session .copies)) (header-from-first (w .session .copies .group) (w .session .copies .copy) (pl .left t)) x
+    asks-header pl (command.locating t) ag (copies.to-seek a g x) = copies.seeks (counting.at (copying.headerAt (w .session .copies))) (header-from-first (w .session .copies .group) (w .session .copies .copy) (pl .left t)) x
     asks-header pl (command.locating t) ag (copies.again a g x) = clash g ag
-    asks-header pl (command.writing f left room) ag (copies.at-place a g x) = copies.writes (copying.headerAt (w .session .copies)) (header-from-first (w .session .copies .group) (w .session .copies .copy) left) left x
+    asks-header pl (command.writing f left room) ag (copies.at-place a g x) = copies.writes (counting.at (copying.headerAt (w .session .copies))) (header-from-first (w .session .copies .group) (w .session .copies .copy) left) left x
     asks-header pl (command.writing f left room) ag (copies.to-seek a g x) = clash (x .due) f
     asks-header pl (command.writing f left room) ag (copies.again a g x) = clash g ag
     asks-header pl (command.asking f y) ag (copies.at-place a g x) = copies.asks x
@@ -234,7 +235,7 @@ module _ {last pass : ℕ} {premises : Type 0} (w : World) (lent frame : List �
         });
       }
 
-  out-element : {c : Command} → rule.DueView (w .session .setup .depth) (w .session .elements) (due.send c) → w .session .exchange .again ≡ false → Writing last (w .session) (w .drive) (l .k) (l .edge) recordings.none → Out c
+  out-element : {x : Sent} → rule.DueView (w .session .setup .depth) (w .session .elements) (due.send x) → w .session .exchange .again ≡ false → Writing last (w .session) (w .drive) (l .k) (l .edge) recordings.none → Out (commandFor x)
   out-element (rule.relocating r) ag (elements.at-place a g x) = clash r (x .placed)
   out-element (rule.relocating r) ag (elements.to-locate a g q x) = record { edge = l .edge; further = le-refl (l .edge); asks = elements.moves (w .session .elements .target) x }
   out-element (rule.relocating r) ag (elements.again a g x) = clash g ag
@@ -328,7 +329,7 @@ module _ {last pass : ℕ} {premises : Type 0} (w : World) (lent frame : List �
     fetch-header (view.wrongLength _ _ _) te = no-effect (omega arith) (omega arith) te
     fetch-header (view.repeating r ag) te = as-named (w .session .exchange .command) (header-out w lent frame set wr l st (w .session .exchange .command) agree (again-header w lent frame set wr l st ag (copying-idle (r .free) (agree .copying))) (course (w .session .exchange .command)))
     fetch-header (view.copying r ag _) te =
-        let c = copying.commandOf (w .session .setup .depth) (w .session .copies) in
+        let c = commandFor (copying.commandOf (w .session .setup .depth) (w .session .copies)) in
         as-named c (header-out w lent frame set wr l st c agree (asks-header w lent frame set wr l st (agree .placed) (command.command-view (w .session .setup .depth) (w .session .copies)) ag (copying-idle (r .free) (agree .copying))) (course c))
     fetch-header (view.stepping r ag el c d) te = header-not-element (w .session) st el
     fetch-header (view.resting r ag el d) te = header-not-element (w .session) st el
@@ -347,7 +348,8 @@ module _ {last pass : ℕ} {premises : Type 0} (w : World) (lent frame : List �
     fetch-elements (view.repeating r ag) te =
         as-named (w .session .exchange .command) (element-out w lent frame set wr l (r .windowRight) numbers alone (w .session .exchange .command) (again-element w lent frame set wr l ag (writing-idle (r .free) agree .0)) st (course (w .session .exchange .command)))
     fetch-elements (view.copying r ag h) te = header-not-element (w .session) h st
-    fetch-elements (view.stepping r ag el c d) te =
+    fetch-elements (view.stepping r ag el x d) te =
+        let c = commandFor x in
         as-named c (element-out w lent frame set wr l (r .windowRight) numbers alone c (out-element w lent frame set wr l (subst (rule.DueView (w .session .setup .depth) (w .session .elements)) d (rule.due-view (w .session .setup .depth) (w .session .elements))) ag (writing-idle (r .free) agree .0)) st (course c))
     fetch-elements (view.resting r ag el d) te = live wr (quiet w lent frame set wr l (w .reported) (l .reported))
     fetch-elements (view.stopping r ag el n d) te =

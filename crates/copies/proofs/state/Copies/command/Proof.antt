@@ -1,9 +1,8 @@
 -- `copies::state::Copies::command` meets its contract. Assumes nothing.
-use Prim.Native.Nat.{ℕ}
 use mathlib.Core.Path.{_∙_, sym, ap}
 use borrow.Author.Needs.{needs}
 use Rattle.geometry.proofs.PickLaws.{pick-t, pick-f}
-use Rattle.drive.specs.declared.command.Command.the-variants.{Write, Locate}
+use Rattle.drive.specs.Command.{write, locate}
 use Rattle.copies.specs.Copies.{commandOf}
 use Rattle.copies.proofs.state.Copies.command.Statement.{statement}
 use Rattle.copies.proofs.state.Copies.command.Tie as tie
@@ -14,13 +13,13 @@ header-address-requires c κs = search needs
 returns : tie.Need-returns
 unfolding commandOf
 returns c =
-    ap (λ (n : ℕ). Locate (record { 0 = n })) (c .before .header-address .ensures)
+    ap locate (c .before .header-address .ensures)
     ∙ sym (pick-t _ (c .if1 .taken))
 
 returns-2 : tie.Need-returns-2
 unfolding commandOf
 returns-2 c =
-    ap (λ (n : ℕ). Write (record { 0 = n })) (c .before .before .before .before .header-address .ensures)
+    ap write (c .before .before .before .before .header-address .ensures)
     ∙ sym (pick-f _ (c .before .before .before .if1 .left) ∙ pick-t _ (c .if2 .taken))
 
 returns-3 : tie.Need-returns-3
