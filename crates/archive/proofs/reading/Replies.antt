@@ -71,7 +71,7 @@ module _ {told : Told} {t : Tape} (k : ReadTape told t) (w : World) (u : Under t
     unfolding look
     frame-read there = step ∙ ap (λ v. look told v (going (w .session .expected .0) (w .notes .deliveries))) there
 
-    pub nothing-read : t (w .session .next .0) ≡ none → foldOf told t (w .session .next .0 + 1) ≡ going (w .session .expected .0) (w .notes .deliveries)
+    nothing-read : t (w .session .next .0) ≡ none → foldOf told t (w .session .next .0 + 1) ≡ going (w .session .expected .0) (w .notes .deliveries)
     unfolding look
     nothing-read there = step ∙ ap (λ v. look told v (going (w .session .expected .0) (w .notes .deliveries))) there
 

@@ -17,10 +17,16 @@ number-requires-2 : tie.Need-number-requires-2
 number-requires-2 c κs = search needs
 
 returns : tie.Need-returns
-returns c = let a = c .before .before .before .args in let h : refusalNumber (a .second) < refusalNumber (a .first) = omega arith in sym (pick-t _ (lt-ltb _ _ h))
+returns c =
+    let a = c .before .before .before .args in
+    let h : refusalNumber (a .second) < refusalNumber (a .first) = omega arith in
+    sym (pick-t _ (lt-ltb _ _ h))
 
 returns-2 : tie.Need-returns-2
-returns-2 c = let a = c .before .before .before .args in let h : refusalNumber (a .first) ≤ refusalNumber (a .second) = omega arith in sym (pick-f _ (le-ltb _ _ h))
+returns-2 c =
+    let a = c .before .before .before .args in
+    let h : refusalNumber (a .first) ≤ refusalNumber (a .second) = omega arith in
+    sym (pick-f _ (le-ltb _ _ h))
 
 pub lower-spec : {M : Type 1} → statement M
 lower-spec = tie.close (tie.spec number-requires number-requires-2 returns returns-2)

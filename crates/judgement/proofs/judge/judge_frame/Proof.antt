@@ -28,7 +28,11 @@ judge-aux-requires : tie.Need-judge-aux-requires
 judge-aux-requires c κs = search needs
 
 returns-2 : tie.Need-returns-2
-returns-2 c = let a = c .before .before .before .before .args in let l = now (a .frame) in let k : length (drop 32768 l) ≤ length l - 32768 = omega (arith, length-drop 32768 l) in c .judge-aux .ensures ∙ ap (λ (x : List ℕ). judgeAux (a .told) (a .expected) x) (take-all (length l - 32768) (drop 32768 l) k) ∙ sym (right-length (a .told) (a .expected) l (c .before .before .if1 .left))
+returns-2 c =
+    let a = c .before .before .before .before .args in
+    let l = now (a .frame) in
+    let k : length (drop 32768 l) ≤ length l - 32768 = omega (arith, length-drop 32768 l) in
+    c .judge-aux .ensures ∙ ap (λ (x : List ℕ). judgeAux (a .told) (a .expected) x) (take-all (length l - 32768) (drop 32768 l) k) ∙ sym (right-length (a .told) (a .expected) l (c .before .before .if1 .left))
 
 pub judge-frame-spec : {M : Type 1} → statement M
 judge-frame-spec =

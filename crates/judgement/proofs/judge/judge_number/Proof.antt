@@ -14,10 +14,14 @@ be32-at-requires : tie.Need-be32-at-requires
 be32-at-requires c κs = search needs
 
 returns : tie.Need-returns
-returns c = let a = c .before .before .before .before .args in sym (number-below (a .told) (a .expected) (a .k) (now (a .aux)) (omega arith))
+returns c =
+    let a = c .before .before .before .before .args in
+    sym (number-below (a .told) (a .expected) (a .k) (now (a .aux)) (omega arith))
 
 returns-2 : tie.Need-returns-2
-returns-2 c = let a = c .before .before .before .before .before .before .args in sym (number-above (a .told) (a .expected) (a .k) (now (a .aux)) (omega arith))
+returns-2 c =
+    let a = c .before .before .before .before .before .before .args in
+    sym (number-above (a .told) (a .expected) (a .k) (now (a .aux)) (omega arith))
 
 expected-element-requires : tie.Need-expected-element-requires
 expected-element-requires c κs = search needs
@@ -26,10 +30,14 @@ as-table-requires : tie.Need-as-table-requires
 as-table-requires c κs = search needs
 
 returns-3 : tie.Need-returns-3
-returns-3 c = let a = c .before .before .before .before .before .before .before .before .before .args in sym (number-same (a .told) (a .expected) (a .k) (now (a .aux)) (omega arith) ∙ pick-t _ (sym (c .before .as-table .ensures ∙ ap (λ (e : Element). asTable e (now (a .aux))) (c .before .before .expected-element .ensures)) ∙ c .if3 .taken))
+returns-3 c =
+    let a = c .before .before .before .before .before .before .before .before .before .args in
+    sym (number-same (a .told) (a .expected) (a .k) (now (a .aux)) (omega arith) ∙ pick-t _ (sym (c .before .as-table .ensures ∙ ap (λ (e : Element). asTable e (now (a .aux))) (c .before .before .expected-element .ensures)) ∙ c .if3 .taken))
 
 returns-4 : tie.Need-returns-4
-returns-4 c = let a = c .before .before .before .before .before .before .before .before .before .args in sym (number-same (a .told) (a .expected) (a .k) (now (a .aux)) (omega arith) ∙ pick-f _ (sym (c .before .as-table .ensures ∙ ap (λ (e : Element). asTable e (now (a .aux))) (c .before .before .expected-element .ensures)) ∙ c .if3 .left))
+returns-4 c =
+    let a = c .before .before .before .before .before .before .before .before .before .args in
+    sym (number-same (a .told) (a .expected) (a .k) (now (a .aux)) (omega arith) ∙ pick-f _ (sym (c .before .as-table .ensures ∙ ap (λ (e : Element). asTable e (now (a .aux))) (c .before .before .expected-element .ensures)) ∙ c .if3 .left))
 
 pub judge-number-spec : {M : Type 1} → statement M
 judge-number-spec =

@@ -28,7 +28,10 @@ returns-3 : tie.Need-returns-3
 returns-3 c = c .judge-kind3 .ensures ∙ sym (typed _ _ _ Eod (sym (c .before .before .be16-at .ensures) ∙ c .before .match .keys3))
 
 returns-4 : tie.Need-returns-4
-returns-4 c = let n = c .match .rest in let t = c .before .be16-at .ensures in sym (untyped _ _ _ (no-kind (λ e. n .0 .0 .1 (t ∙ e)) (λ e. n .0 .1 (t ∙ e)) (λ e. n .1 (t ∙ e))))
+returns-4 c =
+    let n = c .match .rest in
+    let t = c .before .be16-at .ensures in
+    sym (untyped _ _ _ (no-kind (λ e. n .0 .0 .1 (t ∙ e)) (λ e. n .0 .1 (t ∙ e)) (λ e. n .1 (t ∙ e))))
 
 pub judge-type-spec : {M : Type 1} → statement M
 judge-type-spec =
