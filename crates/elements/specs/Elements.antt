@@ -10,7 +10,8 @@ use Rattle.elements.specs.declared.state.Elements.{Elements}
 abbrev pub at : ℕ → Address
 at n = record { 0 = n }
 
--- LOCATE 10 comes first; END starts as LAST
+-- LOCATE 10 comes first, as rule 1's LOCATE of a target: nothing is outstanding, and 10 is the target.
+-- limit is END + 1, the address at which 0D/00/02 came; END starts as LAST
 abbrev pub startOf : ℕ → Elements
 startOf last = record {
   first = record { 0 = 0 };

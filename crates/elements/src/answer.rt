@@ -66,8 +66,9 @@ impl Elements {
     {
         let start = self.trail;
         let marks = self.marks;
+        let first = self.first;
         let base = self.base();
-        let trail = trail_after(start, marks, self.first.0, base, n);
+        let trail = trail_after(start, marks, first, base, n);
         Elements {
             first: self.number(n),
             pending: less(self.pending, n),
@@ -107,7 +108,7 @@ impl Elements {
         let base = self.base();
         let next = self.next;
         let limit = self.limit;
-        if p.0 < base {
+        if p.0 < base.0 {
             return self.refuse(Refusal::Reply);
         }
         if next.0 <= p.0 {
@@ -115,7 +116,7 @@ impl Elements {
         }
         let place = target(p, skip, limit);
         match place {
-            Place::At(t) => self.confirmed((p.0 - base) as u16).relocated(t).keep(),
+            Place::At(t) => self.confirmed((p.0 - base.0) as u16).relocated(t).keep(),
             Place::Refused(r) => self.refuse(r),
         }
     }

@@ -64,11 +64,11 @@ impl Elements {
     }
 
     // The address of the oldest outstanding frame.
-    pub(crate) fn base(self) -> u32
-        ensures { λ r. ⌜ r ≡ baseOf self ⌝ }
+    pub(crate) fn base(self) -> Address
+        ensures { λ r. ⌜ r .0 ≡ baseOf self ⌝ }
     {
         let n = self.outstanding as u32;
-        if self.next.0 < n { 0 } else { self.next.0 - n }
+        Address(if self.next.0 < n { 0 } else { self.next.0 - n })
     }
 
     // Whether the next element to be written is a filemark.
@@ -86,7 +86,8 @@ impl Elements {
     {
         let start = self.trail;
         let marks = self.marks;
+        let first = self.first;
         let base = self.base();
-        trail_after(start, marks, self.first.0, base, self.outstanding)
+        trail_after(start, marks, first, base, self.outstanding)
     }
 }

@@ -3,6 +3,7 @@ ghost use mathlib.Core.Path.{_≡_};
 ghost use Prim.Native.Nat.{_+_, _≤_, _^_};
 ghost use Rattle.elements.specs.Trail.{trailOf};
 use geometry::Address;
+use geometry::Seq;
 
 // How many filemarks stand before a frame, and the address of the latest of their markers, 0xFFFFFFFF if there is none.
 pub struct Trail {
@@ -12,18 +13,24 @@ pub struct Trail {
 
 // What stands before element `first + n`, given what stands before element `first` and that the elements between lie from address `base` on.
 // marks[i % 64] tells whether element i is a filemark.
-pub(crate) fn trail_after(start: Trail, marks: [bool; 64], first: u32, base: u32, n: u16) -> Trail
-    requires { ⌜ base + n ≤ 2 ^ 32 ⌝ }
-    ensures { λ r. ⌜ r ≡ trailOf start marks first base n ⌝ }
+pub(crate) fn trail_after(
+    start: Trail,
+    marks: [bool; 64],
+    first: Seq,
+    base: Address,
+    n: u16,
+) -> Trail
+    requires { ⌜ base .0 + n ≤ 2 ^ 32 ⌝ }
+    ensures { λ r. ⌜ r ≡ trailOf start marks (first .0) (base .0) n ⌝ }
 {
     let mut filemarks = start.filemarks;
     let mut marker = start.marker.0;
     let mut i: u16 = 0;
     while i < n {
-        let k = ((first % 64 + (i as u32)) % 64) as usize;
+        let k = ((first.0 % 64 + (i as u32)) % 64) as usize;
         if marks[k] {
             filemarks = std::num::wrapping_add_u32(filemarks, 1);
-            marker = base + (i as u32);
+            marker = base.0 + (i as u32);
         }
         i += 1;
     }

@@ -16,7 +16,8 @@ use Rattle.recording.specs.declared.session.Recording.{Recording}
 use Rattle.recording.specs.declared.session.Stage.{Stage}
 use Rattle.recording.specs.declared.session.Stage.the-variants as S
 use Rattle.recording.specs.Session.{windowLength, endedOf}
-use Rattle.recording.specs.Fetch.{Decision, elementDueBy, decisionBy, decisionOf, Said, idle, done, refused, Fetching, sending, answering, fetchOf}
+use Rattle.recording.specs.Due.{Decision, elementDueBy, decisionBy, decisionOf}
+use Rattle.recording.specs.Fetch.{Said, idle, done, refused, Fetching, sending, answering, fetchOf}
 use Rattle.recording.proofs.Stages.{HeaderStage, ElementStage}
 
 -- the session can answer, and the buffers have their lengths

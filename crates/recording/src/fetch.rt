@@ -2,7 +2,9 @@
 ghost use mathlib.Core.Path.{_≡_};
 ghost use lib.ListN.{length};
 ghost use Rattle.recording.specs.Session.{windowLength};
-ghost use Rattle.recording.specs.Fetch.{decisionSaid, kindOf, elementOf, elementPlace, headerDue, elementDue, decisionOf, writtenElement, writtenHeader, writtenFrame, fetched, sending, fetchRefused, fetchOf};
+ghost use Rattle.recording.specs.Due.{decisionSaid, headerDue, elementDue, decisionOf};
+ghost use Rattle.recording.specs.Written.{kindOf, elementOf, elementPlace, writtenElement, writtenHeader, writtenFrame};
+ghost use Rattle.recording.specs.Fetch.{fetched, sending, fetchRefused, fetchOf};
 use crate::session::Answer;
 use crate::session::Fetched;
 use crate::session::Recording;

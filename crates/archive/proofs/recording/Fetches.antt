@@ -28,7 +28,8 @@ use Rattle.elements.specs.Elements as counting
 use Rattle.elements.specs.Due as due
 use Rattle.elements.proofs.DueView as rule
 use Rattle.recording.specs.Session.{windowOf, windowLength}
-use Rattle.recording.specs.Fetch.{Fetching, fetchOf, awaits, frameFor, sending, writtenBy, writtenFrame}
+use Rattle.recording.specs.Written.{writtenBy, writtenFrame}
+use Rattle.recording.specs.Fetch.{Fetching, fetchOf, awaits, frameFor, sending}
 use Rattle.recording.specs.declared.session.Recording.{Recording}
 use Rattle.recording.specs.declared.session.Stage.{Stage}
 use Rattle.recording.specs.declared.session.Stage.the-variants as S

@@ -15,7 +15,7 @@ use Rattle.judgement.specs.Judgement.{judgeFrame, foundSaid}
 use Rattle.elements.specs.Elements as elements
 use Rattle.recording.specs.Session.{windowOf, windowLength}
 use Rattle.recording.specs.Window.{blockAt}
-use Rattle.recording.specs.Fetch.{kindBy, kindOf, elementPlace, writtenElement, writtenBy, writtenFrame}
+use Rattle.recording.specs.Written.{kindBy, kindOf, elementPlace, writtenElement, writtenBy, writtenFrame}
 use Rattle.recording.specs.declared.session.Recording.{Recording}
 use Rattle.recording.specs.declared.session.Stage.{Stage}
 use Rattle.recording.specs.declared.session.Stage.the-variants as S

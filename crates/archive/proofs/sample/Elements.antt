@@ -11,7 +11,7 @@ use Rattle.archive.specs.Tape.{Tape, put}
 use Rattle.drive.specs.declared.command.Command.the-variants.{Write, Locate, ReadPosition}
 use Rattle.elements.specs.Elements as elements
 use Rattle.elements.specs.declared.state.Elements.{Elements}
-use Rattle.recording.specs.Fetch.{writtenFrame}
+use Rattle.recording.specs.Written.{writtenFrame}
 use Rattle.recording.specs.declared.session.Recording.{Recording}
 use Rattle.archive.specs.Recordings.{Element, World, Call, fetch, reply, Runs}
 use Rattle.archive.specs.Sample.{frame, good, writeError, exchanges}

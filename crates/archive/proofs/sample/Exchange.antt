@@ -15,8 +15,9 @@ use Rattle.drive.specs.declared.reply.Reply.{Reply}
 use Rattle.drive.proofs.Cases.{command-by}
 use Rattle.recording.specs.Session.{Result, windowLength, accepting, refusing}
 use Rattle.recording.specs.Accept.{Stored, blockOf, filemarkOf, closeOf}
-use Rattle.recording.specs.Fetch as decision
-use Rattle.recording.specs.Fetch.{Fetching, decisionOf, send, awaits, frameFor, sending, answering, fetchOf}
+use Rattle.recording.specs.Due as decision
+use Rattle.recording.specs.Due.{decisionOf, send}
+use Rattle.recording.specs.Fetch.{Fetching, awaits, frameFor, sending, answering, fetchOf}
 use Rattle.recording.specs.Reply.{replyOf}
 use Rattle.recording.specs.declared.session.Recording.{Recording}
 use Rattle.recording.proofs.FetchView.{fetch-decided}

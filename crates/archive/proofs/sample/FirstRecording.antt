@@ -27,7 +27,9 @@ use Rattle.elements.specs.declared.state.Elements.{Elements}
 use Rattle.recording.specs.Open.{fresh, openWith, openBlankOf}
 use Rattle.recording.specs.Session.{accepting, refusing, settledOf}
 use Rattle.recording.specs.Accept.{blockOf, filemarkOf, closeOf}
-use Rattle.recording.specs.Fetch.{decisionOf, awaits, writtenFrame, writtenElement, elementOf}
+use Rattle.recording.specs.Due.{decisionOf}
+use Rattle.recording.specs.Written.{writtenFrame, writtenElement, elementOf}
+use Rattle.recording.specs.Fetch.{awaits}
 use Rattle.recording.specs.Reply.{repeatedOf, answerOf, replyOf}
 use Rattle.recording.specs.declared.session.Recording.{Recording}
 use Rattle.archive.specs.Headers.{Newest, NoHeader}

@@ -24,8 +24,9 @@ use Rattle.elements.specs.Elements as elements
 use Rattle.elements.specs.declared.state.Elements.{Elements}
 use Rattle.recording.specs.Open.{fresh}
 use Rattle.recording.specs.Session.{accepting, settledOf}
-use Rattle.recording.specs.Fetch as decision
-use Rattle.recording.specs.Fetch.{decisionOf, writtenFrame}
+use Rattle.recording.specs.Due as decision
+use Rattle.recording.specs.Due.{decisionOf}
+use Rattle.recording.specs.Written.{writtenFrame}
 use Rattle.recording.specs.Reply.{answerOf, replyOf}
 use Rattle.recording.specs.declared.session.Recording.{Recording}
 use Rattle.recording.specs.declared.session.Stage.{Stage}

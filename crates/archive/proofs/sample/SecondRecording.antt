@@ -30,7 +30,8 @@ use Rattle.elements.specs.declared.state.Elements.{Elements}
 use Rattle.recording.specs.Open.{fresh, isExhausted, renewed, openWith, openFor, openOf}
 use Rattle.recording.specs.Session.{accepting, settledOf}
 use Rattle.recording.specs.Accept.{filemarkOf, closeOf}
-use Rattle.recording.specs.Fetch.{decisionOf, writtenFrame, writtenElement, elementOf}
+use Rattle.recording.specs.Due.{decisionOf}
+use Rattle.recording.specs.Written.{writtenFrame, writtenElement, elementOf}
 use Rattle.recording.specs.Reply.{answerOf, replyOf}
 use Rattle.archive.specs.Headers.{Newest}
 use Rattle.archive.specs.Recordings.{World, Call, accept-filemark, close, fetch, reply, Runs, started}

@@ -17,7 +17,7 @@ use Rattle.judgement.proofs.Written.{judged-written}
 use Rattle.elements.specs.Elements.{numberOf}
 use Rattle.recording.specs.Session.{windowLength}
 use Rattle.recording.specs.Window.{blockAt}
-use Rattle.recording.specs.Fetch.{kindOf, elementOf, elementPlace, writtenElement}
+use Rattle.recording.specs.Written.{kindOf, elementOf, elementPlace, writtenElement}
 use Rattle.recording.proofs.BlockPlace.{place-inside, block-length}
 use Rattle.recording.specs.declared.session.Recording.{Recording}
 use Rattle.archive.proofs.tape.Stands.{telling}

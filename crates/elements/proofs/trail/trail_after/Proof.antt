@@ -19,7 +19,7 @@ turn : (n a n' a' b : ℕ) (t : Trail) → stands n a ≡ t → n' ≡ (n + 1) %
 turn n a n' a' b t e en ea = ap (λ x. stands x a') en ∙ ap (λ x. stands ((n + 1) % 2 ^ 32) x) ea ∙ ap (λ u. marked u b) e
 
 abbrev Inv-loop : tie.InvT-loop
-Inv-loop first base n marks filemarks₀ marker₀ i₀ filemarks marker i = (i ≤ n) × (stands filemarks marker ≡ trailOf (stands filemarks₀ marker₀) marks first base i)
+Inv-loop first base n marks filemarks₀ marker₀ i₀ filemarks marker i = (i ≤ n) × (stands filemarks marker ≡ trailOf (stands filemarks₀ marker₀) marks (first .0) (base .0) i)
 
 abbrev μ-loop : tie.MeasureT-loop
 μ-loop first base n marks filemarks₀ marker₀ i₀ filemarks marker i = n - i
@@ -57,13 +57,13 @@ loop-less c = omega arith
 
 loop-again : tie.Need-loop-again Inv-loop μ-loop
 loop-again c =
-    let a = c .before .before .before .args in
-    let l = c .before .before .loop in
-    let step = trail-step (a .start) (a .t2) (a .first) (a .base) (l .i) in
-    let same = mark-same (a .t2) (a .first) (l .i) in (
+    let a = c .before .before .before .before .args in
+    let l = c .before .before .before .loop in
+    let step = trail-step (a .start) (a .t2) (a .first .0) (a .base .0) (l .i) in
+    let same = mark-same (a .t2) (a .first .0) (l .i) in (
       omega arith,
       ⊎-elim
-          (λ w. turn _ _ _ _ _ _ (l .inv .1) (w .2 ∙ w .1 .ensures) (w .3) ∙ sym (step ∙ pick-t _ (sym same ∙ w .0 .taken)))
+          (λ w. turn _ _ _ _ _ _ (l .inv .1) (w .3 ∙ w .1 .ensures) (w .4) ∙ sym (step ∙ pick-t _ (sym same ∙ w .0 .taken)))
           (λ w. ap (λ x. stands x (c .if1 .marker)) (w .1) ∙ ap (λ x. stands (l .filemarks) x) (w .2) ∙ l .inv .1 ∙ sym (step ∙ pick-f _ (sym same ∙ w .0 .left)))
           (c .if1 .came),
     )
@@ -73,7 +73,7 @@ unfolding trailOf
 returns c =
     let a = c .before .before .args in
     let e : c .before .loop .i ≡ a .n = omega arith in
-    c .before .loop .inv .1 ∙ ap (λ n. trailOf (a .start) (a .t2) (a .first) (a .base) n) e
+    c .before .loop .inv .1 ∙ ap (λ n. trailOf (a .start) (a .t2) (a .first .0) (a .base .0) n) e
 
 pub trail-after-spec : {M : Type 1} → statement M
 trail-after-spec =

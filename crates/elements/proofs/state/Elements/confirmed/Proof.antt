@@ -22,12 +22,12 @@ number-requires c κs = tt
 less-requires : tie.Need-less-requires
 less-requires c κs = tt
 
-sub-t9 : tie.Need-sub-t9
-sub-t9 c = omega arith
+sub-t10 : tie.Need-sub-t10
+sub-t10 c = omega arith
 
 returns : tie.Need-returns
 unfolding confirmedOf
 returns c = simp (ap seq (c .before .before .before .before .before .before .number .ensures), c .before .before .before .before .before .less .ensures, c .before .before .before .before .before .before .before .trail-after .ensures, c .before .before .before .before .before .before .before .before .base .ensures)
 
 pub confirmed-spec : {M : Type 1} → statement M
-confirmed-spec = tie.close (tie.spec base-requires trail-after-requires number-requires less-requires sub-t9 returns)
+confirmed-spec = tie.close (tie.spec base-requires trail-after-requires number-requires less-requires sub-t10 returns)

@@ -19,7 +19,7 @@ refuse-requires c κs = tt
 returns : tie.Need-returns
 unfolding failedOf
 returns c =
-    let a = c .before .before .before .before .before .before .args in
+    let a = c .before .before .before .before .before .before .before .args in
     c .refuse .ensures ∙ sym (pick-t _ (lt-ltb (a .p .0) (baseOf (a .self)) (omega arith)))
 
 refuse-requires-2 : tie.Need-refuse-requires-2
@@ -28,7 +28,7 @@ refuse-requires-2 c κs = tt
 returns-2 : tie.Need-returns-2
 unfolding failedOf
 returns-2 c =
-    let a = c .before .before .before .before .before .before .before .before .before .args in
+    let a = c .before .before .before .before .before .before .before .before .before .before .args in
     c .refuse2 .ensures
     ∙ sym (pick-f _ (le-ltb (a .p .0) (baseOf (a .self)) (omega arith)) ∙ pick-t _ (le-leb (a .self .next .0) (a .p .0) (omega arith)))
 
@@ -59,22 +59,22 @@ refuse-requires-3 c κs = tt
 returns-3 : tie.Need-returns-3
 unfolding failedOf
 returns-3 c =
-    let a = c .before .before .before .before .before .before .before .before .before .before .before .before .before .before .before .before .args in
-    let t = c .before .before .before .before .before .place .given in
-    let base = c .before .before .before .before .before .before .before .before .before .before .before .before .before .before .before .base .ensures in
+    let a = c .before .before .before .before .before .before .before .before .before .before .before .before .before .before .before .before .before .before .args in
+    let t = c .before .before .before .before .before .before .place .given in
+    let base = c .before .before .before .before .before .before .before .before .before .before .before .before .before .before .before .before .before .base .ensures in
     c .keep .ensures
     ∙ ap kept
     (c .before .relocated .ensures
     ∙ ap (λ s. relocatedOf s (t .0 .0)) (c .before .before .confirmed .ensures ∙ ap (λ b. confirmedOf (a .self) (a .p .0 - b)) base))
     ∙ sym
-    (pick-f _ (le-ltb (a .p .0) (baseOf (a .self)) (omega (arith, c .before .before .before .before .before .before .before .before .before .before .before .if1 .left, base)))
-    ∙ pick-f _ (lt-leb (a .self .next .0) (a .p .0) (omega (arith, c .before .before .before .before .before .before .before .before .if2 .left)))
-    ∙ ap (failedTo (a .self) (a .p .0)) (sym (c .before .before .before .before .before .before .before .target .ensures) ∙ ap placeSaid (t .1)))
+    (pick-f _ (le-ltb (a .p .0) (baseOf (a .self)) (omega (arith, c .before .before .before .before .before .before .before .before .before .before .before .before .if1 .left, base)))
+    ∙ pick-f _ (lt-leb (a .self .next .0) (a .p .0) (omega (arith, c .before .before .before .before .before .before .before .before .before .if2 .left)))
+    ∙ ap (failedTo (a .self) (a .p .0)) (sym (c .before .before .before .before .before .before .before .before .target .ensures) ∙ ap placeSaid (t .1)))
 
 returns-4 : tie.Need-returns-4
 unfolding failedOf
 returns-4 c =
-    let a = c .before .before .before .before .before .before .before .before .before .before .before .before .before .args in
+    let a = c .before .before .before .before .before .before .before .before .before .before .before .before .before .before .args in
     c .refuse3 .ensures
     ∙ sym
     (pick-f _ (le-ltb (a .p .0) (baseOf (a .self)) (omega arith))

@@ -15,7 +15,7 @@ returns : tie.Need-returns
 returns c =
     c .trail-after .ensures
     ∙ ap
-    (λ b. trailOf (c .before .before .before .before .args .self .trail) (c .before .before .before .before .args .self .marks) (c .before .before .before .before .args .self .first .0) b (c .before .before .before .before .args .self .outstanding))
+    (λ b. trailOf (c .before .before .before .before .before .args .self .trail) (c .before .before .before .before .before .args .self .marks) (c .before .before .before .before .before .args .self .first .0) b (c .before .before .before .before .before .args .self .outstanding))
     (c .before .base .ensures)
 
 pub trail-spec : {M : Type 1} → statement M

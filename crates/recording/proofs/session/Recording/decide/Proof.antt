@@ -1,7 +1,7 @@
 -- `recording::session::Recording::decide` meets its contract: the command after busy, else each stage is its case of the definition. Assumes nothing.
 use mathlib.Core.Path.{_∙_, sym, ap}
 use Rattle.geometry.proofs.PickLaws.{pick-t, pick-f}
-use Rattle.recording.specs.Fetch.{decisionBy, decisionOf}
+use Rattle.recording.specs.Due.{decisionBy, decisionOf}
 use Rattle.recording.proofs.session.Recording.decide.Statement.{statement}
 use Rattle.recording.proofs.session.Recording.decide.Tie as tie
 

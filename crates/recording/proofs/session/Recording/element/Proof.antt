@@ -5,7 +5,7 @@ use Rattle.frame.specs.declared.element.Kind.{Kind}
 use Rattle.frame.specs.declared.element.Element.{Element}
 use Rattle.elements.specs.Elements.{numberOf}
 use Rattle.elements.specs.declared.trail.Trail.{Trail}
-use Rattle.recording.specs.Fetch.{kindOf, elementOf}
+use Rattle.recording.specs.Written.{kindOf, elementOf}
 use Rattle.recording.specs.declared.session.Recording.{Recording}
 use Rattle.recording.proofs.session.Recording.element.Statement.{statement}
 use Rattle.recording.proofs.session.Recording.element.Tie as tie

@@ -2,7 +2,7 @@
 use mathlib.Core.Path.{_∙_, sym, ap}
 use Rattle.elements.specs.Due.{dueSaid}
 use Rattle.drive.proofs.Cases.{command-by}
-use Rattle.recording.specs.Fetch.{send, elementDueBy}
+use Rattle.recording.specs.Due.{send, elementDueBy}
 use Rattle.recording.proofs.session.Recording.element_due.Statement.{statement}
 use Rattle.recording.proofs.session.Recording.element_due.Tie as tie
 

@@ -4,7 +4,8 @@ use mathlib.Core.Logic.{inl, inr}
 use mathlib.Core.Path.{_≡_, _∙_, sym, ap}
 use native.Mathlib.Omega.{arith}
 use Rattle.geometry.proofs.PickLaws.{pick-t}
-use Rattle.recording.specs.Fetch.{decisionSaid, fetched, fetchOf}
+use Rattle.recording.specs.Due.{decisionSaid}
+use Rattle.recording.specs.Fetch.{fetched, fetchOf}
 use Rattle.recording.specs.declared.session.Fetched.{Fetched}
 use Rattle.recording.proofs.FetchView.{fetch-wrong-length, fetch-decided}
 use Rattle.recording.proofs.session.Recording.fetch.Statement.{statement}

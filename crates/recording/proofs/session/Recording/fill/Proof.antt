@@ -1,6 +1,6 @@
 -- `recording::session::Recording::fill` meets its contract: each stage is its case of the definition. Assumes nothing.
 use mathlib.Core.Path.{_∙_, sym, ap}
-use Rattle.recording.specs.Fetch.{writtenBy, writtenFrame}
+use Rattle.recording.specs.Written.{writtenBy, writtenFrame}
 use Rattle.recording.proofs.session.Recording.fill.Statement.{statement}
 use Rattle.recording.proofs.session.Recording.fill.Tie as tie
 

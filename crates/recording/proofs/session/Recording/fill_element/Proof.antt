@@ -9,7 +9,7 @@ use Rattle.frame.specs.declared.element.Kind.the-variants.{Data, Marker, Eod}
 use Rattle.frame.specs.declared.element.Kind.{Kind}
 use Rattle.frame.specs.Frame.{elementFrame, elementFits}
 use Rattle.elements.specs.Elements.{numberOf}
-use Rattle.recording.specs.Fetch.{elementOf, writtenElement}
+use Rattle.recording.specs.Written.{elementOf, writtenElement}
 use Rattle.recording.specs.Window.{blockAt}
 use Rattle.recording.proofs.BlockPlace.{place-low, place-inside, block-length}
 use Rattle.recording.proofs.session.Recording.fill_element.Statement.{statement}

@@ -2,7 +2,7 @@
 use mathlib.Core.Path.{sym, ap, _∙_}
 use Rattle.drive.specs.Command.{commandFor}
 use Rattle.drive.proofs.Cases.{command-by}
-use Rattle.recording.specs.Fetch.{send}
+use Rattle.recording.specs.Due.{send}
 use Rattle.recording.proofs.session.Recording.header_due.Statement.{statement}
 use Rattle.recording.proofs.session.Recording.header_due.Tie as tie
 

@@ -8,7 +8,7 @@ use Rattle.geometry.proofs.PickLaws.{pick-t, pick-f}
 use Rattle.geometry.specs.Pick.{pick}
 use Rattle.frame.specs.declared.element.Kind.the-variants as K
 use Rattle.elements.specs.Elements.{isMark}
-use Rattle.recording.specs.Fetch.{kindBy}
+use Rattle.recording.specs.Written.{kindBy}
 use Rattle.recording.specs.declared.session.Stage.the-variants as S
 use Rattle.recording.specs.declared.session.Stage.{Stage}
 use Rattle.recording.proofs.session.Stage.{the-type}
