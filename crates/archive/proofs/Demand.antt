@@ -57,6 +57,6 @@ demand-3 g last depth blocks d o s window calls w seg trk e cart unwritten rest 
       written = within i;
       alone = λ lent frame busy. fetch-awaited (w .session) lent frame (flight-awaits i busy);
       readable = λ newest none unaltered reported.
-          readable g last pass (w .drive .tape) (w .accepted) seg trk e
+          readable g last pass (w .drive .tape) (w .notes .accepted) seg trk e
           (completes w set i (newest, subst (NoneBears last (d .tape)) (sym (pass-is g last depth blocks s e o op)) none) unaltered reported);
     }

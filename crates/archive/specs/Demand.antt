@@ -99,8 +99,8 @@ pub record Promised (g : Geometry) (last : ℕ) (t : Tape) (o : Opening) (w : re
   -- no second command before the reply
   pub alone : (lent frame : List ℕ) → (w .flight ≡ recordings.none → ⊥) → recordings.refusal (w .session) (recordings.fetch lent frame) ≡ 7
   -- where the session was opened as it should be, the window was lent back unaltered, and the close reported done
-  pub readable : OnNewest last t o → NoneBears last t (newPass o) → w .unaltered ≡ true → w .reported ≡ true
-      → Readable g last (w .drive .tape) (w .accepted)
+  pub readable : OnNewest last t o → NoneBears last t (newPass o) → w .notes .unaltered ≡ true → w .notes .reported ≡ true
+      → Readable g last (w .drive .tape) (w .notes .accepted)
 
 -- SEGTRK and TRKS are 16-bit
 unfoldable pub Demand3 : Type 0

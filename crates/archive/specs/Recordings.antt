@@ -27,16 +27,21 @@ pub data Flight : Type 0 where
   sent : Command → List ℕ → Flight
   answered : Reply → Flight
 
-pub record World : Type 0 where
-  pub session : Recording
-  -- the window as last left, and whether each call so far that lent it got it so
-  pub window : List ℕ
-  pub unaltered : Bool
-  pub drive : Drive
-  pub flight : Flight
+-- what is only noted
+pub record Notes : Type 0 where
   pub accepted : List Element
+  -- whether each call so far that lent the window got it as last left
+  pub unaltered : Bool
   -- a fetch has answered done
   pub reported : Bool
+
+pub record World : Type 0 where
+  pub session : Recording
+  -- the window as last left
+  pub window : List ℕ
+  pub drive : Drive
+  pub flight : Flight
+  pub notes : Notes
 
 -- a call with what it brings
 pub data Call : Type 0 where
@@ -85,15 +90,13 @@ abbrev pub afterRefusal : World → Call → World
 afterRefusal w c = record {
   session = returned (w .session) c;
   window = windowAfter w c;
-  unaltered = w .unaltered;
   drive = w .drive;
   flight = w .flight;
-  accepted = w .accepted;
-  reported = w .reported;
+  notes = w .notes;
 }
 
 abbrev pub withSession : World → Recording → World
-withSession w s = record { session = s; window = w .window; unaltered = w .unaltered; drive = w .drive; flight = w .flight; accepted = w .accepted; reported = w .reported }
+withSession w s = record { session = s; window = w .window; drive = w .drive; flight = w .flight; notes = w .notes }
 
 -- an accept that is not refused adds its element
 abbrev pub acceptedAfter : ℕ → List Element → Element → List Element
@@ -103,22 +106,18 @@ abbrev pub afterBlock : World → List ℕ → List ℕ → World
 afterBlock w b lent = record {
   session = blockOf (w .session) b lent .result .session;
   window = blockOf (w .session) b lent .window;
-  unaltered = w .unaltered && agree lent (w .window);
   drive = w .drive;
   flight = w .flight;
-  accepted = acceptedAfter (blockOf (w .session) b lent .result .number) (w .accepted) (block b);
-  reported = w .reported;
+  notes = record { accepted = acceptedAfter (blockOf (w .session) b lent .result .number) (w .notes .accepted) (block b); unaltered = w .notes .unaltered && agree lent (w .window); reported = w .notes .reported };
 }
 
 abbrev pub afterFilemark : World → World
 afterFilemark w = record {
   session = filemarkOf (w .session) .session;
   window = w .window;
-  unaltered = w .unaltered;
   drive = w .drive;
   flight = w .flight;
-  accepted = acceptedAfter (filemarkOf (w .session) .number) (w .accepted) filemark;
-  reported = w .reported;
+  notes = record { accepted = acceptedAfter (filemarkOf (w .session) .number) (w .notes .accepted) filemark; unaltered = w .notes .unaltered; reported = w .notes .reported };
 }
 
 -- the command that a fetch answers goes to the drive, with the frame as the fetch left it
@@ -139,22 +138,18 @@ abbrev pub afterFetch : World → List ℕ → List ℕ → World
 afterFetch w lent frame = record {
   session = fetchOf (w .session) lent frame .session;
   window = lent;
-  unaltered = w .unaltered && agree lent (w .window);
   drive = w .drive;
   flight = flightAfter (fetchOf (w .session) lent frame .said) (w .flight) (fetchOf (w .session) lent frame .frame);
-  accepted = w .accepted;
-  reported = reportedAfter (fetchOf (w .session) lent frame .said) (w .reported);
+  notes = record { accepted = w .notes .accepted; unaltered = w .notes .unaltered && agree lent (w .window); reported = reportedAfter (fetchOf (w .session) lent frame .said) (w .notes .reported) };
 }
 
 abbrev pub afterReply : World → Reply → World
 afterReply w r = record {
   session = replyOf (w .session) r .session;
   window = w .window;
-  unaltered = w .unaltered;
   drive = w .drive;
   flight = none;
-  accepted = w .accepted;
-  reported = w .reported;
+  notes = w .notes;
 }
 
 -- one call: each gets the session that the last one returned, and a reply is brought as the drive gave it
@@ -168,7 +163,7 @@ pub data Calls (w : World) : Call → World → Type 0 where
   replies : (r : Reply) → w .flight ≡ answered r → TakesEffect (refusal (w .session) (reply r)) → Calls w (reply r) (afterReply w r)
 
 abbrev pub withDrive : World → Drive → Flight → World
-withDrive w d f = record { session = w .session; window = w .window; unaltered = w .unaltered; drive = d; flight = f; accepted = w .accepted; reported = w .reported }
+withDrive w d f = record { session = w .session; window = w .window; drive = d; flight = f; notes = w .notes }
 
 -- what the drive does between calls: it acts by itself, or answers the command that it was sent, once
 pub data Moves (w : World) : World → Type 0 where
@@ -186,9 +181,7 @@ abbrev pub started : Recording → List ℕ → Drive → World
 started s window d = record {
   session = s;
   window = window;
-  unaltered = true;
   drive = d;
   flight = none;
-  accepted = [];
-  reported = false;
+  notes = record { accepted = []; unaltered = true; reported = false };
 }

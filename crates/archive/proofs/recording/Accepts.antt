@@ -102,15 +102,13 @@ abbrev withAccepted : World → Recording → List ℕ → Bool → List Element
 withAccepted w s window unaltered xs = record {
   session = s;
   window = window;
-  unaltered = unaltered;
   drive = w .drive;
   flight = w .flight;
-  accepted = xs;
-  reported = w .reported;
+  notes = record { accepted = xs; unaltered = unaltered; reported = w .notes .reported };
 }
 
 abbrev acceptedWorld : World → Recording → List ℕ → Bool → Element → World
-acceptedWorld w s window unaltered x = withAccepted w s window unaltered (w .accepted ++ x ∷ [])
+acceptedWorld w s window unaltered x = withAccepted w s window unaltered (w .notes .accepted ++ x ∷ [])
 
 -- what the window must keep and gain
 pub record Gains (s : Recording) (before after : List ℕ) (x : Element) (marks : List Bool) : Type 0 where
@@ -143,10 +141,10 @@ module _ {last pass : ℕ} {premises : Type 0} (w : World) (set : Setting last p
   plain-pending : (w .session .elements .pending + 1) % 2 ^ 16 ≡ w .session .elements .pending + 1
   plain-pending = mod-eq-of-lt (omega (arith, acc .room, l .counted .wide))
 
-  grown : length (w .accepted ++ x ∷ []) ≡ length (w .accepted) + 1
-  grown = length-append (w .accepted) (x ∷ [])
+  grown : length (w .notes .accepted ++ x ∷ []) ≡ length (w .notes .accepted) + 1
+  grown = length-append (w .notes .accepted) (x ∷ [])
 
-  counted-more : Counted last (length (w .accepted ++ x ∷ [])) (withElement (w .session) mark)
+  counted-more : Counted last (length (w .notes .accepted ++ x ∷ [])) (withElement (w .session) mark)
   counted-more =
       let c = l .counted in
       let held = c .held in
@@ -155,7 +153,7 @@ module _ {last pass : ℕ} {premises : Type 0} (w : World) (set : Setting last p
         wide = c .wide;
         held = omega (arith, plain-pending);
         windowed = omega (arith, plain-pending, acc .room);
-        numbered = omega (arith, plain-pending, grown, c .numbered, total-plain (length (w .accepted)) y, total-plain (length (w .accepted ++ x ∷ [])) y);
+        numbered = omega (arith, plain-pending, grown, c .numbered, total-plain (length (w .notes .accepted)) y, total-plain (length (w .notes .accepted ++ x ∷ [])) y);
         marks = length-set (w .session .elements .marks) _ mark ∙ c .marks;
         room = c .room;
       }
@@ -178,8 +176,8 @@ module _ {last pass : ℕ} {premises : Type 0} (w : World) (set : Setting last p
   first-small (inv.finished st c a b f g h r y) = clash c (acc .unclosed)
 
   module _ (window : List ℕ) (c : Content last pass w (l .k) (l .edge)) (g : Gains (w .session) (w .window) window x (elements.acceptedOf (w .session .elements) mark .marks)) where
-    count-is : w .session .elements .first .0 + w .session .elements .pending ≡ length (w .accepted)
-    count-is = l .counted .numbered ∙ total-plain (length (w .accepted)) (early (l .course))
+    count-is : w .session .elements .first .0 + w .session .elements .pending ≡ length (w .notes .accepted)
+    count-is = l .counted .numbered ∙ total-plain (length (w .notes .accepted)) (early (l .course))
 
     -- an item that was pending stays as it was stored
     stays : (y : Item) (i : ℕ) → i < w .session .elements .pending → StoredAs y (w .window) (w .session .elements .marks) (windowOf (w .session)) (w .session .elements .first .0 + i)
@@ -189,26 +187,26 @@ module _ {last pass : ℕ} {premises : Type 0} (w : World) (set : Setting last p
     stays (element filemark) i h old = mark-kept (w .session .elements .marks) (w .session .elements .first .0) i (w .session .elements .pending) mark h (omega (arith, acc .room, l .counted .wide)) ∙ old
     stays eod i h old = tt
 
-    new-item : itemAt (w .accepted ++ x ∷ []) (w .session .elements .first .0 + w .session .elements .pending) ≡ element x
+    new-item : itemAt (w .notes .accepted ++ x ∷ []) (w .session .elements .first .0 + w .session .elements .pending) ≡ element x
     new-item =
         let n = w .session .elements .first .0 + w .session .elements .pending in
-        item-in (w .accepted ++ x ∷ []) n (omega (arith, count-is, grown)) ∙ ap element (getD-at (w .accepted) x [] filemark n (sym count-is))
+        item-in (w .notes .accepted ++ x ∷ []) n (omega (arith, count-is, grown)) ∙ ap element (getD-at (w .notes .accepted) x [] filemark n (sym count-is))
 
     stored-more : (i : ℕ) → i < withElement (w .session) mark .elements .pending
-        → StoredAs (itemAt (w .accepted ++ x ∷ []) (w .session .elements .first .0 + i)) window (elements.acceptedOf (w .session .elements) mark .marks) (windowOf (w .session)) (w .session .elements .first .0 + i)
+        → StoredAs (itemAt (w .notes .accepted ++ x ∷ []) (w .session .elements .first .0 + i)) window (elements.acceptedOf (w .session .elements) mark .marks) (windowOf (w .session)) (w .session .elements .first .0 + i)
     stored-more i h = go (eq-or-lt-of-le upper)
       where
         upper : i ≤ w .session .elements .pending
         upper = omega (arith, plain-pending)
 
         go : (i ≡ w .session .elements .pending) ⊎ (i < w .session .elements .pending)
-            → StoredAs (itemAt (w .accepted ++ x ∷ []) (w .session .elements .first .0 + i)) window (elements.acceptedOf (w .session .elements) mark .marks) (windowOf (w .session)) (w .session .elements .first .0 + i)
+            → StoredAs (itemAt (w .notes .accepted ++ x ∷ []) (w .session .elements .first .0 + i)) window (elements.acceptedOf (w .session .elements) mark .marks) (windowOf (w .session)) (w .session .elements .first .0 + i)
         go (inl same) =
-            subst (λ (j : ℕ). StoredAs (itemAt (w .accepted ++ x ∷ []) (w .session .elements .first .0 + j)) window (elements.acceptedOf (w .session .elements) mark .marks) (windowOf (w .session)) (w .session .elements .first .0 + j)) (sym same)
+            subst (λ (j : ℕ). StoredAs (itemAt (w .notes .accepted ++ x ∷ []) (w .session .elements .first .0 + j)) window (elements.acceptedOf (w .session .elements) mark .marks) (windowOf (w .session)) (w .session .elements .first .0 + j)) (sym same)
             (subst (λ (y : Item). StoredAs y window (elements.acceptedOf (w .session .elements) mark .marks) (windowOf (w .session)) (w .session .elements .first .0 + w .session .elements .pending)) (sym new-item) (g .gains))
         go (inr low) =
-            subst (λ (y : Item). StoredAs y window (elements.acceptedOf (w .session .elements) mark .marks) (windowOf (w .session)) (w .session .elements .first .0 + i)) (sym (item-more (w .accepted) (x ∷ []) (w .session .elements .first .0 + i) (omega (arith, count-is))))
-            (stays (itemAt (w .accepted) (w .session .elements .first .0 + i)) i low (c .stored i low))
+            subst (λ (y : Item). StoredAs y window (elements.acceptedOf (w .session .elements) mark .marks) (windowOf (w .session)) (w .session .elements .first .0 + i)) (sym (item-more (w .notes .accepted) (x ∷ []) (w .session .elements .first .0 + i) (omega (arith, count-is))))
+            (stays (itemAt (w .notes .accepted) (w .session .elements .first .0 + i)) i low (c .stored i low))
 
     writing-of : ElementStage (w .session) → Writing last (w .session) (w .drive) (l .k) (l .edge) (w .flight)
     writing-of st = go st (early (l .course))
@@ -223,17 +221,17 @@ module _ {last pass : ℕ} {premises : Type 0} (w : World) (set : Setting last p
         let y = early (l .course) in
         record {
           tape = c .tape;
-          seen = subst (λ (n : ℕ). Seen last pass (w .accepted ++ x ∷ []) n (l .k) (l .edge) (w .drive .tape)) (sym (total-plain (length (w .accepted ++ x ∷ [])) y))
-              (seen-accept x (subst (λ (n : ℕ). Seen last pass (w .accepted) n (l .k) (l .edge) (w .drive .tape)) (total-plain (length (w .accepted)) y) (c .seen)));
+          seen = subst (λ (n : ℕ). Seen last pass (w .notes .accepted ++ x ∷ []) n (l .k) (l .edge) (w .drive .tape)) (sym (total-plain (length (w .notes .accepted ++ x ∷ [])) y))
+              (seen-accept x (subst (λ (n : ℕ). Seen last pass (w .notes .accepted) n (l .k) (l .edge) (w .drive .tape)) (total-plain (length (w .notes .accepted)) y) (c .seen)));
           below = c .below;
           stored = stored-more;
-          queue = λ st free. queue-grow last pass (w .accepted) (x ∷ []) (l .k) (w .drive .buffer) (omega (arith, writing-numbers (l .counted .held) (writing-of st) .fits free, count-is)) (c .queue st free);
+          queue = λ st free. queue-grow last pass (w .notes .accepted) (x ∷ []) (l .k) (w .drive .buffer) (omega (arith, writing-numbers (l .counted .held) (writing-of st) .fits free, count-is)) (c .queue st free);
           sent = λ a f st q.
               let due = sent-due (subst (Writing last (w .session) (w .drive) (l .k) (l .edge)) q (writing-of st)) in
-              subst (λ (y : Item). Stands last pass y (w .session .elements .first .0 + w .session .elements .outstanding) f) (sym (item-more (w .accepted) (x ∷ []) (w .session .elements .first .0 + w .session .elements .outstanding) (omega (arith, count-is)))) (c .sent a f st q);
+              subst (λ (y : Item). Stands last pass y (w .session .elements .first .0 + w .session .elements .outstanding) f) (sym (item-more (w .notes .accepted) (x ∷ []) (w .session .elements .first .0 + w .session .elements .outstanding) (omega (arith, count-is)))) (c .sent a f st q);
         }
 
-  live-more : (window : List ℕ) (unaltered : Bool) → (unaltered ≡ true → (w .unaltered ≡ true) × Gains (w .session) (w .window) window x (elements.acceptedOf (w .session .elements) mark .marks))
+  live-more : (window : List ℕ) (unaltered : Bool) → (unaltered ≡ true → (w .notes .unaltered ≡ true) × Gains (w .session) (w .window) window x (elements.acceptedOf (w .session .elements) mark .marks))
       → Live last pass premises (acceptedWorld w (withElement (w .session) mark) window unaltered x)
   live-more window unaltered gain = record {
     k = l .k;
@@ -263,21 +261,21 @@ rejecting-more w s window unaltered x d ended awaiting command stage = record {
 pub keeps-filemark : {last pass : ℕ} {premises : Type 0} (w : World) → Setting last pass → Inv last pass premises w → TakesEffect (filemarkOf (w .session) .number) → Inv last pass premises (afterFilemark w)
 keeps-filemark {last} {pass} {premises} w set i te =
     let v = filemark-view (w .session) te in
-    subst (λ (r : Result). Inv last pass premises (withAccepted w (r .session) (w .window) (w .unaltered) (acceptedAfter (r .number) (w .accepted) filemark))) (sym (v .0)) (go (v .1) i)
+    subst (λ (r : Result). Inv last pass premises (withAccepted w (r .session) (w .window) (w .notes .unaltered) (acceptedAfter (r .number) (w .notes .accepted) filemark))) (sym (v .0)) (go (v .1) i)
   where
-    go : Accepting (w .session) → Inv last pass premises w → Inv last pass premises (acceptedWorld w (withElement (w .session) true) (w .window) (w .unaltered) filemark)
+    go : Accepting (w .session) → Inv last pass premises w → Inv last pass premises (acceptedWorld w (withElement (w .session) true) (w .window) (w .notes .unaltered) filemark)
     go acc (live wr l) =
-        live wr (live-more w set l true filemark acc (w .window) (w .unaltered) (λ u. (u, record { keeps = λ _ _. refl; gains = accepted-new (w .session .elements) true (l .counted .marks) })))
-    go acc (rejecting wr d) = rejecting wr (rejecting-more w (withElement (w .session) true) (w .window) (w .unaltered) filemark d refl refl refl refl)
+        live wr (live-more w set l true filemark acc (w .window) (w .notes .unaltered) (λ u. (u, record { keeps = λ _ _. refl; gains = accepted-new (w .session .elements) true (l .counted .marks) })))
+    go acc (rejecting wr d) = rejecting wr (rejecting-more w (withElement (w .session) true) (w .window) (w .notes .unaltered) filemark d refl refl refl refl)
     go acc (over wr o) = clash (o .ended) (acc .going)
 
 pub keeps-block : {last pass : ℕ} {premises : Type 0} (w : World) (b lent : List ℕ) → Setting last pass → Inv last pass premises w → TakesEffect (blockOf (w .session) b lent .result .number) → Inv last pass premises (afterBlock w b lent)
 keeps-block {last} {pass} {premises} w b lent set i te =
     let v = block-view (w .session) b lent te in
-    subst (λ (r : Stored). Inv last pass premises (withAccepted w (r .result .session) (r .window) (w .unaltered && agree lent (w .window)) (acceptedAfter (r .result .number) (w .accepted) (block b)))) (sym (v .is)) (go v i)
+    subst (λ (r : Stored). Inv last pass premises (withAccepted w (r .result .session) (r .window) (w .notes .unaltered && agree lent (w .window)) (acceptedAfter (r .result .number) (w .notes .accepted) (block b)))) (sym (v .is)) (go v i)
   where
     go : Storing (w .session) b lent (blockOf (w .session) b lent) → Inv last pass premises w
-        → Inv last pass premises (acceptedWorld w (withElement (w .session) false) (putBlock lent (placeOf (w .session)) b) (w .unaltered && agree lent (w .window)) (block b))
+        → Inv last pass premises (acceptedWorld w (withElement (w .session) false) (putBlock lent (placeOf (w .session)) b) (w .notes .unaltered && agree lent (w .window)) (block b))
     go v (live wr l) =
         let acc = v .accepting-it in
         let first = w .session .elements .first .0 in
@@ -287,9 +285,9 @@ keeps-block {last} {pass} {premises} w b lent set i te =
         let place-is : placeOf (w .session) ≡ (first + pending) % width = ap (λ (n : ℕ). n % width) exact in
         let room : placeOf (w .session) * 32768 + 32768 ≤ length lent = subst (λ (n : ℕ). placeOf (w .session) * 32768 + 32768 ≤ n) (sym (v .long)) (place-inside (elements.numberOf (w .session .elements) pending) (w .session .setup .highest)) in
         live wr
-        (live-more w set l false (block b) acc (putBlock lent (placeOf (w .session)) b) (w .unaltered && agree lent (w .window))
+        (live-more w set l false (block b) acc (putBlock lent (placeOf (w .session)) b) (w .notes .unaltered && agree lent (w .window))
         (λ u.
-        let both = and-true (w .unaltered) (agree lent (w .window)) u in
+        let both = and-true (w .notes .unaltered) (agree lent (w .window)) u in
         let same : lent ≡ w .window = agree-is lent (w .window) (both .1) in (
           both .0,
           record {
@@ -302,7 +300,7 @@ keeps-block {last} {pass} {premises} w b lent set i te =
                 (subst (λ (n : ℕ). blockAt (putBlock lent (placeOf (w .session)) b) n ≡ b) place-is (put-same-block lent b (placeOf (w .session)) room (v .full)), accepted-new (w .session .elements) false (l .counted .marks));
           },
         )))
-    go v (rejecting wr d) = rejecting wr (rejecting-more w (withElement (w .session) false) (putBlock lent (placeOf (w .session)) b) (w .unaltered && agree lent (w .window)) (block b) d refl refl refl refl)
+    go v (rejecting wr d) = rejecting wr (rejecting-more w (withElement (w .session) false) (putBlock lent (placeOf (w .session)) b) (w .notes .unaltered && agree lent (w .window)) (block b) d refl refl refl refl)
     go v (over wr o) = clash (o .ended) (v .accepting-it .going)
 
 -- ---- close

@@ -64,7 +64,7 @@ same-window w (recordings.fetch lent frame) l = refl
 same-window w (recordings.reply r) l = refl
 
 abbrev withWindow : World → Recording → List ℕ → World
-withWindow w s window = record { session = s; window = window; unaltered = w .unaltered; drive = w .drive; flight = w .flight; accepted = w .accepted; reported = w .reported }
+withWindow w s window = record { session = s; window = window; drive = w .drive; flight = w .flight; notes = w .notes }
 
 pub keeps-call : {last pass : ℕ} {premises : Type 0} (w v : World) (c : recordings.Call) → Setting last pass → Inv last pass premises w → recordings.Calls w c v → Inv last pass premises v
 keeps-call {last} {pass} {premises} w v c set i (recordings.refuses _ l h) =

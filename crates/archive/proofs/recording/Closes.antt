@@ -33,8 +33,8 @@ module _ {last pass : ℕ} {premises : Type 0} (w : World) (l : Live last pass p
   one : (w .session .elements .pending + 1) % 2 ^ 16 ≡ 1
   one = ap (λ (n : ℕ). (n + 1) % 2 ^ 16) none
 
-  count : w .session .elements .first .0 ≡ length (w .accepted)
-  count = let n = l .counted .numbered in let t = ap (λ (x : Stage). totalOf x (length (w .accepted))) st in omega arith
+  count : w .session .elements .first .0 ≡ length (w .notes .accepted)
+  count = let n = l .counted .numbered in let t = ap (λ (x : Stage). totalOf x (length (w .notes .accepted))) st in omega arith
 
   eod-course : Course last w (l .k) (l .edge) → Course last (withSession w (eodDue (w .session))) (l .k) (l .edge)
   eod-course (inv.opening q t c) = never (cc)
@@ -43,9 +43,9 @@ module _ {last pass : ℕ} {premises : Type 0} (w : World) (l : Live last pass p
   eod-course (inv.closing q c a b g) = never (cc)
   eod-course (inv.finished q c a b f g h r y) = never (cc)
 
-  eod-stored : (window : List ℕ) (marks : List Bool) (i : ℕ) → i < (w .session .elements .pending + 1) % 2 ^ 16 → StoredAs (itemAt (w .accepted) (w .session .elements .first .0 + i)) window marks (windowOf (w .session)) (w .session .elements .first .0 + i)
+  eod-stored : (window : List ℕ) (marks : List Bool) (i : ℕ) → i < (w .session .elements .pending + 1) % 2 ^ 16 → StoredAs (itemAt (w .notes .accepted) (w .session .elements .first .0 + i)) window marks (windowOf (w .session)) (w .session .elements .first .0 + i)
   eod-stored window marks i h =
-      subst (λ (x : Item). StoredAs x window marks (windowOf (w .session)) (w .session .elements .first .0 + i)) (sym (item-past (w .accepted) (w .session .elements .first .0 + i) (omega (arith, count)))) tt
+      subst (λ (x : Item). StoredAs x window marks (windowOf (w .session)) (w .session .elements .first .0 + i)) (sym (item-past (w .notes .accepted) (w .session .elements .first .0 + i) (omega (arith, count)))) tt
 
   pub eod-live : Live last pass premises (withSession w (eodDue (w .session)))
   eod-live =
@@ -70,7 +70,7 @@ module _ {last pass : ℕ} {premises : Type 0} (w : World) (l : Live last pass p
             let x = l .content p u in
             record {
               tape = x .tape;
-              seen = seen-eod (subst (λ (n : ℕ). Seen last pass (w .accepted) n (l .k) (l .edge) (w .drive .tape)) (ap (λ (y : Stage). totalOf y (length (w .accepted))) st) (x .seen));
+              seen = seen-eod (subst (λ (n : ℕ). Seen last pass (w .notes .accepted) n (l .k) (l .edge) (w .drive .tape)) (ap (λ (y : Stage). totalOf y (length (w .notes .accepted))) st) (x .seen));
               below = x .below;
               stored = λ i h. eod-stored (w .window) (elements.acceptedOf (w .session .elements) false .marks) i h;
               queue = λ _ free. x .queue (inl st) free;

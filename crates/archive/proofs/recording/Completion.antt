@@ -90,14 +90,14 @@ module _ {last pass spare : ℕ} (set : Setting last pass) (h : Header) (c : Car
 -- ---- done
 
 module _ {last pass : ℕ} {premises : Type 0} {w : World} (set : Setting last pass) (l : Live last pass premises w) (content : Content last pass w (l .k) (l .edge)) (done : w .session .stage ≡ S.Done) where
-  leaves : Course last w (l .k) (l .edge) → Leaves last pass (w .drive .tape) (w .accepted)
+  leaves : Course last w (l .k) (l .edge) → Leaves last pass (w .drive .tape) (w .notes .accepted)
   leaves (opening s _ _) = never (cc)
   leaves (writing s _) = never (cc)
   leaves (ending s _ _ _) = never (cc)
   leaves (closing s _ _ _ _) = never (cc)
   leaves (finished s c k edge f a g rests copy) =
-      let all = subst (λ (n : ℕ). Seen last pass (w .accepted) n (l .k) (l .edge) (w .drive .tape)) (ap (λ (x : Stage). totalOf x (length (w .accepted))) s) (content .seen) in
-      let seen = subst (λ (n : ℕ). Seen last pass (w .accepted) (length (w .accepted) + 1) n (last + 1) (w .drive .tape)) k (subst (λ (n : ℕ). Seen last pass (w .accepted) (length (w .accepted) + 1) (l .k) n (w .drive .tape)) edge all) in
+      let all = subst (λ (n : ℕ). Seen last pass (w .notes .accepted) n (l .k) (l .edge) (w .drive .tape)) (ap (λ (x : Stage). totalOf x (length (w .notes .accepted))) s) (content .seen) in
+      let seen = subst (λ (n : ℕ). Seen last pass (w .notes .accepted) (length (w .notes .accepted) + 1) n (last + 1) (w .drive .tape)) k (subst (λ (n : ℕ). Seen last pass (w .notes .accepted) (length (w .notes .accepted) + 1) (l .k) n (w .drive .tape)) edge all) in
       record {
         cartridge = content .tape;
         recorded = seen-recorded seen;
@@ -106,7 +106,7 @@ module _ {last pass : ℕ} {premises : Type 0} {w : World} (set : Setting last p
         passes = newest-pass set (w .session .copies .header) (l .carried) copy (content .below);
       }
 
-pub completes : {last pass : ℕ} {premises : Type 0} (w : World) → Setting last pass → Inv last pass premises w → premises → w .unaltered ≡ true → w .reported ≡ true → Leaves last pass (w .drive .tape) (w .accepted)
+pub completes : {last pass : ℕ} {premises : Type 0} (w : World) → Setting last pass → Inv last pass premises w → premises → w .notes .unaltered ≡ true → w .notes .reported ≡ true → Leaves last pass (w .drive .tape) (w .notes .accepted)
 completes w set (live _ l) pre unaltered reported = leaves set l (l .content pre unaltered) (l .reported reported) (l .course)
 completes w set (rejecting _ d) pre unaltered reported = absurd (true≢false (sym reported ∙ d .unreported))
 completes w set (over _ o) pre unaltered reported = absurd (true≢false (sym reported ∙ o .unreported))

@@ -65,7 +65,7 @@ module _ {last pass k edge : ℕ} (w : World) (large : 3000 ≤ last) (c : Conte
       let t = w .drive .tape in
       record {
         tape = subst (Cartridge last) (sym q) (cartridge-put last t a v (header-low a at) (λ f x. ⊎-elim (λ y. c .tape .long a f y) (λ r. r .long ∙ header-length (w .session .copies .header)) (left-reads left x)) (c .tape));
-        seen = subst (λ x. Seen last pass (w .accepted) (totalOf (w .session .stage) (length (w .accepted))) k edge x) (sym q) (seen-elsewhere a v (not-user a at (isUser last a) refl) (c .seen));
+        seen = subst (λ x. Seen last pass (w .notes .accepted) (totalOf (w .session .stage) (length (w .notes .accepted))) k edge x) (sym q) (seen-elsewhere a v (not-user a at (isUser last a) refl) (c .seen));
         below = subst (Below last (w .session .copies .header)) (sym q) (below-put last (w .session .copies .header) t a v (λ f x. left-reads left x) (c .below));
         stored = c .stored;
         queue = λ st _. absurd (no-elements st);
@@ -82,7 +82,7 @@ module _ {last pass k edge : ℕ} (w : World) (large : 3000 ≤ last) (c : Conte
   -- ---- elements
 
   module _ (f : List ℕ) (rest : List (List ℕ)) (b : w .drive .buffer ≡ f ∷ rest) (free : w .drive .failed ≡ false) (st : ElementStage (w .session))
-      (here : isUser last (w .drive .at) ≡ true) (edge-here : edge ≡ w .drive .at) (room : k + 1 ≤ totalOf (w .session .stage) (length (w .accepted))) where
+      (here : isUser last (w .drive .at) ≡ true) (edge-here : edge ≡ w .drive .at) (room : k + 1 ≤ totalOf (w .session .stage) (length (w .notes .accepted))) where
     most : (s : Stage) (n : ℕ) → totalOf s n ≤ n + 1
     most S.OpeningHeaders n = omega arith
     most S.Elements n = omega arith
@@ -90,12 +90,12 @@ module _ {last pass k edge : ℕ} (w : World) (large : 3000 ≤ last) (c : Conte
     most S.ClosingHeaders n = omega arith
     most S.Done n = omega arith
 
-    queued : Stands last pass (itemAt (w .accepted) k) k f × Queue last pass (w .accepted) (k + 1) rest
+    queued : Stands last pass (itemAt (w .notes .accepted) k) k f × Queue last pass (w .notes .accepted) (k + 1) rest
     unfolding Queue
-    queued = subst (Queue last pass (w .accepted) k) b (c .queue st free)
+    queued = subst (Queue last pass (w .notes .accepted) k) b (c .queue st free)
 
-    seen-here : Seen last pass (w .accepted) (totalOf (w .session .stage) (length (w .accepted))) k (w .drive .at) (w .drive .tape)
-    seen-here = subst (λ (x : ℕ). Seen last pass (w .accepted) (totalOf (w .session .stage) (length (w .accepted))) k x (w .drive .tape)) edge-here (c .seen)
+    seen-here : Seen last pass (w .notes .accepted) (totalOf (w .session .stage) (length (w .notes .accepted))) k (w .drive .at) (w .drive .tape)
+    seen-here = subst (λ (x : ℕ). Seen last pass (w .notes .accepted) (totalOf (w .session .stage) (length (w .notes .accepted))) k x (w .drive .tape)) edge-here (c .seen)
 
     -- no header is there
     below-user : (v : Option (List ℕ)) → Below last (w .session .copies .header) (put (w .drive .tape) (w .drive .at) v)
@@ -111,7 +111,7 @@ module _ {last pass k edge : ℕ} (w : World) (large : 3000 ≤ last) (c : Conte
     pub element-writes : (v : Option (List ℕ)) → Written f v → Content last pass (withDrive w (wrote (w .drive) rest v) (w .flight)) (k + 1) (w .drive .at + 1)
     element-writes v (conduct.reads read r) = record {
       tape = cartridge-left (as-new (some read) (conduct.reads read r));
-      seen = seen-writes (c .tape) (w .drive .at) here seen-here room (most (w .session .stage) (length (w .accepted))) read (stands-read (queued .0) r);
+      seen = seen-writes (c .tape) (w .drive .at) here seen-here room (most (w .session .stage) (length (w .notes .accepted))) read (stands-read (queued .0) r);
       below = below-user (some read);
       stored = c .stored;
       queue = λ _ _. queued .1;
@@ -121,7 +121,7 @@ module _ {last pass k edge : ℕ} (w : World) (large : 3000 ≤ last) (c : Conte
     pub element-fails : (v : Option (List ℕ)) → Left (w .drive .tape (w .drive .at)) f v → Content last pass (withDrive w (failing (w .drive) v) (w .flight)) k (w .drive .at + 1)
     element-fails v left = record {
       tape = cartridge-left left;
-      seen = seen-fails (c .tape) (w .drive .at) here seen-here room (most (w .session .stage) (length (w .accepted))) f v (queued .0) left;
+      seen = seen-fails (c .tape) (w .drive .at) here seen-here room (most (w .session .stage) (length (w .notes .accepted))) f v (queued .0) left;
       below = below-user v;
       stored = c .stored;
       queue = λ _ x. absurd (true≢false x);

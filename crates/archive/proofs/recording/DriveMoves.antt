@@ -63,7 +63,7 @@ safe-acts {last} {d} (allowed h) (conduct.fails f rest v b free l) =
 
 module _ {last pass : ℕ} {premises : Type 0} {w : World} (set : Setting last pass) (written : Within last (w .drive .written)) (l : Live last pass premises w) where
   -- another drive, in the same session
-  relive : (d : Drive) (f : Flight) (k edge : ℕ) → Course last (withDrive w d f) k edge → (premises → w .unaltered ≡ true → Content last pass (withDrive w d f) k edge) → Live last pass premises (withDrive w d f)
+  relive : (d : Drive) (f : Flight) (k edge : ℕ) → Course last (withDrive w d f) k edge → (premises → w .notes .unaltered ≡ true → Content last pass (withDrive w d f) k edge) → Live last pass premises (withDrive w d f)
   relive d f k edge course content = record {
     k = k;
     edge = edge;
@@ -113,7 +113,7 @@ module _ {last pass : ℕ} {premises : Type 0} {w : World} (set : Setting last p
     on : Goes last (w .session .elements .first .0) (w .session .elements .pending) (w .drive) rest (l .k) (l .edge) (λ e k edge. Writing last (w .session) e k edge (w .flight))
     on = writing-goes f rest (l .counted .held) b free agree
 
-    room : l .k + 1 ≤ totalOf (w .session .stage) (length (w .accepted))
+    room : l .k + 1 ≤ totalOf (w .session .stage) (length (w .notes .accepted))
     room = omega (arith, on .room, l .counted .numbered)
 
     writes : (v : Option (List ℕ)) → Written f v → Inv last pass premises (withDrive w (wrote (w .drive) rest v) (w .flight))
@@ -165,12 +165,12 @@ module _ {last pass : ℕ} {premises : Type 0} {w : World} (set : Setting last p
     lost n a h off safe = rejecting within (record { reply = r; going = l .going; awaits = a; replied = refl; unlisted = h; off-headers = off; safe = safe; unreported = unreported l n })
 
     -- the tape stays
-    same-content : {k edge : ℕ} → Content last pass w k edge → (ElementStage (w .session) → d .failed ≡ false → Queue last pass (w .accepted) k (d .buffer)) → Content last pass (withDrive w d (recordings.answered r)) k edge
+    same-content : {k edge : ℕ} → Content last pass w k edge → (ElementStage (w .session) → d .failed ≡ false → Queue last pass (w .notes .accepted) k (d .buffer)) → Content last pass (withDrive w d (recordings.answered r)) k edge
     same-content {k} {edge} x queue =
         let e = sym (same-tape an .0) in
         record {
           tape = subst (Cartridge last) e (x .tape);
-          seen = subst (λ t. Seen last pass (w .accepted) (totalOf (w .session .stage) (length (w .accepted))) k edge t) e (x .seen);
+          seen = subst (λ t. Seen last pass (w .notes .accepted) (totalOf (w .session .stage) (length (w .notes .accepted))) k edge t) e (x .seen);
           below = subst (Below last (w .session .copies .header)) e (x .below);
           stored = x .stored;
           queue = queue;
@@ -192,12 +192,12 @@ module _ {last pass : ℕ} {premises : Type 0} {w : World} (set : Setting last p
 
     module _ (st : ElementStage (w .session)) (agree : Writing last (w .session) (w .drive) (l .k) (l .edge) (w .flight))
         (course : (e : Drive) → Writing last (w .session) e (l .k) (l .edge) (recordings.answered r) → Course last (withDrive w e (recordings.answered r)) (l .k) (l .edge)) where
-      queue-answers : {e : Drive} {k2 : Command} → w .flight ≡ recordings.sent k2 frame → Content last pass w (l .k) (l .edge) → Asks last (heldOf (w .session)) (w .session .elements .pending) (w .drive) (l .k) (l .edge) k2 → Answers (w .drive) frame k2 r e → e .failed ≡ false → Queue last pass (w .accepted) (l .k) (e .buffer)
+      queue-answers : {e : Drive} {k2 : Command} → w .flight ≡ recordings.sent k2 frame → Content last pass w (l .k) (l .edge) → Asks last (heldOf (w .session)) (w .session .elements .pending) (w .drive) (l .k) (l .edge) k2 → Answers (w .drive) frame k2 r e → e .failed ≡ false → Queue last pass (w .notes .accepted) (l .k) (e .buffer)
       unfolding Queue
       queue-answers q2 x (elements.writes a p due off low li) (conduct.takes _ _ m) free =
           let i = w .session .elements .first .0 + w .session .elements .outstanding in
           let there : i ≡ l .k + length (w .drive .buffer) = let z = li .taken-is in omega arith in
-          queue-more last pass (w .accepted) (l .k) (w .drive .buffer) frame (x .queue st free) (subst (λ (j : ℕ). Stands last pass (itemAt (w .accepted) j) j frame) there (x .sent a frame st q2))
+          queue-more last pass (w .notes .accepted) (l .k) (w .drive .buffer) frame (x .queue st free) (subst (λ (j : ℕ). Stands last pass (itemAt (w .notes .accepted) j) j frame) there (x .sent a frame st q2))
       queue-answers q2 x (elements.writes a p due off low li) (conduct.overflows _ _ _ m) free = x .queue st free
       queue-answers q2 x (elements.writes a p due off low li) (conduct.write-fails _ _ m y z) free = x .queue st free
       queue-answers q2 x (elements.writes a p due off low li) (conduct.waits _ _ m) free = x .queue st free

@@ -84,7 +84,7 @@ module _ {last pass : ℕ} {premises : Type 0} (w : World) (r : Reply) (set : Se
     abbrev stepped : Recording
     stepped = withElements (answeredOf (w .session)) e
 
-    counted-so : Counted last (length (w .accepted)) stepped
+    counted-so : Counted last (length (w .notes .accepted)) stepped
     counted-so =
         let c = l .counted in
         let held = c .held in
@@ -95,15 +95,15 @@ module _ {last pass : ℕ} {premises : Type 0} (w : World) (r : Reply) (set : Se
         let first-is = s .first-is in
         record { wide = c .wide; held = s .held; windowed = omega arith; numbered = omega arith; marks = ap (λ (x : List Bool). length x) (s .marks-is) ∙ c .marks; room = s .room }
 
-    stored-so : Content last pass w (l .k) (l .edge) → (i : ℕ) → i < e .pending → StoredAs (itemAt (w .accepted) (e .first .0 + i)) (w .window) (e .marks) (windowOf (w .session)) (e .first .0 + i)
+    stored-so : Content last pass w (l .k) (l .edge) → (i : ℕ) → i < e .pending → StoredAs (itemAt (w .notes .accepted) (e .first .0 + i)) (w .window) (e .marks) (windowOf (w .session)) (e .first .0 + i)
     stored-so c i h =
         let pending-is = s .pending-is in
         let first-is = s .first-is in
         let at : w .session .elements .first .0 + (s .n + i) ≡ e .first .0 + i = omega arith in
-        subst (λ (m : List Bool). StoredAs (itemAt (w .accepted) (e .first .0 + i)) (w .window) m (windowOf (w .session)) (e .first .0 + i)) (sym (s .marks-is))
-        (subst (λ (j : ℕ). StoredAs (itemAt (w .accepted) j) (w .window) (w .session .elements .marks) (windowOf (w .session)) j) at (c .stored (s .n + i) (omega arith)))
+        subst (λ (m : List Bool). StoredAs (itemAt (w .notes .accepted) (e .first .0 + i)) (w .window) m (windowOf (w .session)) (e .first .0 + i)) (sym (s .marks-is))
+        (subst (λ (j : ℕ). StoredAs (itemAt (w .notes .accepted) j) (w .window) (w .session .elements .marks) (windowOf (w .session)) j) at (c .stored (s .n + i) (omega arith)))
 
-    content-so : premises → w .unaltered ≡ true → Content last pass (repliedWorld w stepped) (l .k) (s .tried)
+    content-so : premises → w .notes .unaltered ≡ true → Content last pass (repliedWorld w stepped) (l .k) (s .tried)
     content-so p u =
         let c = l .content p u in
         record {
@@ -133,10 +133,10 @@ module _ {last pass : ℕ} {premises : Type 0} (w : World) (r : Reply) (set : Se
       on-tape : (l .k ≡ e .first .0) × AtRest (w .drive) × (isUser last (e .next .0 - 1) ≡ true)
       on-tape = s .all some none
 
-      total : totalOf (w .session .stage) (length (w .accepted)) ≡ length (w .accepted) + 1
-      total = ap (λ (x : Stage). totalOf x (length (w .accepted))) q
+      total : totalOf (w .session .stage) (length (w .notes .accepted)) ≡ length (w .notes .accepted) + 1
+      total = ap (λ (x : Stage). totalOf x (length (w .notes .accepted))) q
 
-      all-on : l .k ≡ length (w .accepted) + 1
+      all-on : l .k ≡ length (w .notes .accepted) + 1
       all-on = let n = counted-so .numbered in let k = on-tape .0 in omega (arith, total)
 
       count-up : (w .session .copies .header .update + 1) % 2 ^ 32 ≡ w .session .copies .header .update + 1
@@ -146,13 +146,13 @@ module _ {last pass : ℕ} {premises : Type 0} (w : World) (r : Reply) (set : Se
       below-so b a f at =
           ⊎-elim (λ x. inl (omega (arith, count-up))) (λ x. inl (omega (arith, count-up, copy-update set (w .session .copies .header) (l .carried) x))) (b a f at)
 
-      seen-all : Content last pass w (l .k) (l .edge) → Seen last pass (w .accepted) (length (w .accepted) + 1) (l .k) (last + 1) (w .drive .tape)
+      seen-all : Content last pass w (l .k) (l .edge) → Seen last pass (w .notes .accepted) (length (w .notes .accepted) + 1) (l .k) (last + 1) (w .drive .tape)
       seen-all c = go (decLe (s .tried) (last + 1))
         where
-          here : Seen last pass (w .accepted) (length (w .accepted) + 1) (l .k) (s .tried) (w .drive .tape)
-          here = subst (λ (n : ℕ). Seen last pass (w .accepted) n (l .k) (s .tried) (w .drive .tape)) total (seen-moves (c .tape) (s .tried) (s .further) (c .seen))
+          here : Seen last pass (w .notes .accepted) (length (w .notes .accepted) + 1) (l .k) (s .tried) (w .drive .tape)
+          here = subst (λ (n : ℕ). Seen last pass (w .notes .accepted) n (l .k) (s .tried) (w .drive .tape)) total (seen-moves (c .tape) (s .tried) (s .further) (c .seen))
 
-          go : Dec (s .tried ≤ last + 1) → Seen last pass (w .accepted) (length (w .accepted) + 1) (l .k) (last + 1) (w .drive .tape)
+          go : Dec (s .tried ≤ last + 1) → Seen last pass (w .notes .accepted) (length (w .notes .accepted) + 1) (l .k) (last + 1) (w .drive .tape)
           go (yes h) = seen-moves (c .tape) (last + 1) h here
           go (no h) = seen-top (set .large) (c .tape) (omega arith) here
 

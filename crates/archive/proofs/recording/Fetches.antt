@@ -96,24 +96,22 @@ abbrev fetchedWorld : World → List ℕ → Fetching → World
 fetchedWorld w lent x = record {
   session = x .session;
   window = lent;
-  unaltered = w .unaltered && agree lent (w .window);
   drive = w .drive;
   flight = flightAfter (x .said) (w .flight) (x .frame);
-  accepted = w .accepted;
-  reported = reportedAfter (x .said) (w .reported);
+  notes = record { accepted = w .notes .accepted; unaltered = w .notes .unaltered && agree lent (w .window); reported = reportedAfter (x .said) (w .notes .reported) };
 }
 
 abbrev lentWorld : World → List ℕ → Recording → Flight → Bool → World
-lentWorld w lent s f reported = record { session = s; window = lent; unaltered = w .unaltered && agree lent (w .window); drive = w .drive; flight = f; accepted = w .accepted; reported = reported }
+lentWorld w lent s f reported = record { session = s; window = lent; drive = w .drive; flight = f; notes = record { accepted = w .notes .accepted; unaltered = w .notes .unaltered && agree lent (w .window); reported = reported } }
 
 module _ {last pass : ℕ} {premises : Type 0} (w : World) (lent frame : List ℕ) (set : Setting last pass) (wr : Within last (w .drive .written)) (l : Live last pass premises w) where
   -- lent as last left
-  as-left : (w .unaltered && agree lent (w .window)) ≡ true → (w .unaltered ≡ true) × (lent ≡ w .window)
-  as-left u = let b = and-true (w .unaltered) (agree lent (w .window)) u in (b .0, agree-is lent (w .window) (b .1))
+  as-left : (w .notes .unaltered && agree lent (w .window)) ≡ true → (w .notes .unaltered ≡ true) × (lent ≡ w .window)
+  as-left u = let b = and-true (w .notes .unaltered) (agree lent (w .window)) u in (b .0, agree-is lent (w .window) (b .1))
 
   stored-lent : lent ≡ w .window → Content last pass w (l .k) (l .edge) → (i : ℕ) → i < w .session .elements .pending
-      → StoredAs (itemAt (w .accepted) (w .session .elements .first .0 + i)) lent (w .session .elements .marks) (windowOf (w .session)) (w .session .elements .first .0 + i)
-  stored-lent e c i h = subst (λ (x : List ℕ). StoredAs (itemAt (w .accepted) (w .session .elements .first .0 + i)) x (w .session .elements .marks) (windowOf (w .session)) (w .session .elements .first .0 + i)) (sym e) (c .stored i h)
+      → StoredAs (itemAt (w .notes .accepted) (w .session .elements .first .0 + i)) lent (w .session .elements .marks) (windowOf (w .session)) (w .session .elements .first .0 + i)
+  stored-lent e c i h = subst (λ (x : List ℕ). StoredAs (itemAt (w .notes .accepted) (w .session .elements .first .0 + i)) x (w .session .elements .marks) (windowOf (w .session)) (w .session .elements .first .0 + i)) (sym e) (c .stored i h)
 
   -- ---- nothing goes out: idle, or done
 
@@ -143,9 +141,9 @@ module _ {last pass : ℕ} {premises : Type 0} (w : World) (lent frame : List �
 
   module _ (c : Command) where
     abbrev sentWorld : World
-    sentWorld = lentWorld w lent (awaits (w .session) c) (recordings.sent c (frameFor c (w .session) lent frame)) (w .reported)
+    sentWorld = lentWorld w lent (awaits (w .session) c) (recordings.sent c (frameFor c (w .session) lent frame)) (w .notes .reported)
 
-    goes-out : (edge : ℕ) → Course last sentWorld (l .k) edge → (premises → w .unaltered ≡ true → lent ≡ w .window → Content last pass sentWorld (l .k) edge) → Live last pass premises sentWorld
+    goes-out : (edge : ℕ) → Course last sentWorld (l .k) edge → (premises → w .notes .unaltered ≡ true → lent ≡ w .window → Content last pass sentWorld (l .k) edge) → Live last pass premises sentWorld
     goes-out edge course content = record {
       k = l .k;
       edge = edge;
@@ -158,10 +156,10 @@ module _ {last pass : ℕ} {premises : Type 0} (w : World) (lent frame : List �
     }
 
     -- what is known of the frame, by the command
-    content-out : {edge : ℕ} → premises → w .unaltered ≡ true → lent ≡ w .window
-        → Seen last pass (w .accepted) (totalOf (w .session .stage) (length (w .accepted))) (l .k) edge (w .drive .tape)
+    content-out : {edge : ℕ} → premises → w .notes .unaltered ≡ true → lent ≡ w .window
+        → Seen last pass (w .notes .accepted) (totalOf (w .session .stage) (length (w .notes .accepted))) (l .k) edge (w .drive .tape)
         → ((a : Address) (f : List ℕ) → ElementStage (w .session) → recordings.sent c (frameFor c (w .session) lent frame) ≡ recordings.sent (Write a) f
-        → Stands last pass (itemAt (w .accepted) (w .session .elements .first .0 + w .session .elements .outstanding)) (w .session .elements .first .0 + w .session .elements .outstanding) f)
+        → Stands last pass (itemAt (w .notes .accepted) (w .session .elements .first .0 + w .session .elements .outstanding)) (w .session .elements .first .0 + w .session .elements .outstanding) f)
         → Content last pass sentWorld (l .k) edge
     content-out p u same seen sent =
         let x = l .content p u in
@@ -265,18 +263,18 @@ module _ {last pass : ℕ} {premises : Type 0} (w : World) (lent frame : List �
   -- the frame of a WRITE
   module _ (long : length lent ≡ windowLength (w .session)) (numbers : Numbers last (w .session .elements .first .0) (w .session .elements .outstanding) (w .session .elements .pending) (l .k) (w .drive))
       (alone : w .session .stage ≡ S.Eod → w .session .elements .pending ≡ 1) where
-    stands-sent : premises → w .unaltered ≡ true → lent ≡ w .window → ElementStage (w .session) → w .session .elements .outstanding < w .session .elements .pending
-        → Stands last pass (itemAt (w .accepted) (w .session .elements .first .0 + w .session .elements .outstanding)) (w .session .elements .first .0 + w .session .elements .outstanding) (writtenFrame (w .session) lent)
+    stands-sent : premises → w .notes .unaltered ≡ true → lent ≡ w .window → ElementStage (w .session) → w .session .elements .outstanding < w .session .elements .pending
+        → Stands last pass (itemAt (w .notes .accepted) (w .session .elements .first .0 + w .session .elements .outstanding)) (w .session .elements .first .0 + w .session .elements .outstanding) (writtenFrame (w .session) lent)
     stands-sent p u same (inl st) d =
         let n = l .counted .numbered in
-        let t = ap (λ (x : Stage). totalOf x (length (w .accepted))) st in
-        sent-element last pass (w .session) lent (w .accepted) (l .carried .last-is) (l .carried .pass-is) (set .low) long (omega (arith, numbers .low, l .counted .windowed, l .counted .wide, set .small)) st (omega arith)
+        let t = ap (λ (x : Stage). totalOf x (length (w .notes .accepted))) st in
+        sent-element last pass (w .session) lent (w .notes .accepted) (l .carried .last-is) (l .carried .pass-is) (set .low) long (omega (arith, numbers .low, l .counted .windowed, l .counted .wide, set .small)) st (omega arith)
         (stored-lent same (l .content p u) (w .session .elements .outstanding) d)
     stands-sent p u same (inr st) d =
         let n = l .counted .numbered in
-        let t = ap (λ (x : Stage). totalOf x (length (w .accepted))) st in
+        let t = ap (λ (x : Stage). totalOf x (length (w .notes .accepted))) st in
         let one = alone st in
-        sent-eod last pass (w .session) lent (w .accepted) (l .carried .last-is) (l .carried .pass-is) (set .low) long (omega (arith, numbers .low, l .counted .windowed, l .counted .wide, set .small)) st (omega arith)
+        sent-eod last pass (w .session) lent (w .notes .accepted) (l .carried .last-is) (l .carried .pass-is) (set .low) long (omega (arith, numbers .low, l .counted .windowed, l .counted .wide, set .small)) st (omega arith)
 
     element-out : (c : Command) → Out c → ElementStage (w .session) → ((edge : ℕ) → Writing last (awaits (w .session) c) (w .drive) (l .k) edge (recordings.sent c (frameFor c (w .session) lent frame)) → Course last (sentWorld c) (l .k) edge)
         → Inv last pass premises (sentWorld c)
@@ -287,7 +285,7 @@ module _ {last pass : ℕ} {premises : Type 0} (w : World) (lent frame : List �
         (λ a f el q.
         let command-is : c ≡ Write a = cc in
         let frame-is : frameFor c (w .session) lent frame ≡ f = cc in
-        subst (λ (y : List ℕ). Stands last pass (itemAt (w .accepted) (w .session .elements .first .0 + w .session .elements .outstanding)) (w .session .elements .first .0 + w .session .elements .outstanding) y)
+        subst (λ (y : List ℕ). Stands last pass (itemAt (w .notes .accepted) (w .session .elements .first .0 + w .session .elements .outstanding)) (w .session .elements .first .0 + w .session .elements .outstanding) y)
         (sym (ap (λ (y : Command). frameFor y (w .session) lent frame) command-is) ∙ frame-is)
         (stands-sent p u same el (due-of (subst (λ (y : Command). Asks last (heldOf (w .session)) (w .session .elements .pending) (w .drive) (l .k) (o .edge) y) command-is (o .asks)))))))
 
@@ -320,7 +318,7 @@ module _ {last pass : ℕ} {premises : Type 0} (w : World) (lent frame : List �
   as-named : (c : Command) → Inv last pass premises (sentWorld w lent frame set wr l c) → After (sending (w .session) c lent frame)
   unfolding sending
   as-named c i =
-      subst (λ (x : Command). Inv last pass premises (lentWorld w lent (awaits (w .session) c) (recordings.sent x (frameFor c (w .session) lent frame)) (w .reported))) (sym (command-by c)) i
+      subst (λ (x : Command). Inv last pass premises (lentWorld w lent (awaits (w .session) c) (recordings.sent x (frameFor c (w .session) lent frame)) (w .notes .reported))) (sym (command-by c)) i
 
   -- in a header stage
   module _ (st : HeaderStage (w .session)) (agree : CopiesAgree (w .session) (w .drive) (w .flight))
@@ -352,7 +350,7 @@ module _ {last pass : ℕ} {premises : Type 0} (w : World) (lent frame : List �
     fetch-elements (view.stepping r ag el x d) te =
         let c = commandFor x in
         as-named c (element-out w lent frame set wr l (r .windowRight) numbers alone c (out-element w lent frame set wr l (subst (rule.DueView (w .session .setup .depth) (w .session .elements)) d (rule.due-view (w .session .setup .depth) (w .session .elements))) ag (writing-idle (r .free) agree .0)) st (course c))
-    fetch-elements (view.resting r ag el d) te = live wr (quiet w lent frame set wr l (w .reported) (l .reported))
+    fetch-elements (view.resting r ag el d) te = live wr (quiet w lent frame set wr l (w .notes .reported) (l .reported))
     fetch-elements (view.stopping r ag el n d) te =
         let i = writing-idle (r .free) agree in
         over wr (record { ended = refl; none = i .1; safe = writing-safe ag (i .0); unreported = unreported l (element-not-done (w .session) st) })

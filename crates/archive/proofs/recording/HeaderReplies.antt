@@ -54,7 +54,7 @@ module _ (s : Recording) (r : Reply) (going : s .ended ≡ false) (asked : s .ex
   asked-so = neither _ _ going (ap not asked)
 
 abbrev pub repliedWorld : World → Recording → World
-repliedWorld w s = record { session = s; window = w .window; unaltered = w .unaltered; drive = w .drive; flight = recordings.none; accepted = w .accepted; reported = w .reported }
+repliedWorld w s = record { session = s; window = w .window; drive = w .drive; flight = recordings.none; notes = w .notes }
 
 -- what the window is for
 record Sized : Type 0 where
@@ -89,7 +89,7 @@ module _ {last pass : ℕ} {premises : Type 0} (w : World) (r : Reply) (set : Se
             wide = subst (λ (n : ℕ). n ≤ 63) (sym high) (c .wide);
             held = let h = c .held in omega arith;
             windowed = let h = c .windowed in omega (arith, high);
-            numbered = ap (λ (x : Elements). x .first .0 + x .pending) els ∙ c .numbered ∙ ap (λ (x : Stage). totalOf x (length (w .accepted))) (sym stage);
+            numbered = ap (λ (x : Elements). x .first .0 + x .pending) els ∙ c .numbered ∙ ap (λ (x : Stage). totalOf x (length (w .notes .accepted))) (sym stage);
             marks = ap (λ (x : Elements). length (x .marks)) els ∙ c .marks;
             room = let h = c .room in omega arith;
           };
@@ -100,9 +100,9 @@ module _ {last pass : ℕ} {premises : Type 0} (w : World) (r : Reply) (set : Se
           let c = l .content p u in
           record {
             tape = c .tape;
-            seen = subst (λ (x : Stage). Seen last pass (w .accepted) (totalOf x (length (w .accepted))) (l .k) (l .edge) (w .drive .tape)) (sym stage) (c .seen);
+            seen = subst (λ (x : Stage). Seen last pass (w .notes .accepted) (totalOf x (length (w .notes .accepted))) (l .k) (l .edge) (w .drive .tape)) (sym stage) (c .seen);
             below = subst (λ (x : Header). Below last x (w .drive .tape)) (sym head) (c .below);
-            stored = subst (λ (p : Sized). (i : ℕ) → i < p .els .pending → StoredAs (itemAt (w .accepted) (p .els .first .0 + i)) (w .window) (p .els .marks) (p .top + 1) (p .els .first .0 + i)) (sym (sized-same v high els)) (c .stored);
+            stored = subst (λ (p : Sized). (i : ℕ) → i < p .els .pending → StoredAs (itemAt (w .notes .accepted) (p .els .first .0 + i)) (w .window) (p .els .marks) (p .top + 1) (p .els .first .0 + i)) (sym (sized-same v high els)) (c .stored);
             queue = λ el _. header-not-element (w .session) st (⊎-elim (λ q. inl (sym stage ∙ q)) (λ q. inr (sym stage ∙ q)) el);
             sent = λ _ _ _ z. none-sent z;
           };
@@ -114,15 +114,15 @@ module _ {last pass : ℕ} {premises : Type 0} (w : World) (r : Reply) (set : Se
     abbrev opened : Recording
     opened = withStage (answeredOf (w .session)) S.Elements
 
-    nothing-queued : AtRest (w .drive) → w .drive .failed ≡ false → Queue last pass (w .accepted) (l .k) (w .drive .buffer)
+    nothing-queued : AtRest (w .drive) → w .drive .failed ≡ false → Queue last pass (w .notes .accepted) (l .k) (w .drive .buffer)
     unfolding Queue
     nothing-queued (stopped e) free = clash e free
-    nothing-queued (empty e) free = subst (Queue last pass (w .accepted) (l .k)) (sym e) tt
+    nothing-queued (empty e) free = subst (Queue last pass (w .notes .accepted) (l .k)) (sym e) tt
 
     opened-live : AtRest (w .drive) → Live last pass premises (repliedWorld w opened)
     opened-live rests =
         let c = l .counted in
-        let same = ap (λ (x : Stage). totalOf x (length (w .accepted))) q in
+        let same = ap (λ (x : Stage). totalOf x (length (w .notes .accepted))) q in
         let target = t .target-is in
         record {
           k = l .k;
@@ -144,7 +144,7 @@ module _ {last pass : ℕ} {premises : Type 0} (w : World) (r : Reply) (set : Se
               let x = l .content p u in
               record {
                 tape = x .tape;
-                seen = subst (λ (n : ℕ). Seen last pass (w .accepted) n (l .k) (l .edge) (w .drive .tape)) same (x .seen);
+                seen = subst (λ (n : ℕ). Seen last pass (w .notes .accepted) n (l .k) (l .edge) (w .drive .tape)) same (x .seen);
                 below = x .below;
                 stored = x .stored;
                 queue = λ _ free. nothing-queued rests free;
@@ -164,14 +164,14 @@ module _ {last pass : ℕ} {premises : Type 0} (w : World) (r : Reply) (set : Se
 
   -- ---- the closing headers
 
-  module _ (q : w .session .stage ≡ S.ClosingHeaders) (closed : w .session .closed ≡ true) (k0 : l .k ≡ length (w .accepted) + 1) (e0 : l .edge ≡ last + 1) (again : w .session .exchange .again ≡ false) (asked : w .session .exchange .awaiting ≡ true) where
+  module _ (q : w .session .stage ≡ S.ClosingHeaders) (closed : w .session .closed ≡ true) (k0 : l .k ≡ length (w .notes .accepted) + 1) (e0 : l .edge ≡ last + 1) (again : w .session .exchange .again ≡ false) (asked : w .session .exchange .awaiting ≡ true) where
     abbrev done : Recording
     done = withStage (answeredOf (w .session)) S.Done
 
     done-live : AtRest (w .drive) → Copy (w .session .copies .header) (w .drive .tape) 2995 → Live last pass premises (repliedWorld w done)
     done-live rests copy =
         let c = l .counted in
-        let same = ap (λ (x : Stage). totalOf x (length (w .accepted))) q in
+        let same = ap (λ (x : Stage). totalOf x (length (w .notes .accepted))) q in
         record {
           k = l .k;
           edge = l .edge;
@@ -184,7 +184,7 @@ module _ {last pass : ℕ} {premises : Type 0} (w : World) (r : Reply) (set : Se
               let x = l .content p u in
               record {
                 tape = x .tape;
-                seen = subst (λ (n : ℕ). Seen last pass (w .accepted) n (l .k) (l .edge) (w .drive .tape)) same (x .seen);
+                seen = subst (λ (n : ℕ). Seen last pass (w .notes .accepted) n (l .k) (l .edge) (w .drive .tape)) same (x .seen);
                 below = x .below;
                 stored = x .stored;
                 queue = λ el _. ⊎-elim (λ z. never (cc)) (λ z. never (cc)) el;
@@ -235,7 +235,7 @@ module _ {last pass : ℕ} {premises : Type 0} (w : World) (r : Reply) (set : Se
       (λ y. live wr (more-live (inl q) g a (repeatedOf (w .session)) (l .going) refl refl refl refl (inv.opening q t (record { counts = agree .counts; placed = agree .placed; copying = copies.again refl refl y }))))
       (w .session .exchange .command) refl x
 
-  pub closing-replies : (q : w .session .stage ≡ S.ClosingHeaders) → w .session .closed ≡ true → l .k ≡ length (w .accepted) + 1 → l .edge ≡ last + 1 → CopiesAgree (w .session) (w .drive) (w .flight) → Copying (w .session) (w .drive) (recordings.answered r) → After (replyOf (w .session) r)
+  pub closing-replies : (q : w .session .stage ≡ S.ClosingHeaders) → w .session .closed ≡ true → l .k ≡ length (w .notes .accepted) + 1 → l .edge ≡ last + 1 → CopiesAgree (w .session) (w .drive) (w .flight) → Copying (w .session) (w .drive) (recordings.answered r) → After (replyOf (w .session) r)
   closing-replies q c k0 e0 agree (copies.replied _ a g x) =
       header-replies (inr q) g a agree (λ _ y safe. closing-next q c k0 e0 g a y safe)
       (λ y. live wr (more-live (inr q) g a (repeatedOf (w .session)) (l .going) refl refl refl refl (inv.closing q c k0 e0 (record { counts = agree .counts; placed = agree .placed; copying = copies.again refl refl y }))))

@@ -76,9 +76,9 @@ pub data Course (last : ℕ) (w : World) (k edge : ℕ) : Type 0 where
   writing : w .session .stage ≡ S.Elements → Writing last (w .session) (w .drive) k edge (w .flight) → Course last w k edge
   ending : w .session .stage ≡ S.Eod → w .session .closed ≡ true → w .session .elements .pending ≡ 1
       → Writing last (w .session) (w .drive) k edge (w .flight) → Course last w k edge
-  closing : w .session .stage ≡ S.ClosingHeaders → w .session .closed ≡ true → k ≡ length (w .accepted) + 1 → edge ≡ last + 1
+  closing : w .session .stage ≡ S.ClosingHeaders → w .session .closed ≡ true → k ≡ length (w .notes .accepted) + 1 → edge ≡ last + 1
       → CopiesAgree (w .session) (w .drive) (w .flight) → Course last w k edge
-  finished : w .session .stage ≡ S.Done → w .session .closed ≡ true → k ≡ length (w .accepted) + 1 → edge ≡ last + 1
+  finished : w .session .stage ≡ S.Done → w .session .closed ≡ true → k ≡ length (w .notes .accepted) + 1 → edge ≡ last + 1
       → w .flight ≡ recordings.none → w .session .exchange .awaiting ≡ false → w .session .exchange .again ≡ false → AtRest (w .drive)
       → Copy (w .session .copies .header) (w .drive .tape) (last + 1) → Course last w k edge
 
@@ -86,14 +86,14 @@ pub data Course (last : ℕ) (w : World) (k edge : ℕ) : Type 0 where
 
 pub record Content (last pass : ℕ) (w : World) (k edge : ℕ) : Type 0 where
   pub tape : Cartridge last (w .drive .tape)
-  pub seen : Seen last pass (w .accepted) (totalOf (w .session .stage) (length (w .accepted))) k edge (w .drive .tape)
+  pub seen : Seen last pass (w .notes .accepted) (totalOf (w .session .stage) (length (w .notes .accepted))) k edge (w .drive .tape)
   pub below : Below last (w .session .copies .header) (w .drive .tape)
   pub stored : (i : ℕ) → i < w .session .elements .pending
-      → StoredAs (itemAt (w .accepted) (w .session .elements .first .0 + i)) (w .window) (w .session .elements .marks) (windowOf (w .session)) (w .session .elements .first .0 + i)
+      → StoredAs (itemAt (w .notes .accepted) (w .session .elements .first .0 + i)) (w .window) (w .session .elements .marks) (windowOf (w .session)) (w .session .elements .first .0 + i)
   -- frames behind a failed one are never written
-  pub queue : ElementStage (w .session) → w .drive .failed ≡ false → Queue last pass (w .accepted) k (w .drive .buffer)
+  pub queue : ElementStage (w .session) → w .drive .failed ≡ false → Queue last pass (w .notes .accepted) k (w .drive .buffer)
   pub sent : (a : Address) (f : List ℕ) → ElementStage (w .session) → w .flight ≡ recordings.sent (Write a) f
-      → Stands last pass (itemAt (w .accepted) (w .session .elements .first .0 + w .session .elements .outstanding)) (w .session .elements .first .0 + w .session .elements .outstanding) f
+      → Stands last pass (itemAt (w .notes .accepted) (w .session .elements .first .0 + w .session .elements .outstanding)) (w .session .elements .first .0 + w .session .elements .outstanding) f
 
 -- ---- the whole
 
@@ -101,11 +101,11 @@ pub record Live (last pass : ℕ) (premises : Type 0) (w : World) : Type 0 where
   pub k : ℕ
   pub edge : ℕ
   pub going : w .session .ended ≡ false
-  pub counted : Counted last (length (w .accepted)) (w .session)
+  pub counted : Counted last (length (w .notes .accepted)) (w .session)
   pub carried : Carried last pass (spareOf (w .session .stage)) (w .session .copies .header)
   pub course : Course last w k edge
-  pub reported : w .reported ≡ true → w .session .stage ≡ S.Done
-  pub content : premises → w .unaltered ≡ true → Content last pass w k edge
+  pub reported : w .notes .reported ≡ true → w .session .stage ≡ S.Done
+  pub content : premises → w .notes .unaltered ≡ true → Content last pass w k edge
 
 -- all that the drive may still write goes to addresses that are allowed
 pub data Safe (last : ℕ) (d : Drive) : Type 0 where
@@ -121,14 +121,14 @@ pub record Rejecting (last : ℕ) (w : World) : Type 0 where
   pub unlisted : Listed (w .session .exchange .command) (meaningOf (reply .key) (reply .asc) (reply .ascq)) → ⊥
   pub off-headers : OffHeaders (w .session)
   pub safe : Safe last (w .drive)
-  pub unreported : w .reported ≡ false
+  pub unreported : w .notes .reported ≡ false
 
 -- the session has ended
 pub record Over (last : ℕ) (w : World) : Type 0 where
   pub ended : w .session .ended ≡ true
   pub none : w .flight ≡ recordings.none
   pub safe : Safe last (w .drive)
-  pub unreported : w .reported ≡ false
+  pub unreported : w .notes .reported ≡ false
 
 pub data Inv (last pass : ℕ) (premises : Type 0) (w : World) : Type 0 where
   live : Within last (w .drive .written) → Live last pass premises w → Inv last pass premises w

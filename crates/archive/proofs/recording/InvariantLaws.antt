@@ -18,10 +18,10 @@ use Rattle.archive.proofs.recording.ElementsLink.{Writing}
 use Rattle.archive.proofs.recording.Invariant as invariant
 use Rattle.archive.proofs.recording.Invariant.{Course, Live, Inv, live, rejecting, over}
 
-pub unreported : {last pass : ℕ} {premises : Type 0} {w : World} → Live last pass premises w → (w .session .stage ≡ S.Done → ⊥) → w .reported ≡ false
-unreported {w = w} l n = go (w .reported) refl
+pub unreported : {last pass : ℕ} {premises : Type 0} {w : World} → Live last pass premises w → (w .session .stage ≡ S.Done → ⊥) → w .notes .reported ≡ false
+unreported {w = w} l n = go (w .notes .reported) refl
   where
-    go : (b : Bool) → w .reported ≡ b → w .reported ≡ false
+    go : (b : Bool) → w .notes .reported ≡ b → w .notes .reported ≡ false
     go true e = absurd (n (l .reported e))
     go false e = e
 

@@ -36,7 +36,7 @@ pub record Step (s : Recording) (c : Command) (r : Reply) (next : Recording) : T
 
 module _ (window : List ℕ) (accepted : List Element) where
   abbrev pub world : Recording → Drive → Flight → World
-  world s d f = record { session = s; window = window; unaltered = true; drive = d; flight = f; accepted = accepted; reported = false }
+  world s d f = record { session = s; window = window; drive = d; flight = f; notes = record { accepted = accepted; unaltered = true; reported = false } }
 
   -- between two commands
   abbrev pub between : Recording → Drive → World
@@ -44,17 +44,15 @@ module _ (window : List ℕ) (accepted : List Element) where
 
   -- the close has reported done
   abbrev pub reported : Recording → Drive → World
-  reported s d = record { session = s; window = window; unaltered = true; drive = d; flight = none; accepted = accepted; reported = true }
+  reported s d = record { session = s; window = window; drive = d; flight = none; notes = record { accepted = accepted; unaltered = true; reported = true } }
 
   abbrev fetchedWorld : Drive → Bool → Fetching → World
   fetchedWorld d same x = record {
     session = x .session;
     window = window;
-    unaltered = same;
     drive = d;
     flight = flightAfter (x .said) none (x .frame);
-    accepted = accepted;
-    reported = reportedAfter (x .said) false;
+    notes = record { accepted = accepted; unaltered = same; reported = reportedAfter (x .said) false };
   }
 
 module _ (window : List ℕ) (accepted : List Element) (s : Recording) (d : Drive) where
@@ -72,7 +70,7 @@ module _ (window : List ℕ) (accepted : List Element) (s : Recording) (d : Driv
 
   -- the world after a block is stored
   abbrev storedWorld : List ℕ → Bool → Stored → World
-  storedWorld b same x = record { session = x .result .session; window = x .window; unaltered = same; drive = d; flight = none; accepted = acceptedAfter (x .result .number) accepted (block b); reported = false }
+  storedWorld b same x = record { session = x .result .session; window = x .window; drive = d; flight = none; notes = record { accepted = acceptedAfter (x .result .number) accepted (block b); unaltered = same; reported = false } }
 
 module _ (window : List ℕ) (accepted : List Element) (s : Recording) (d : Drive) {cs : List Call} {u : World} where
   -- what the drive does by itself
