@@ -3,13 +3,13 @@ use Prim.Native.Nat.{ℕ, _+_, _^_, _<_}
 use mathlib.Core.Path.{_≡_, refl, sym, ap, subst, _∙_}
 use mathlib.Core.List.{List}
 use native.Mathlib.Omega.{arith}
-use Rattle.geometry.specs.Said.{address}
+use Rattle.geometry.specs.Place.{address}
 use Rattle.geometry.specs.Cartridge.{lastOf}
 use Rattle.geometry.specs.declared.cartridge.Geometry.{Geometry}
 use Rattle.geometry.proofs.Last.{frames-of, last-small}
 use Rattle.frame.specs.declared.header.Header.{Header}
 use Rattle.header.specs.Read as checked
-use Rattle.header.specs.Read.{Checked, readHeader}
+use Rattle.header.specs.Read.{CheckedSaid, readHeader}
 use Rattle.header.specs.Valid.{headerOf}
 use Rattle.header.proofs.Facts.{valid-last}
 use Rattle.header.proofs.ReadLaws.{taken-valid, refused-number}
@@ -39,7 +39,7 @@ opened-as : (g : Geometry) (last : ℕ) (h : List ℕ) → lastOf g ≡ address 
 unfolding openOf
 opened-as g last h e = go (readHeader g h) refl
   where
-    go : (c : Checked) → readHeader g h ≡ c → openFor c .number ≡ 0 → Opens last h (openFor c)
+    go : (c : CheckedSaid) → readHeader g h ≡ c → openFor c .number ≡ 0 → Opens last h (openFor c)
     go (checked.valid fields) r z =
         let taken = taken-valid g h e r in
         record { opened = ap (λ (x : Header). record { session = fresh (toldOf x); number = 0 }) (taken .told); last-is = valid-last last h (taken .is-valid) }

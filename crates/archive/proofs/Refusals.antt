@@ -41,7 +41,7 @@ left-as-lent s recordings.close h = refl
 left-as-lent s (recordings.fetch window frame) h = frame-left s window frame (view.fetch-view s window frame) h
 left-as-lent s (recordings.reply r) h = refl
 
-fetch-leaves : (s : Recording) (window frame : List ℕ) (x : fetch.Said) → fetchOf s window frame .said ≡ x → 1 ≤ recordings.fetchNumber x → Leaves (recordings.fetchNumber x) s (fetchOf s window frame .session)
+fetch-leaves : (s : Recording) (window frame : List ℕ) (x : fetch.AnswerSaid) → fetchOf s window frame .said ≡ x → 1 ≤ recordings.fetchNumber x → Leaves (recordings.fetchNumber x) s (fetchOf s window frame .session)
 fetch-leaves s window frame (fetch.command _ _) e h = absurd (omega arith)
 fetch-leaves s window frame fetch.idle e h = absurd (omega arith)
 fetch-leaves s window frame fetch.done e h = absurd (omega arith)
@@ -63,12 +63,12 @@ refused-7 s (recordings.reply r) e = ap (λ (x : session.Result). x .number) (en
 
 -- ---- a reading
 
-read-fetch-leaves : (s : Reading) (x : reading.Said) → reading.fetchOf s .said ≡ x → 1 ≤ readings.fetchNumber x → read.Leaves (readings.fetchNumber x) s (reading.fetchOf s .session)
+read-fetch-leaves : (s : Reading) (x : reading.AnswerSaid) → reading.fetchOf s .said ≡ x → 1 ≤ readings.fetchNumber x → read.Leaves (readings.fetchNumber x) s (reading.fetchOf s .session)
 read-fetch-leaves s (reading.command _ _) e h = absurd (omega arith)
 read-fetch-leaves s reading.end e h = absurd (omega arith)
 read-fetch-leaves s (reading.refused n) e h = read.refused-fetch s n e
 
-read-reply-leaves : (s : Reading) (r : Reply) (frame : List ℕ) (x : reply.Said) → reply.replyOf s r frame .said ≡ x → 1 ≤ readings.replyNumber x → read.Leaves (readings.replyNumber x) s (reply.replyOf s r frame .session)
+read-reply-leaves : (s : Reading) (r : Reply) (frame : List ℕ) (x : reply.DeliverySaid) → reply.replyOf s r frame .said ≡ x → 1 ≤ readings.replyNumber x → read.Leaves (readings.replyNumber x) s (reply.replyOf s r frame .session)
 read-reply-leaves s r frame reply.nothing e h = absurd (omega arith)
 read-reply-leaves s r frame reply.block e h = absurd (omega arith)
 read-reply-leaves s r frame reply.filemark e h = absurd (omega arith)

@@ -49,7 +49,7 @@ module _ (s : Recording) (lent frame : List ℕ) (n a : ℕ) where
 pub sent-command : (w : recordings.World) (lent frame : List ℕ) (n a : ℕ) → recording.fetchOf (w .session) lent frame .said ≡ recording.command n a
     → recordings.afterFetch w lent frame .flight ≡ recordings.sent (recordings.afterFetch w lent frame .session .exchange .command) (recording.fetchOf (w .session) lent frame .frame)
 sent-command w lent frame n a e =
-    ap (λ (x : recording.Said). recordings.flightAfter x (w .flight) (recording.fetchOf (w .session) lent frame .frame)) e
+    ap (λ (x : recording.AnswerSaid). recordings.flightAfter x (w .flight) (recording.fetchOf (w .session) lent frame .frame)) e
     ∙ ap (λ (c : Command). recordings.sent c (recording.fetchOf (w .session) lent frame .frame)) (named (answered-command (w .session) lent frame n a e))
 
 -- ---- a reading
@@ -67,4 +67,4 @@ read-command s n a = go (reading-view.fetch-view s)
     go (reading-view.reads _ _ _ _) e = record { number-is = cc; address-is = cc }
 
 pub sent-read : (w : readings.World) (n a : ℕ) → reading.fetchOf (w .session) .said ≡ reading.command n a → readings.afterFetch w .flight ≡ readings.sent (readings.afterFetch w .session .exchange .command)
-sent-read w n a e = ap (λ (x : reading.Said). readings.flightAfter x (w .flight)) e ∙ ap (λ (c : Command). readings.sent c) (named (read-command (w .session) n a e))
+sent-read w n a e = ap (λ (x : reading.AnswerSaid). readings.flightAfter x (w .flight)) e ∙ ap (λ (c : Command). readings.sent c) (named (read-command (w .session) n a e))

@@ -6,7 +6,7 @@ use mathlib.Core.List.{List, [], _∷_}
 use mathlib.Core.Logic.{_⊎_}
 use mathlib.Core.Option.{Option, some}
 use lib.ListN.{length, take}
-use Rattle.geometry.specs.Said.{address}
+use Rattle.geometry.specs.Place.{address}
 use Rattle.geometry.specs.Cartridge.{lastOf, isUser, isHeader}
 use Rattle.geometry.specs.declared.cartridge.Geometry.{Geometry}
 use Rattle.header.specs.Valid.{headerOf}
@@ -52,7 +52,7 @@ abbrev pub replyBound : ℕ → ℕ
 replyBound last = last - 17
 
 -- a command of a reading's: READ or LOCATE
-abbrev pub GivesCommand : fetch.Said → Type 0
+abbrev pub GivesCommand : fetch.AnswerSaid → Type 0
 GivesCommand (fetch.command n a) = (n ≡ 0x08) ⊎ (n ≡ 0x2B)
 GivesCommand fetch.end = ⊥
 GivesCommand (fetch.refused n) = ⊥
@@ -65,14 +65,14 @@ pub record Faithful (last : ℕ) (accepted : List Element) (w : readings.World) 
   -- nothing is refused with 8 or more
   pub never-refused : w .notes .refused ≡ 0
   -- until the end each fetch with no reply awaited gives a command
-  pub goes-on : w .notes .end ≡ false → w .flight ≡ readings.none → GivesCommand (fetch.fetchOf (w .session) .said)
+  pub goes-on : w .notes .end ≡ false → w .flight ≡ readings.no-command → GivesCommand (fetch.fetchOf (w .session) .said)
   -- and the drive's answer, once given, is taken in with a lent frame of 33,280 bytes
   pub taken : (r : Reply) (given : Option (List ℕ)) (lent : List ℕ) → w .flight ≡ readings.answered r given → readings.LentWith given lent
       → length lent ≡ 33280 → readings.refusal (w .session) (readings.replying r lent) ≡ 0
   -- as every frame is that the drive gave
   pub full : (r : Reply) (frame : List ℕ) → w .flight ≡ readings.answered r (some frame) → length frame ≡ 33280
   -- no second command before the reply
-  pub alone : (w .flight ≡ readings.none → ⊥) → readings.refusal (w .session) readings.fetching ≡ 7
+  pub alone : (w .flight ≡ readings.no-command → ⊥) → readings.refusal (w .session) readings.fetching ≡ 7
   -- the replies taken in are bounded, busy ones aside
   pub bounded : w .notes .replies ≤ replyBound last
   -- at the end all of them are delivered, and a fetch says so again
@@ -89,7 +89,7 @@ pub record Readable (g : Geometry) (last : ℕ) (t : Tape) (accepted : List Elem
 
 -- only 5 to 9, 2,990 to 2,994 and user frames
 pub data Within (last : ℕ) : List ℕ → Type 0 where
-  none : Within last []
+  nothing-written : Within last []
   one-more : (a : ℕ) (rest : List ℕ) → (isHeader a || isUser last a) ≡ true → Within last rest → Within last (a ∷ rest)
 
 -- what holds after every list of a recording's calls
@@ -97,7 +97,7 @@ pub record Promised (g : Geometry) (last : ℕ) (t : Tape) (o : Opening) (w : re
   -- under the conduct alone, closed or not
   pub written : Within last (w .drive .written)
   -- no second command before the reply
-  pub alone : (lent frame : List ℕ) → (w .flight ≡ recordings.none → ⊥) → recordings.refusal (w .session) (recordings.fetch lent frame) ≡ 7
+  pub alone : (lent frame : List ℕ) → (w .flight ≡ recordings.no-command → ⊥) → recordings.refusal (w .session) (recordings.fetch lent frame) ≡ 7
   -- where the session was opened as it should be, the window was lent back unaltered, and the close reported done
   pub readable : OnNewest last t o → NoneBears last t (newPass o) → w .notes .unaltered ≡ true → w .notes .reported ≡ true
       → Readable g last (w .drive .tape) (w .notes .accepted)

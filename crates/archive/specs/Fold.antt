@@ -7,12 +7,12 @@ use mathlib.Core.Logic.{_⊎_}
 use mathlib.Core.Option.{Option, none, some}
 use lib.ListN.{take}
 use Rattle.geometry.specs.Pick.{pick}
-use Rattle.geometry.specs.Said.{address}
+use Rattle.geometry.specs.Place.{address}
 use Rattle.geometry.specs.Cartridge.{lastOf, isUser}
 use Rattle.geometry.specs.declared.cartridge.Geometry.{Geometry}
 use Rattle.header.specs.Valid.{headerOf}
 use Rattle.judgement.specs.Judgement as judgement
-use Rattle.judgement.specs.Judgement.{Judged, judgeFrame}
+use Rattle.judgement.specs.Judgement.{JudgementSaid, judgeFrame}
 use Rattle.judgement.specs.declared.told.Told.{Told}
 use Rattle.reading.specs.Open.{toldOf, openOf}
 use Rattle.archive.specs.Tape.{Tape, Cartridge}
@@ -29,7 +29,7 @@ pub data Reader : Type 0 where
   stopped : ℕ → Reader
 
 -- a frame, by its judgement
-abbrev pub advance : Judged → List ℕ → ℕ → List Element → Reader
+abbrev pub advance : JudgementSaid → List ℕ → ℕ → List Element → Reader
 advance judgement.skipped f n got = going n got
 advance (judgement.refused m) f n got = stopped m
 advance judgement.block f n got = going (n + 1) (got ++ block (take 32768 f) ∷ [])

@@ -12,7 +12,7 @@ use Rattle.drive.specs.Command.{commandBy}
 use Rattle.drive.specs.declared.command.Command.{Command}
 use Rattle.drive.specs.declared.reply.Reply.{Reply}
 use Rattle.recording.specs.Accept.{filemarkOf, blockOf, closeOf}
-use Rattle.recording.specs.Fetch.{Said, command, idle, done, refused, fetchOf}
+use Rattle.recording.specs.Fetch.{AnswerSaid, command, idle, done, refused, fetchOf}
 use Rattle.recording.specs.Reply.{replyOf}
 use Rattle.recording.specs.declared.session.Recording.{Recording}
 
@@ -23,7 +23,7 @@ pub data Element : Type 0 where
 
 -- the command that the last fetch gave: none is in flight, it is with the drive with its frame, or the drive has answered it
 pub data Flight : Type 0 where
-  none : Flight
+  no-command : Flight
   sent : Command → List ℕ → Flight
   answered : Reply → Flight
 
@@ -52,7 +52,7 @@ pub data Call : Type 0 where
   reply : Reply → Call
 
 -- the refusal that a call meets, 0 for none
-abbrev pub fetchNumber : Said → ℕ
+abbrev pub fetchNumber : AnswerSaid → ℕ
 fetchNumber (command c a) = 0
 fetchNumber idle = 0
 fetchNumber done = 0
@@ -121,14 +121,14 @@ afterFilemark w = record {
 }
 
 -- the command that a fetch answers goes to the drive, with the frame as the fetch left it
-abbrev pub flightAfter : Said → Flight → List ℕ → Flight
+abbrev pub flightAfter : AnswerSaid → Flight → List ℕ → Flight
 flightAfter (command n a) f frame = sent (commandBy n a) frame
 flightAfter idle f frame = f
 flightAfter done f frame = f
 flightAfter (refused n) f frame = f
 
 -- the close reports done when a fetch answers done
-abbrev pub reportedAfter : Said → Bool → Bool
+abbrev pub reportedAfter : AnswerSaid → Bool → Bool
 reportedAfter (command n a) b = b
 reportedAfter idle b = b
 reportedAfter done b = true
@@ -148,7 +148,7 @@ afterReply w r = record {
   session = replyOf (w .session) r .session;
   window = w .window;
   drive = w .drive;
-  flight = none;
+  flight = no-command;
   notes = w .notes;
 }
 
@@ -182,6 +182,6 @@ started s window d = record {
   session = s;
   window = window;
   drive = d;
-  flight = none;
+  flight = no-command;
   notes = record { accepted = []; unaltered = true; reported = false };
 }

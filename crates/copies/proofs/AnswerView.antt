@@ -8,10 +8,10 @@ use lib.Dec.{eqb, ltb, leb}
 use borrow.Author.Tests.{ltb-true, ltb-false, leb-true, leb-false, eqb-true, eqb-false}
 use Rattle.geometry.proofs.PickLaws.{pick-by}
 use Rattle.copies.specs.declared.state.Copies.{Copies}
-use Rattle.copies.specs.Copies.{Said, more, complete, refused, confirmedOf, nextGroup, onwardOf, countedOf, failedAt, firstAddress, oldestAddress, nextAddress, failedOf}
+use Rattle.copies.specs.Copies.{ProgressSaid, more, complete, refused, confirmedOf, nextGroup, onwardOf, countedOf, failedAt, firstAddress, oldestAddress, nextAddress, failedOf}
 use Rattle.geometry.proofs.TestLaws.{or-true, or-false}
 
-pub data OnwardView (c : Copies) : Said → Type 0 where
+pub data OnwardView (c : Copies) : ProgressSaid → Type 0 where
   unfinished : (c .copy < 5) ⊎ (0 < c .outstanding) → OnwardView c (more c)
   turning : 5 ≤ c .copy → c .outstanding ≡ 0 → c .group ≡ 0 → OnwardView c (more (nextGroup c))
   unwritten : 5 ≤ c .copy → c .outstanding ≡ 0 → 0 < c .group → c .confirmed ≡ 0 → OnwardView c (refused 12)
@@ -32,7 +32,7 @@ onward-view c =
     (λ some. through filled empty later (omega (arith, eqb-false (c .confirmed) 0 some)))))
 
 -- READ POSITION answered good, with f frames still buffered
-pub data CountedView (c : Copies) (f : ℕ) : Said → Type 0 where
+pub data CountedView (c : Copies) (f : ℕ) : ProgressSaid → Type 0 where
   tooMany : c .outstanding < f → CountedView c f (refused 8)
   counted : f ≤ c .outstanding → CountedView c f (onwardOf (confirmedOf c (c .outstanding - f)))
 
@@ -42,7 +42,7 @@ counted-view c f =
     pick-by (CountedView c f) (ltb (c .outstanding) f) (λ t. tooMany (ltb-true _ _ t)) (λ e. counted (ltb-false _ _ e))
 
 -- a write error at p
-pub data FailedView (c : Copies) (p : ℕ) : Said → Type 0 where
+pub data FailedView (c : Copies) (p : ℕ) : ProgressSaid → Type 0 where
   before : p < oldestAddress c → FailedView c p (refused 8)
   behind : nextAddress c ≤ p → FailedView c p (refused 8)
   failed : oldestAddress c ≤ p → p < nextAddress c → FailedView c p (onwardOf (failedAt c (p - oldestAddress c) (p - firstAddress c)))

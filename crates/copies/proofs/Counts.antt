@@ -5,7 +5,7 @@ use native.Mathlib.Omega.{arith}
 use Rattle.frame.specs.declared.header.Header.{Header}
 use Rattle.drive.specs.Command.{write}
 use Rattle.copies.specs.declared.state.Copies.{Copies}
-use Rattle.copies.specs.Copies.{startOf, commandOf, Said, more, complete, refused, locatedOf, takenOf, confirmedOf, onwardOf, failedAt, firstAddress, oldestAddress, nextAddress}
+use Rattle.copies.specs.Copies.{startOf, commandOf, ProgressSaid, more, complete, refused, locatedOf, takenOf, confirmedOf, onwardOf, failedAt, firstAddress, oldestAddress, nextAddress}
 use Rattle.copies.proofs.CommandView.{write-due}
 use Rattle.copies.proofs.AnswerView.{OnwardView, unfinished, turning, unwritten, through, onward-view}
 
@@ -19,7 +19,7 @@ abbrev pub CountsOf : Copies → Type 0
 CountsOf c = Counts (c .group) (c .copy) (c .outstanding) (c .confirmed)
 
 -- of the copies that go on
-abbrev pub CountsSaid : Said → Type 0
+abbrev pub CountsSaid : ProgressSaid → Type 0
 CountsSaid (more c) = CountsOf c
 CountsSaid complete = Unit {0}
 CountsSaid (refused r) = Unit {0}
@@ -51,7 +51,7 @@ module _ (c : Copies) (g : CountsOf c) where
   failed-counts p low high =
       record { groups = omega arith; copies = omega arith; held = omega arith; written = omega arith }
 
-  onward-in-view : (s : Said) → OnwardView c s → CountsSaid s
+  onward-in-view : (s : ProgressSaid) → OnwardView c s → CountsSaid s
   onward-in-view _ (unfinished w) = g
   onward-in-view _ (turning filled empty first) =
       record { groups = omega arith; copies = omega arith; held = omega arith; written = omega arith }

@@ -7,7 +7,7 @@ use native.Mathlib.Omega.{arith}
 use Rattle.frame.specs.declared.header.Header.{Header}
 use Rattle.drive.specs.Command.{Sent, write, locate}
 use Rattle.copies.specs.declared.state.Copies.{Copies}
-use Rattle.copies.specs.Copies.{startOf, commandOf, Said, more, complete, refused, onwardOf, nextAddress}
+use Rattle.copies.specs.Copies.{startOf, commandOf, ProgressSaid, more, complete, refused, onwardOf, nextAddress}
 use Rattle.copies.proofs.HeaderPlaces.{header-from-first}
 use Rattle.copies.proofs.CommandView.{CommandView, locating, writing, asking, command-view, write-due}
 use Rattle.copies.proofs.AnswerView.{OnwardView, unfinished, turning, unwritten, through, onward-view}
@@ -19,7 +19,7 @@ pub record Placed (locate : Bool) (copy outstanding : ℕ) : Type 0 where
 abbrev pub PlacedOf : Copies → Type 0
 PlacedOf c = Placed (c .locate) (c .copy) (c .outstanding)
 
-abbrev pub PlacedSaid : Said → Type 0
+abbrev pub PlacedSaid : ProgressSaid → Type 0
 PlacedSaid (more c) = PlacedOf c
 PlacedSaid complete = Unit {0}
 PlacedSaid (refused r) = Unit {0}
@@ -32,7 +32,7 @@ unlocated : {locate : Bool} (copy outstanding : ℕ) → locate ≡ false → Pl
 unlocated copy outstanding f =
     record { left = λ t. absurd (false≢true (sym f ∙ t)); empty = λ t. absurd (false≢true (sym f ∙ t)) }
 
-onward-in-view : (c : Copies) (s : Said) → (c .locate ≡ true → c .outstanding ≡ 0) → OnwardView c s → PlacedSaid s
+onward-in-view : (c : Copies) (s : ProgressSaid) → (c .locate ≡ true → c .outstanding ≡ 0) → OnwardView c s → PlacedSaid s
 onward-in-view c _ empty (unfinished w) =
     record { left = λ t. let z = empty t in ⊎-elim (λ h. h) (λ h. omega arith) w; empty = empty }
 onward-in-view c _ empty (turning filled none first) = record { left = λ _. omega arith; empty = λ _. none }

@@ -27,12 +27,12 @@ commandOf depth c =
     (pick (ltb (c .copy) 5 && ltb (c .outstanding) depth) (write (headerAt c)) readPosition)
 
 -- how far the copies are after a reply
-pub data Said : Type 0 where
-  more : Copies → Said
-  complete : Said
-  refused : ℕ → Said
+pub data ProgressSaid : Type 0 where
+  more : Copies → ProgressSaid
+  complete : ProgressSaid
+  refused : ℕ → ProgressSaid
 
-abbrev pub progressSaid : Progress → Said
+abbrev pub progressSaid : Progress → ProgressSaid
 progressSaid (More c) = more c
 progressSaid Complete = complete
 progressSaid (Refused r) = refused (refusalNumber r)
@@ -53,14 +53,14 @@ abbrev pub nextGroup : Copies → Copies
 nextGroup c = record { header = c .header; group = 1; copy = 0; outstanding = c .outstanding; confirmed = c .confirmed; locate = true }
 
 -- where no copy of the group is left and none is outstanding, the next group follows; no good copy of ten: refusal 12
-unfoldable pub onwardOf : Copies → Said
+unfoldable pub onwardOf : Copies → ProgressSaid
 onwardOf c =
     pick (ltb (c .copy) 5 || ltb 0 (c .outstanding)) (more c)
     (pick (eqb (c .group) 0) (more (nextGroup c))
     (pick (eqb (c .confirmed) 0) (refused 12) complete))
 
 -- READ POSITION answered good, with f frames still buffered
-unfoldable pub countedOf : Copies → ℕ → Said
+unfoldable pub countedOf : Copies → ℕ → ProgressSaid
 countedOf c f = pick (ltb (c .outstanding) f) (refused 8) (onwardOf (confirmedOf c (c .outstanding - f)))
 
 -- the copy of index i failed: it is spoiled, the n before it are on tape, and a LOCATE of the address behind it follows
@@ -78,7 +78,7 @@ abbrev pub nextAddress : Copies → ℕ
 nextAddress c = firstAddress c + c .copy
 
 -- a write error at p, which must be outstanding
-unfoldable pub failedOf : Copies → ℕ → Said
+unfoldable pub failedOf : Copies → ℕ → ProgressSaid
 failedOf c p =
     pick (ltb p (oldestAddress c)) (refused 8)
     (pick (leb (nextAddress c) p) (refused 8)

@@ -3,7 +3,7 @@ use Prim.Native.Nat.{ℕ, _+_, _-_, _≤_, _<_}
 use borrow.Author.Tests.{ltb-true, ltb-false, leb-true, leb-false}
 use lib.Dec.{ltb, leb}
 use Rattle.geometry.specs.Cartridge.{pastReserved}
-use Rattle.geometry.specs.Said as said
+use Rattle.geometry.specs.Place as place
 use Rattle.geometry.specs.WriteError.{stepOf}
 use Rattle.geometry.proofs.PickLaws.{pick-by}
 use Rattle.elements.specs.declared.state.Elements.{Elements}
@@ -36,6 +36,6 @@ unfolding failedOf
 failed-view e p skip =
     pick-by (FailedView e p skip) (ltb p (baseOf e)) (λ t. tooLow (ltb-true _ _ t))
     (λ f. pick-by (FailedView e p skip) (leb (e .next .0) p) (λ t. tooHigh (leb-true _ _ t))
-    (λ g. pick-by (λ (s : said.Said). FailedView e p skip (failedTo e p s)) (ltb (targetFor p skip) (e .limit .0))
+    (λ g. pick-by (λ (s : place.PlaceSaid). FailedView e p skip (failedTo e p s)) (ltb (targetFor p skip) (e .limit .0))
     (λ t. failed (ltb-false _ _ f) (leb-false _ _ g) (ltb-true _ _ t))
     (λ t. full (ltb-false _ _ f) (leb-false _ _ g) (ltb-false _ _ t))))

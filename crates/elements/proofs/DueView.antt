@@ -9,14 +9,14 @@ use lib.Dec.{eqb, ltb, leb}
 use Rattle.geometry.proofs.PickLaws.{pick-by}
 use Rattle.drive.specs.Command.{write, locate, readPosition}
 use Rattle.elements.specs.declared.state.Elements.{Elements}
-use Rattle.elements.specs.Due.{Said, send, idle, refused, aboveEnd, mustConfirm, dueOf}
+use Rattle.elements.specs.Due.{DueSaid, send, idle, refused, aboveEnd, mustConfirm, dueOf}
 use Rattle.geometry.proofs.TestLaws.{or-true, or-false, either-left, either-right, and-true, not-both}
 
 -- what rule 3 waits for
 abbrev pub Waits : ℕ → Elements → Type 0
 Waits depth e = (depth ≤ e .outstanding) ⊎ ((0 < e .outstanding) × ((e .next .0 ≡ 2990) ⊎ (e .limit .0 ≤ e .next .0)))
 
-pub data DueView (depth : ℕ) (e : Elements) : Said → Type 0 where
+pub data DueView (depth : ℕ) (e : Elements) : DueSaid → Type 0 where
   -- 1
   relocating : e .relocate ≡ true → DueView depth e (send (locate (e .target .0)))
   -- 2

@@ -4,7 +4,7 @@ use mathlib.Core.Bool.{true, false}
 use lib.Dec.{ltb, leb}
 use Rattle.geometry.specs.Pick.{pick}
 use Rattle.geometry.specs.Refused.{verdictNumber}
-use Rattle.geometry.specs.Said as said
+use Rattle.geometry.specs.Place as place
 use Rattle.geometry.specs.WriteError.{targetOf}
 use Rattle.geometry.specs.declared.address.Address.{Address}
 use Rattle.elements.specs.declared.state.Elements.{Elements}
@@ -57,9 +57,9 @@ unfoldable pub countedOf : Elements → ℕ → Step
 countedOf e f = pick (ltb (e .outstanding) f) (refusing e 8) (kept (confirmedOf e (e .outstanding - f)))
 
 -- a write error at p: frames before p are confirmed, from p on they are due again, at the target; no room there: refusal 9
-abbrev pub failedTo : Elements → ℕ → said.Said → Step
-failedTo e p (said.address t) = kept (relocatedOf (confirmedOf e (p - baseOf e)) (at t))
-failedTo e p (said.refused n) = refusing e n
+abbrev pub failedTo : Elements → ℕ → place.PlaceSaid → Step
+failedTo e p (place.address t) = kept (relocatedOf (confirmedOf e (p - baseOf e)) (at t))
+failedTo e p (place.refused n) = refusing e n
 
 -- p must be outstanding
 unfoldable pub failedOf : Elements → ℕ → ℕ → Step

@@ -9,12 +9,12 @@ use Rattle.elements.specs.declared.state.Elements.{Elements}
 use Rattle.elements.specs.declared.due.Due.{Due}
 use Rattle.elements.specs.declared.due.Due.the-variants as D
 
-pub data Said : Type 0 where
-  send : Sent → Said
-  idle : Said
-  refused : ℕ → Said
+pub data DueSaid : Type 0 where
+  send : Sent → DueSaid
+  idle : DueSaid
+  refused : ℕ → DueSaid
 
-abbrev pub dueSaid : Due → Said
+abbrev pub dueSaid : Due → DueSaid
 dueSaid (D.Send c) = send (commandSaid c)
 dueSaid D.Idle = idle
 dueSaid (D.Refused r) = refused (refusalNumber r)
@@ -27,7 +27,7 @@ aboveEnd e = leb (e .limit .0) (e .next .0)
 abbrev pub mustConfirm : ℕ → Elements → Bool
 mustConfirm depth e = leb depth (e .outstanding) || (ltb 0 (e .outstanding) && (eqb (e .next .0) 2990 || aboveEnd e))
 
-unfoldable pub dueOf : ℕ → Elements → Said
+unfoldable pub dueOf : ℕ → Elements → DueSaid
 dueOf depth e =
     -- 1: a write error is noted: LOCATE its target
     pick (e .relocate) (send (locate (e .target .0)))

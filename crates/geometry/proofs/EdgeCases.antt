@@ -5,17 +5,17 @@ use Prim.Native.Nat.{ℕ, _<_}
 use lib.Dec.{T, eqb, eqb→eq}
 use lib.ListN.{length, getD}
 use Rattle.geometry.specs.declared.cartridge.LoadPoint.the-variants.{Beginning}
-use Rattle.geometry.specs.Said.{Said, address, refused}
+use Rattle.geometry.specs.Place.{PlaceSaid, address, refused}
 use Rattle.geometry.specs.Edges.{lastFor, Case, answer, cases}
 use Rattle.geometry.proofs.Table.{at-index}
 
-same : Said → Said → Bool
+same : PlaceSaid → PlaceSaid → Bool
 same (address a) (address b) = eqb a b
 same (refused a) (refused b) = eqb a b
 same (address a) (refused b) = false
 same (refused a) (address b) = false
 
-same-is : (x y : Said) → T (same x y) → x ≡ y
+same-is : (x y : PlaceSaid) → T (same x y) → x ≡ y
 unfolding same
 same-is (address a) (address b) t = ap address (eqb→eq a b t)
 same-is (refused a) (refused b) t = ap refused (eqb→eq a b t)

@@ -5,7 +5,7 @@ use native.Mathlib.Nat.{le-refl, mul-le-mul}
 use native.Mathlib.Omega.{arith}
 use borrow.Author.Tests.{ltb-false}
 use lib.Dec.{ltb}
-use Rattle.geometry.specs.Said.{Said, address, refused}
+use Rattle.geometry.specs.Place.{PlaceSaid, address, refused}
 use Rattle.geometry.specs.Cartridge.{trackFrames, framesOf, lastOf}
 use Rattle.geometry.specs.declared.cartridge.Geometry.{Geometry}
 use Rattle.geometry.specs.declared.cartridge.LoadPoint.{LoadPoint}
@@ -17,15 +17,15 @@ pub record Frames (g : Geometry) (last : ℕ) : Type 0 where
   pub large : 3000 ≤ last
   pub most : last + 1 ≡ framesOf g
 
-pub address-same : {a b : ℕ} → _≡_ {A = Said} (address a) (address b) → a ≡ b
+pub address-same : {a b : ℕ} → _≡_ {A = PlaceSaid} (address a) (address b) → a ≡ b
 address-same e = cc
 
-pub refused-address : {X : Type 0} {a b : ℕ} → _≡_ {A = Said} (refused a) (address b) → X
+pub refused-address : {X : Type 0} {a b : ℕ} → _≡_ {A = PlaceSaid} (refused a) (address b) → X
 refused-address e = never (cc)
 
 pub frames-of : (g : Geometry) (last : ℕ) → lastOf g ≡ address last → Frames g last
 frames-of g last =
-    pick-by (λ (s : Said). s ≡ address last → Frames g last) (ltb (framesOf g) 3001) (λ _ e. refused-address e)
+    pick-by (λ (s : PlaceSaid). s ≡ address last → Frames g last) (ltb (framesOf g) 3001) (λ _ e. refused-address e)
     (λ few e. let n = ltb-false (framesOf g) 3001 few in let same : framesOf g - 1 ≡ last = address-same e in record { large = omega arith; most = omega arith })
 
 track-low : (l : LoadPoint) (n : ℕ) → trackFrames l n ≤ n

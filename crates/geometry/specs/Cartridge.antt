@@ -6,7 +6,7 @@ use Rattle.geometry.specs.declared.cartridge.Geometry.{Geometry}
 use Rattle.geometry.specs.declared.cartridge.LoadPoint.{LoadPoint}
 use Rattle.geometry.specs.declared.cartridge.LoadPoint.the-variants.{Beginning, Centre}
 use Rattle.geometry.specs.Pick.{pick}
-use Rattle.geometry.specs.Said.{Said, address, refused}
+use Rattle.geometry.specs.Place.{PlaceSaid, address, refused}
 
 -- where the header groups and the user frames behind each of them start
 abbrev pub firstGroup : ℕ
@@ -36,7 +36,7 @@ abbrev pub framesOf : Geometry → ℕ
 framesOf g = trackFrames (g .load) (g .segtrk) * g .trks
 
 -- LAST; refusal 2 under 3,001 frames
-abbrev pub lastOf : Geometry → Said
+abbrev pub lastOf : Geometry → PlaceSaid
 lastOf g = pick (ltb (framesOf g) leastFrames) (refused 2) (address (framesOf g - 1))
 
 -- user frames: 10 to 2,989 and 3,000 to LAST

@@ -3,7 +3,7 @@ use Prim.Native.Nat.{ℕ, _+_}
 use mathlib.Core.List.{List, [], _∷_}
 use Rattle.geometry.specs.declared.cartridge.LoadPoint.{LoadPoint}
 use Rattle.geometry.specs.declared.cartridge.LoadPoint.the-variants.{Beginning, Centre}
-use Rattle.geometry.specs.Said.{Said, address, refused}
+use Rattle.geometry.specs.Place.{PlaceSaid, address, refused}
 use Rattle.geometry.specs.Cartridge.{lastOf}
 use Rattle.geometry.specs.WriteError.{targetOf}
 
@@ -16,13 +16,13 @@ pub data Question : Type 0 where
 
 pub record Case : Type 0 where
   pub question : Question
-  pub expected : Said
+  pub expected : PlaceSaid
 
-abbrev pub answer : Question → Said
+abbrev pub answer : Question → PlaceSaid
 answer (lastFor segtrk trks load) = lastOf (record { segtrk = segtrk; trks = trks; load = load })
 answer (targetFor p skip end) = targetOf p skip (end + 1)
 
-abbrev case : Question → Said → Case
+abbrev case : Question → PlaceSaid → Case
 case q e = record { question = q; expected = e }
 
 abbrev pub cases : List Case

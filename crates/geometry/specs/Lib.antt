@@ -1,6 +1,6 @@
 pub mod Pick
 pub mod Refused
-pub mod Said
+pub mod Place
 pub mod Cartridge
 pub mod WriteError
 pub mod Edges

@@ -2,7 +2,7 @@
 use Prim.Native.Nat.{ℕ, _+_}
 use lib.Dec.{eqb, ltb}
 use Rattle.geometry.specs.Pick.{pick}
-use Rattle.geometry.specs.Said.{Said, address, refused}
+use Rattle.geometry.specs.Place.{PlaceSaid, address, refused}
 use Rattle.geometry.specs.Cartridge.{pastReserved}
 
 -- skip 0 counts as 1
@@ -10,6 +10,6 @@ abbrev pub stepOf : ℕ → ℕ
 stepOf skip = pick (eqb skip 0) 1 skip
 
 -- p + skip, moved out of 2,990 to 2,999; above END, that is from its limit on: refusal 9
-abbrev pub targetOf : ℕ → ℕ → ℕ → Said
+abbrev pub targetOf : ℕ → ℕ → ℕ → PlaceSaid
 targetOf p skip limit =
     pick (ltb (pastReserved (p + stepOf skip)) limit) (address (pastReserved (p + stepOf skip))) (refused 9)

@@ -1,6 +1,6 @@
 // The frames of a cartridge: how many, which hold user data, and where the headers stand.
 ghost use mathlib.Core.Path.{_≡_};
-ghost use Rattle.geometry.specs.Said.{placeSaid};
+ghost use Rattle.geometry.specs.Place.{placeSaid};
 ghost use Rattle.geometry.specs.Cartridge.{trackFrames, framesOf, lastOf, isUser, headerAddress};
 use crate::address::Address;
 use crate::address::Place;

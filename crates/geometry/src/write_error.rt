@@ -1,6 +1,6 @@
 // The target of a write error: where writing goes on.
 ghost use mathlib.Core.Path.{_≡_};
-ghost use Rattle.geometry.specs.Said.{placeSaid};
+ghost use Rattle.geometry.specs.Place.{placeSaid};
 ghost use Rattle.geometry.specs.Cartridge.{pastReserved};
 ghost use Rattle.geometry.specs.WriteError.{stepOf, targetOf};
 use crate::address::Address;

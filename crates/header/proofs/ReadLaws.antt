@@ -7,15 +7,15 @@ use native.Mathlib.Omega.{arith}
 use borrow.Author.Tests.{eqb-true, eq-eqb}
 use lib.Dec.{eqb}
 use lib.ListN.{length}
-use Rattle.geometry.specs.Said as said
-use Rattle.geometry.specs.Said.{Said}
+use Rattle.geometry.specs.Place as place
+use Rattle.geometry.specs.Place.{PlaceSaid}
 use Rattle.geometry.specs.Cartridge.{lastOf}
 use Rattle.geometry.specs.declared.cartridge.Geometry.{Geometry}
 use Rattle.geometry.proofs.PickLaws.{pick-t, pick-by}
 use Rattle.geometry.proofs.Impossible.{never}
 use Rattle.frame.specs.declared.header.Header.{Header}
 use Rattle.header.specs.Valid.{validHeader, headerOf}
-use Rattle.header.specs.Read.{Checked, valid, refused, headerOn, headerFor, readHeader}
+use Rattle.header.specs.Read.{CheckedSaid, valid, refused, headerOn, headerFor, readHeader}
 
 -- what is known of a header that is taken
 pub record Taken (last : ℕ) (h : List ℕ) (fields : Header) : Type 0 where
@@ -26,31 +26,31 @@ pub record Taken (last : ℕ) (h : List ℕ) (fields : Header) : Type 0 where
 module _ (g : Geometry) (h : List ℕ) where
   pub taken-long : {fields : Header} → readHeader g h ≡ valid fields → length h ≡ 33280
   unfolding readHeader
-  taken-long {fields} = pick-by (λ (c : Checked). c ≡ valid fields → length h ≡ 33280) (eqb (length h) 33280) (λ e _. eqb-true _ _ e) (λ _ e. never (cc))
+  taken-long {fields} = pick-by (λ (c : CheckedSaid). c ≡ valid fields → length h ≡ 33280) (eqb (length h) 33280) (λ e _. eqb-true _ _ e) (λ _ e. never (cc))
 
-  pub taken-valid : {fields : Header} {last : ℕ} → lastOf g ≡ said.address last → readHeader g h ≡ valid fields → Taken last h fields
+  pub taken-valid : {fields : Header} {last : ℕ} → lastOf g ≡ place.address last → readHeader g h ≡ valid fields → Taken last h fields
   unfolding readHeader headerOn
   taken-valid {fields} {last} e =
-      pick-by (λ (c : Checked). c ≡ valid fields → Taken last h fields) (eqb (length h) 33280)
+      pick-by (λ (c : CheckedSaid). c ≡ valid fields → Taken last h fields) (eqb (length h) 33280)
       (λ long. on (lastOf g) e (eqb-true _ _ long))
       (λ _ e. never (cc))
     where
-      on : (s : Said) → s ≡ said.address last → length h ≡ 33280 → headerFor s h ≡ valid fields → Taken last h fields
-      on (said.refused n) q long = never (cc)
-      on (said.address a) q long =
+      on : (s : PlaceSaid) → s ≡ place.address last → length h ≡ 33280 → headerFor s h ≡ valid fields → Taken last h fields
+      on (place.refused n) q long = never (cc)
+      on (place.address a) q long =
           let same : a ≡ last = cc in
-          pick-by (λ (c : Checked). c ≡ valid fields → Taken last h fields) (validHeader a h)
+          pick-by (λ (c : CheckedSaid). c ≡ valid fields → Taken last h fields) (validHeader a h)
           (λ v x. record { long = long; is-valid = ap (λ (n : ℕ). validHeader n h) (sym same) ∙ v; told = cc })
           (λ _ x. never (cc))
 
-  pub valid-taken : {last : ℕ} → lastOf g ≡ said.address last → length h ≡ 33280 → validHeader last h ≡ true → readHeader g h ≡ valid (headerOf h)
+  pub valid-taken : {last : ℕ} → lastOf g ≡ place.address last → length h ≡ 33280 → validHeader last h ≡ true → readHeader g h ≡ valid (headerOf h)
   unfolding readHeader headerOn
-  valid-taken e long v = pick-t _ (eq-eqb _ _ long) ∙ ap (λ (s : Said). headerFor s h) e ∙ pick-t _ v
+  valid-taken e long v = pick-t _ (eq-eqb _ _ long) ∙ ap (λ (s : PlaceSaid). headerFor s h) e ∙ pick-t _ v
 
   -- a refusal has a number
-  pub refused-number : {n last : ℕ} → lastOf g ≡ said.address last → readHeader g h ≡ refused n → 1 ≤ n
+  pub refused-number : {n last : ℕ} → lastOf g ≡ place.address last → readHeader g h ≡ refused n → 1 ≤ n
   unfolding readHeader headerOn
   refused-number {n} {last} e =
-      pick-by (λ (c : Checked). c ≡ refused n → 1 ≤ n) (eqb (length h) 33280)
-      (λ _ q. pick-by (λ (c : Checked). c ≡ refused n → 1 ≤ n) (validHeader last h) (λ _ x. never (cc)) (λ _ x. let number : 3 ≡ n = cc in omega arith) (sym (ap (λ (s : Said). headerFor s h) e) ∙ q))
+      pick-by (λ (c : CheckedSaid). c ≡ refused n → 1 ≤ n) (eqb (length h) 33280)
+      (λ _ q. pick-by (λ (c : CheckedSaid). c ≡ refused n → 1 ≤ n) (validHeader last h) (λ _ x. never (cc)) (λ _ x. let number : 3 ≡ n = cc in omega arith) (sym (ap (λ (s : PlaceSaid). headerFor s h) e) ∙ q))
       (λ _ q. let number : 1 ≡ n = cc in omega arith)

@@ -12,7 +12,7 @@ use Rattle.buffer.specs.Bytes.{agree}
 use Rattle.header.specs.declared.choice.Choice.{Choice}
 use Rattle.header.specs.declared.choice.Choice.the-variants.{First, Second, Refused}
 use Rattle.header.specs.Valid.{updateOf}
-use Rattle.header.specs.Read.{Checked, valid, refused, readHeader}
+use Rattle.header.specs.Read.{CheckedSaid, valid, refused, readHeader}
 
 pub data Chosen : Type 0 where
   first : Chosen
@@ -40,7 +40,7 @@ givesWay n other = pick (eqb n 3) other (none n)
 abbrev pub lowerOf : ℕ → ℕ → ℕ
 lowerOf m n = pick (ltb n m) n m
 
-abbrev pub choiceBy : Checked → Checked → List ℕ → List ℕ → Chosen
+abbrev pub choiceBy : CheckedSaid → CheckedSaid → List ℕ → List ℕ → Chosen
 choiceBy (valid h) (valid k) a b = newerOf a b
 choiceBy (valid h) (refused n) a b = givesWay n first
 choiceBy (refused m) (valid k) a b = givesWay m second

@@ -5,8 +5,8 @@ use lib.Dec.{eqb}
 use lib.ListN.{length}
 use Rattle.geometry.specs.Pick.{pick}
 use Rattle.geometry.specs.Refused.{refusalNumber}
-use Rattle.geometry.specs.Said as said
-use Rattle.geometry.specs.Said.{Said}
+use Rattle.geometry.specs.Place as place
+use Rattle.geometry.specs.Place.{PlaceSaid}
 use Rattle.geometry.specs.Cartridge.{lastOf}
 use Rattle.geometry.specs.declared.cartridge.Geometry.{Geometry}
 use Rattle.frame.specs.declared.header.Header.{Header}
@@ -15,23 +15,23 @@ use Rattle.header.specs.declared.read.Checked.the-variants as C
 use Rattle.header.specs.Valid.{validHeader, headerOf}
 
 -- its fields, or the refusal's number
-pub data Checked : Type 0 where
-  valid : Header → Checked
-  refused : ℕ → Checked
+pub data CheckedSaid : Type 0 where
+  valid : Header → CheckedSaid
+  refused : ℕ → CheckedSaid
 
-abbrev pub checkedSaid : read.Checked → Checked
+abbrev pub checkedSaid : read.Checked → CheckedSaid
 checkedSaid (C.Valid h) = valid h
 checkedSaid (C.Refused r) = refused (refusalNumber r)
 
 -- 3: invalid on a cartridge with this LAST
-unfoldable pub headerOn : ℕ → List ℕ → Checked
+unfoldable pub headerOn : ℕ → List ℕ → CheckedSaid
 headerOn last h = pick (validHeader last h) (valid (headerOf h)) (refused 3)
 
 -- 2: the geometry's
-abbrev pub headerFor : Said → List ℕ → Checked
-headerFor (said.address last) h = headerOn last h
-headerFor (said.refused n) h = refused n
+abbrev pub headerFor : PlaceSaid → List ℕ → CheckedSaid
+headerFor (place.address last) h = headerOn last h
+headerFor (place.refused n) h = refused n
 
 -- 1: its length
-unfoldable pub readHeader : Geometry → List ℕ → Checked
+unfoldable pub readHeader : Geometry → List ℕ → CheckedSaid
 readHeader g h = pick (eqb (length h) 33280) (headerFor (lastOf g) h) (refused 1)

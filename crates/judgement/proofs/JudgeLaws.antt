@@ -12,7 +12,7 @@ use Rattle.frame.specs.Aux.{typeOf}
 use Rattle.frame.specs.declared.element.Kind.{Kind}
 use Rattle.frame.specs.declared.element.Kind.the-variants.{Data, Marker, Eod}
 use Rattle.judgement.specs.declared.told.Told.{Told}
-use Rattle.judgement.specs.Judgement.{Judged, skipped, refused, foundSaid, judgeNumber, judgeKind, judgeType, judgeAux, judgeFrame}
+use Rattle.judgement.specs.Judgement.{JudgementSaid, skipped, refused, foundSaid, judgeNumber, judgeKind, judgeType, judgeAux, judgeFrame}
 use Rattle.judgement.proofs.Cases.{number-below, number-above, number-same, pass-same, typed, format-same, right-length}
 use Rattle.judgement.proofs.Facts.{Typed, FoundAs, alike-so}
 
@@ -47,7 +47,7 @@ module _ (told : Told) (expected : Seq) (frame : List ℕ) where
       aux : List ℕ
       aux = drop 32768 frame
 
-      Over : Judged → Type 0
+      Over : JudgementSaid → Type 0
       Over j = j ≡ skipped
 
       of-kind : (k : Kind) → judgeKind k told expected aux ≡ skipped

@@ -16,11 +16,11 @@ use Rattle.frame.specs.declared.element.Kind.{Kind}
 use Rattle.frame.specs.declared.element.Kind.the-variants.{Data, Marker, Eod}
 use Rattle.geometry.specs.declared.address.Seq.{Seq}
 use Rattle.judgement.specs.declared.told.Told.{Told}
-use Rattle.judgement.specs.Judgement.{Judged, skipped, refused, foundSaid, expectedElement, asTable, judgeNumber, judgeKind, judgeType, judgeAux, judgeFrame}
+use Rattle.judgement.specs.Judgement.{JudgementSaid, skipped, refused, foundSaid, expectedElement, asTable, judgeNumber, judgeKind, judgeType, judgeAux, judgeFrame}
 use Rattle.judgement.proofs.Cases.{no-kind}
 use Rattle.judgement.proofs.Facts.{Typed, Alike, FoundAs, alike-so, so-alike}
 
-pub data JudgeView (told : Told) (expected : Seq) (frame : List ℕ) : Judged → Type 0 where
+pub data JudgeView (told : Told) (expected : Seq) (frame : List ℕ) : JudgementSaid → Type 0 where
   wrong-length : (length frame ≡ 33280 → ⊥) → JudgeView told expected frame (refused 1)
   other-format : length frame ≡ 33280 → (get32 (drop 32768 frame) 0 ≡ 0 → ⊥) → JudgeView told expected frame skipped
   other-type : length frame ≡ 33280 → ((k : Kind) → get16 (drop 32768 frame) 16 ≡ typeOf k → ⊥) → JudgeView told expected frame skipped
@@ -29,10 +29,10 @@ pub data JudgeView (told : Told) (expected : Seq) (frame : List ℕ) : Judged �
   below : (k : Kind) → Typed told k frame → get32 (drop 32768 frame) 44 < expected .0 → JudgeView told expected frame skipped
   above : (k : Kind) → Typed told k frame → expected .0 < get32 (drop 32768 frame) 44 → JudgeView told expected frame (refused 10)
   foreign : (k : Kind) → Typed told k frame → get32 (drop 32768 frame) 44 ≡ expected .0 → (Alike (expectedElement k told expected) (drop 32768 frame) → ⊥) → JudgeView told expected frame (refused 11)
-  found : (k : Kind) {j : Judged} → foundSaid k ≡ j → FoundAs told expected k frame → JudgeView told expected frame j
+  found : (k : Kind) {j : JudgementSaid} → foundSaid k ≡ j → FoundAs told expected k frame → JudgeView told expected frame j
 
 module _ (told : Told) (expected : Seq) (frame : List ℕ) where
-  abbrev View : Judged → Type 0
+  abbrev View : JudgementSaid → Type 0
   View j = JudgeView told expected frame j
 
   abbrev aux : List ℕ

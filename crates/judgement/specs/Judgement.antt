@@ -16,21 +16,21 @@ use Rattle.judgement.specs.declared.told.Told.{Told}
 use Rattle.judgement.specs.declared.judge.Judgement.{Judgement}
 use Rattle.judgement.specs.declared.judge.Judgement.the-variants.{Skipped, Refused, Found}
 
-pub data Judged : Type 0 where
+pub data JudgementSaid : Type 0 where
   -- passed over
-  skipped : Judged
-  refused : ℕ → Judged
+  skipped : JudgementSaid
+  refused : ℕ → JudgementSaid
   -- delivered: a block, a filemark; or the end
-  block : Judged
-  filemark : Judged
-  end : Judged
+  block : JudgementSaid
+  filemark : JudgementSaid
+  end : JudgementSaid
 
-abbrev pub foundSaid : Kind → Judged
+abbrev pub foundSaid : Kind → JudgementSaid
 foundSaid Data = block
 foundSaid Marker = filemark
 foundSaid Eod = end
 
-abbrev pub judgementSaid : Judgement → Judged
+abbrev pub judgementSaid : Judgement → JudgementSaid
 judgementSaid Skipped = skipped
 judgementSaid (Refused r) = refused (refusalNumber r)
 judgementSaid (Found k) = foundSaid k
@@ -57,7 +57,7 @@ asTable e aux =
     && agree (part 44 68 aux) (part 44 68 (auxBytes (elementAux e)))
 
 -- number below the expected, passed over; above, refusal 10; equal, refusal 11 if another field differs from the table, else delivered
-unfoldable pub judgeNumber : Kind → Told → Seq → List ℕ → Judged
+unfoldable pub judgeNumber : Kind → Told → Seq → List ℕ → JudgementSaid
 judgeNumber k told expected aux =
     pick (ltb (get32 aux 44) (expected .0)) skipped
     (pick (ltb (expected .0) (get32 aux 44)) (refused 10)
@@ -65,28 +65,28 @@ judgeNumber k told expected aux =
 
 -- ---- a frame is passed over unless AUX 0-3 are 0, type is data, marker or EOD, partition 00, pass the header's: one after another
 
-abbrev pub unless : Bool → Judged → Judged → Judged
+abbrev pub unless : Bool → JudgementSaid → JudgementSaid → JudgementSaid
 unless test over next = pick test next over
 
 -- partition 00, then pass the header's
-unfoldable pub judgeKind : Kind → Told → Seq → List ℕ → Judged
+unfoldable pub judgeKind : Kind → Told → Seq → List ℕ → JudgementSaid
 judgeKind k told expected aux =
     unless (eqb (getD aux 20 0) 0) skipped
     (unless (eqb (get16 aux 22) (told .pass)) skipped
     (judgeNumber k told expected aux))
 
 -- type is data, marker or EOD
-unfoldable pub judgeType : Told → Seq → List ℕ → Judged
+unfoldable pub judgeType : Told → Seq → List ℕ → JudgementSaid
 judgeType told expected aux =
     pick (eqb (get16 aux 16) (typeOf Data)) (judgeKind Data told expected aux)
     (pick (eqb (get16 aux 16) (typeOf Marker)) (judgeKind Marker told expected aux)
     (pick (eqb (get16 aux 16) (typeOf Eod)) (judgeKind Eod told expected aux) skipped))
 
 -- AUX 0-3 are 0
-unfoldable pub judgeAux : Told → Seq → List ℕ → Judged
+unfoldable pub judgeAux : Told → Seq → List ℕ → JudgementSaid
 judgeAux told expected aux = unless (eqb (get32 aux 0) 0) skipped (judgeType told expected aux)
 
 -- a lent length that is not a frame's: refusal 1
-unfoldable pub judgeFrame : Told → Seq → List ℕ → Judged
+unfoldable pub judgeFrame : Told → Seq → List ℕ → JudgementSaid
 judgeFrame told expected frame =
     pick (eqb (length frame) 33280) (judgeAux told expected (drop 32768 frame)) (refused 1)

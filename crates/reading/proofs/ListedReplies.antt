@@ -43,10 +43,10 @@ module _ (s : Reading) (r : Reply) (frame : List ℕ) (taken : Taken s frame) wh
 
   -- ---- and a listed one is not refused with 8
 
-  abbrev JudgedAs : judgement.Judged → Type 0
+  abbrev JudgedAs : judgement.JudgementSaid → Type 0
   JudgedAs = judging.JudgeView (s .told) (s .expected) frame
 
-  judged-said : (j : judgement.Judged) → JudgedAs j → judgedBy j s .said ≡ refused 8 → ⊥
+  judged-said : (j : judgement.JudgementSaid) → JudgedAs j → judgedBy j s .said ≡ refused 8 → ⊥
   judged-said judgement.skipped v e = never (cc)
   judged-said (judgement.refused m) v e = let number : m ≡ 8 = cc in ⊎-elim (λ x. omega arith) (λ x. omega arith) (judging.refused-known (taken .long) v)
   judged-said judgement.block v e = never (cc)

@@ -60,14 +60,14 @@ module _ (s : Reading) (ahead : s .next .0 ≤ addressOf s) (below : addressOf s
   jumps : s .next .0 < pastReserved (addressOf s + 32) % 2 ^ 32
   jumps = grows (omega (arith, past-reserved-least (addressOf s + 32))) (past-reserved-below (addressOf s + 32) below)
 
-  judged-at-least : (j : judgement.Judged) → s .next .0 ≤ judgedBy j s .session .next .0
+  judged-at-least : (j : judgement.JudgementSaid) → s .next .0 ≤ judgedBy j s .session .next .0
   judged-at-least judgement.skipped = omega (arith, one-further)
   judged-at-least (judgement.refused n) = omega arith
   judged-at-least judgement.block = omega (arith, one-further)
   judged-at-least judgement.filemark = omega (arith, one-further)
   judged-at-least judgement.end = omega (arith, one-further)
 
-  judged-further : (j : judgement.Judged) → ((n : ℕ) → judgedBy j s .said ≡ refused n → ⊥) → s .next .0 < judgedBy j s .session .next .0
+  judged-further : (j : judgement.JudgementSaid) → ((n : ℕ) → judgedBy j s .said ≡ refused n → ⊥) → s .next .0 < judgedBy j s .session .next .0
   judged-further judgement.skipped accepted = one-further
   judged-further (judgement.refused n) accepted = absurd (accepted n refl)
   judged-further judgement.block accepted = one-further

@@ -41,13 +41,13 @@ module _ (s : Reading) (n : ℕ) where
       go (fetching.reads _ _ _ _) e = never (cc)
 
   module _ (frame : List ℕ) where
-    abbrev JudgedAs : judgement.Judged → Type 0
+    abbrev JudgedAs : judgement.JudgementSaid → Type 0
     JudgedAs = judging.JudgeView (s .told) (s .expected) frame
 
     judged-number : {m : ℕ} → length frame ≡ 33280 → JudgedAs (judgement.refused m) → 8 ≤ m
     judged-number long v = ⊎-elim (λ e. omega arith) (λ e. omega arith) (judging.refused-known long v)
 
-    judged-leaves : length frame ≡ 33280 → (j : judgement.Judged) → JudgedAs j → reply.judgedBy j s .said ≡ reply.refused n → Leaves n s (reply.judgedBy j s .session)
+    judged-leaves : length frame ≡ 33280 → (j : judgement.JudgementSaid) → JudgedAs j → reply.judgedBy j s .said ≡ reply.refused n → Leaves n s (reply.judgedBy j s .session)
     judged-leaves long judgement.skipped v e = never (cc)
     judged-leaves long (judgement.refused m) v e = let number : m ≡ n = cc in ended-by n (omega (arith, judged-number long v))
     judged-leaves long judgement.block v e = never (cc)

@@ -9,7 +9,7 @@ use lib.Dec.{eqb}
 use lib.ListN.{length}
 use Rattle.geometry.proofs.PickLaws.{pick-by}
 use Rattle.drive.specs.declared.reply.Reply.{Reply}
-use Rattle.judgement.specs.Judgement.{Judged, judgeFrame}
+use Rattle.judgement.specs.Judgement.{JudgementSaid, judgeFrame}
 use Rattle.reading.specs.declared.session.Reading.{Reading}
 use Rattle.reading.specs.Reply.{nothing, Taking, answering, refusing, ending, repeatedOf, locatedOf, skippedOf, judgedBy, judgedOf, jumpedOf, caseOf, answerOf, replyOf}
 use Rattle.geometry.proofs.TestLaws.{or-true, or-false}
@@ -41,7 +41,7 @@ pub data ReplyView (s : Reading) (r : Reply) (frame : List ℕ) : Taking → Typ
   wrong-length : Awaited s → (length frame ≡ 33280 → ⊥) → ReplyView s r frame (refusing s 1)
   busy : Taken s frame → (caseOf s r ≡ 0x2B02) ⊎ (caseOf s r ≡ 0x0802) → ReplyView s r frame (answering (repeatedOf s) nothing)
   located : Taken s frame → caseOf s r ≡ 0x2B01 → ReplyView s r frame (locatedOf s)
-  judged : Taken s frame → (caseOf s r ≡ 0x0801) ⊎ (caseOf s r ≡ 0x0805) → (j : Judged) → judgeFrame (s .told) (s .expected) frame ≡ j → ReplyView s r frame (judgedBy j s)
+  judged : Taken s frame → (caseOf s r ≡ 0x0801) ⊎ (caseOf s r ≡ 0x0805) → (j : JudgementSaid) → judgeFrame (s .told) (s .expected) frame ≡ j → ReplyView s r frame (judgedBy j s)
   unreadable : Taken s frame → caseOf s r ≡ 0x0806 → ReplyView s r frame (skippedOf s)
   end-of-data : Taken s frame → caseOf s r ≡ 0x0807 → ReplyView s r frame (jumpedOf s)
   end-of-medium : Taken s frame → caseOf s r ≡ 0x0808 → ReplyView s r frame (ending s 12)

@@ -21,19 +21,19 @@ commandOf s =
     (pick (eqb (s .next .0) 2990) (Locate (record { 0 = 3000 })) (Read (s .next)))
 
 -- what a fetch answers: a command by its operation code and address, the end, or a refusal by its number
-pub data Said : Type 0 where
-  command : ℕ → ℕ → Said
-  end : Said
-  refused : ℕ → Said
+pub data AnswerSaid : Type 0 where
+  command : ℕ → ℕ → AnswerSaid
+  end : AnswerSaid
+  refused : ℕ → AnswerSaid
 
-abbrev pub answerSaid : Answer → Said
+abbrev pub answerSaid : Answer → AnswerSaid
 answerSaid (A.Command c) = command (commandCode c) (commandAddress c)
 answerSaid A.End = end
 answerSaid (A.Refused r) = refused (refusalNumber r)
 
 pub record Fetching : Type 0 where
   pub session : Reading
-  pub said : Said
+  pub said : AnswerSaid
 
 abbrev pub fetchedSaid : Fetched → Fetching
 fetchedSaid r = record { session = r .session; said = answerSaid (r .answer) }

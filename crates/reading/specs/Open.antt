@@ -5,7 +5,7 @@ use mathlib.Core.List.{List}
 use Rattle.geometry.specs.Refused.{verdictNumber}
 use Rattle.geometry.specs.declared.cartridge.Geometry.{Geometry}
 use Rattle.frame.specs.declared.header.Header.{Header}
-use Rattle.header.specs.Read.{Checked, valid, refused, readHeader}
+use Rattle.header.specs.Read.{CheckedSaid, valid, refused, readHeader}
 use Rattle.drive.specs.Exchange.{unsent}
 use Rattle.judgement.specs.declared.told.Told.{Told}
 use Rattle.reading.specs.declared.session.Reading.{Reading}
@@ -41,7 +41,7 @@ abbrev pub openRefused : ℕ → Result
 openRefused n = record { session = endedOf (fresh (record { last = record { 0 = 0 }; pass = 0 })); number = n }
 
 -- a header that is valid gives its fields; any other is refused with 1, 2 or 3
-abbrev pub openFor : Checked → Result
+abbrev pub openFor : CheckedSaid → Result
 openFor (valid header) = record { session = fresh (toldOf header); number = 0 }
 openFor (refused n) = openRefused n
 

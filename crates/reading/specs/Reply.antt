@@ -21,14 +21,14 @@ use Rattle.reading.specs.declared.session.Delivery.the-variants as D
 use Rattle.reading.specs.Session.{withExchange, withNext, withExpected, withEnd, endedOf}
 
 -- what a reply is answered: nothing delivered, a block (the first 32,768 bytes of the lent frame), a filemark, the end, or a refusal by its number
-pub data Said : Type 0 where
-  nothing : Said
-  block : Said
-  filemark : Said
-  end : Said
-  refused : ℕ → Said
+pub data DeliverySaid : Type 0 where
+  nothing : DeliverySaid
+  block : DeliverySaid
+  filemark : DeliverySaid
+  end : DeliverySaid
+  refused : ℕ → DeliverySaid
 
-abbrev pub deliverySaid : Delivery → Said
+abbrev pub deliverySaid : Delivery → DeliverySaid
 deliverySaid D.Nothing = nothing
 deliverySaid D.Block = block
 deliverySaid D.Filemark = filemark
@@ -37,13 +37,13 @@ deliverySaid (D.Refused r) = refused (refusalNumber r)
 
 pub record Taking : Type 0 where
   pub session : Reading
-  pub said : Said
+  pub said : DeliverySaid
 
 abbrev pub takenSaid : Taken → Taking
 takenSaid t = record { session = t .session; said = deliverySaid (t .delivery) }
 
 -- a session beside what it answers
-abbrev pub answering : Reading → Said → Taking
+abbrev pub answering : Reading → DeliverySaid → Taking
 answering s said = record { session = s; said = said }
 
 -- refusals 1 to 7: session unchanged; 8 to 12: session ended
@@ -82,7 +82,7 @@ abbrev pub skippedOf : Reading → Taking
 skippedOf s = answering (advancedOf s) nothing
 
 -- an element delivered, and the next number expected
-abbrev pub deliveredOf : Reading → Said → Taking
+abbrev pub deliveredOf : Reading → DeliverySaid → Taking
 deliveredOf s said = answering (withExpected (advancedOf s) (record { 0 = (s .expected .0 + 1) % 2 ^ 32 })) said
 
 -- EOD ends reading
@@ -90,7 +90,7 @@ abbrev pub finishedOf : Reading → Taking
 finishedOf s = answering (withEnd (advancedOf s)) end
 
 -- a frame that was read, by its judgement
-abbrev pub judgedBy : judgement.Judged → Reading → Taking
+abbrev pub judgedBy : judgement.JudgementSaid → Reading → Taking
 judgedBy judgement.skipped s = skippedOf s
 judgedBy (judgement.refused n) s = ending s n
 judgedBy judgement.block s = deliveredOf s block

@@ -17,7 +17,7 @@ use Rattle.recording.specs.declared.session.Stage.{Stage}
 use Rattle.recording.specs.declared.session.Stage.the-variants as S
 use Rattle.recording.specs.Session.{windowLength, endedOf}
 use Rattle.recording.specs.Due.{Decision, elementDueBy, decisionBy, decisionOf}
-use Rattle.recording.specs.Fetch.{Said, idle, done, refused, Fetching, sending, answering, fetchOf}
+use Rattle.recording.specs.Fetch.{idle, done, refused, Fetching, sending, answering, fetchOf}
 use Rattle.recording.proofs.Stages.{HeaderStage, ElementStage}
 
 -- the session can answer, and the buffers have their lengths
@@ -62,7 +62,7 @@ module _ (s : Recording) (window frame : List ℕ) where
   fetch-decided f w g e =
       pick-f _ f ∙ pick-t _ (both (eq-eqb _ _ w) (eq-eqb _ _ g)) ∙ ap (λ d. answering d s window frame) e
 
-  due-view : Ready s window frame → s .exchange .again ≡ false → ElementStage s → (d : due.Said) → due.dueOf (s .setup .depth) (s .elements) ≡ d → FetchView s window frame (answering (elementDueBy d) s window frame)
+  due-view : Ready s window frame → s .exchange .again ≡ false → ElementStage s → (d : due.DueSaid) → due.dueOf (s .setup .depth) (s .elements) ≡ d → FetchView s window frame (answering (elementDueBy d) s window frame)
   due-view r a st (due.send c) e = stepping r a st c e
   due-view r a st due.idle e = resting r a st e
   due-view r a st (due.refused n) e = stopping r a st n e

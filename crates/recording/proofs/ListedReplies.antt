@@ -58,8 +58,8 @@ module _ (s : Recording) (r : Reply) where
   error-listed (inl e) = at-write (s .exchange .command) r writeError (omega arith) (λ _ _. on.write-error) e
   error-listed (inr e) = at-position (s .exchange .command) r writeError (omega arith) on.position-error e
 
-  overflow-listed : {c : copies.Said} {x : answer.Step} {y : Result} → caseOf s r ≡ writeOverflow → OffHeaders s → c ≡ copies.refused 8 → view.StageView s c x y → (y .number ≡ 8 → ⊥) → Here
-  overflow-listed e off q (view.in-headers _) h = absurd (h (ap (λ (p : copies.Said). headerReplyBy p s .number) q))
+  overflow-listed : {c : copies.ProgressSaid} {x : answer.Step} {y : Result} → caseOf s r ≡ writeOverflow → OffHeaders s → c ≡ copies.refused 8 → view.StageView s c x y → (y .number ≡ 8 → ⊥) → Here
+  overflow-listed e off q (view.in-headers _) h = absurd (h (ap (λ (p : copies.ProgressSaid). headerReplyBy p s .number) q))
   overflow-listed e off q (view.in-elements st) h = at-write (s .exchange .command) r volumeOverflow (omega arith) (λ a w. on.write-overflow (off st a w)) e
   overflow-listed e off q (view.in-done _) h = absurd (h refl)
 
@@ -133,7 +133,7 @@ module _ (s : Recording) (r : Reply) where
     pub in-headers : HeaderStage s → Possible (s .copies .outstanding) (oldestAddress (s .copies)) (nextAddress (s .copies))
     pub in-elements : ElementStage s → Possible (s .elements .outstanding) (baseOf (s .elements)) (s .elements .next .0)
 
-  header-number : (x : copies.Said) → (x ≡ copies.refused 8 → ⊥) → headerReplyBy x s .number ≡ 8 → ⊥
+  header-number : (x : copies.ProgressSaid) → (x ≡ copies.refused 8 → ⊥) → headerReplyBy x s .number ≡ 8 → ⊥
   header-number (copies.more _) h q = omega arith
   header-number copies.complete h q = omega arith
   header-number (copies.refused n) h q = h (ap copies.refused q)
@@ -141,11 +141,11 @@ module _ (s : Recording) (r : Reply) where
   element-number : (x : answer.Step) → (x .number ≡ 8 → ⊥) → elementReplyBy x s .number ≡ 8 → ⊥
   element-number x h = pick-by (λ (y : Result). y .number ≡ 8 → ⊥) (eqb (x .number) 0) (λ _ q. omega arith) (λ _ q. h q)
 
-  copies-counted : {x : copies.Said} → r .buffered ≤ s .copies .outstanding → copying.CountedView (s .copies) (r .buffered) x → x ≡ copies.refused 8 → ⊥
+  copies-counted : {x : copies.ProgressSaid} → r .buffered ≤ s .copies .outstanding → copying.CountedView (s .copies) (r .buffered) x → x ≡ copies.refused 8 → ⊥
   copies-counted p (copying.tooMany l) e = omega (arith, p)
   copies-counted p (copying.counted _) e = omega (arith, onward-number _ (copying.onward-view _) e)
 
-  copies-failed : {x : copies.Said} → oldestAddress (s .copies) ≤ r .position .0 → r .position .0 < nextAddress (s .copies) → copying.FailedView (s .copies) (r .position .0) x → x ≡ copies.refused 8 → ⊥
+  copies-failed : {x : copies.ProgressSaid} → oldestAddress (s .copies) ≤ r .position .0 → r .position .0 < nextAddress (s .copies) → copying.FailedView (s .copies) (r .position .0) x → x ≡ copies.refused 8 → ⊥
   copies-failed p l (copying.before h) e = omega (arith, p)
   copies-failed p l (copying.behind h) e = omega (arith, l)
   copies-failed p l (copying.failed _ _) e = omega (arith, onward-number _ (copying.onward-view _) e)
@@ -162,7 +162,7 @@ module _ (s : Recording) (r : Reply) where
 
   module _ (stage : HeaderStage s ⊎ ElementStage s) (no-read : (a : Address) → s .exchange .command ≡ Read a → ⊥) (on-headers : OnHeaders s) (lawful : Lawful) (listed : Here) where
     -- by stage, where neither machine refuses with 8
-    stage-number : (c : copies.Said) (x : answer.Step) → (HeaderStage s → c ≡ copies.refused 8 → ⊥) → (ElementStage s → x .number ≡ 8 → ⊥) → stageReply s c x .number ≡ 8 → ⊥
+    stage-number : (c : copies.ProgressSaid) (x : answer.Step) → (HeaderStage s → c ≡ copies.refused 8 → ⊥) → (ElementStage s → x .number ≡ 8 → ⊥) → stageReply s c x .number ≡ 8 → ⊥
     stage-number c x h k = go (view.stage-view s c x)
       where
         go : {y : Result} → view.StageView s c x y → y .number ≡ 8 → ⊥

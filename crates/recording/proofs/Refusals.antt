@@ -44,22 +44,22 @@ ended-by n h = record { unchanged = λ _ k. absurd (omega arith); ended = λ _. 
 
 -- ---- the numbers of header copies and of elements
 
-pub onward-number : (c : Copies) {x : copies.Said} {m : ℕ} → copying.OnwardView c x → x ≡ copies.refused m → m ≡ 12
+pub onward-number : (c : Copies) {x : copies.ProgressSaid} {m : ℕ} → copying.OnwardView c x → x ≡ copies.refused m → m ≡ 12
 onward-number c (copying.unfinished _) e = never (cc)
 onward-number c (copying.turning _ _ _) e = never (cc)
 onward-number c (copying.unwritten _ _ _ _) e = cc
 onward-number c (copying.through _ _ _ _) e = never (cc)
 
-counted-number : {c : Copies} {f m : ℕ} {x : copies.Said} → copying.CountedView c f x → x ≡ copies.refused m → 8 ≤ m
+counted-number : {c : Copies} {f m : ℕ} {x : copies.ProgressSaid} → copying.CountedView c f x → x ≡ copies.refused m → 8 ≤ m
 counted-number {m = m} (copying.tooMany _) e = let number : _≡_ {A = ℕ} 8 m = cc in omega arith
 counted-number (copying.counted _) e = omega (arith, onward-number _ (copying.onward-view _) e)
 
-failed-number : {c : Copies} {p m : ℕ} {x : copies.Said} → copying.FailedView c p x → x ≡ copies.refused m → 8 ≤ m
+failed-number : {c : Copies} {p m : ℕ} {x : copies.ProgressSaid} → copying.FailedView c p x → x ≡ copies.refused m → 8 ≤ m
 failed-number {m = m} (copying.before _) e = let number : _≡_ {A = ℕ} 8 m = cc in omega arith
 failed-number {m = m} (copying.behind _) e = let number : _≡_ {A = ℕ} 8 m = cc in omega arith
 failed-number (copying.failed _ _) e = omega (arith, onward-number _ (copying.onward-view _) e)
 
-due-number : {depth n : ℕ} {e : Elements} {x : due.Said} → dues.DueView depth e x → x ≡ due.refused n → 8 ≤ n
+due-number : {depth n : ℕ} {e : Elements} {x : due.DueSaid} → dues.DueView depth e x → x ≡ due.refused n → 8 ≤ n
 due-number (dues.relocating _) q = never (cc)
 due-number (dues.resting _ _ _) q = never (cc)
 due-number (dues.settling _ _ _) q = never (cc)
@@ -135,7 +135,7 @@ module _ (s : Recording) where
       go (fetching.stopping _ _ _ m q) e = let number : m ≡ n = cc in ended-by n (omega (arith, due-number (dues.due-view (s .setup .depth) (s .elements)) q))
       go (fetching.finished _ _ _) e = never (cc)
 
-  header-left : (x : copies.Said) → ((m : ℕ) → x ≡ copies.refused m → 8 ≤ m) → Left (headerReplyBy x s)
+  header-left : (x : copies.ProgressSaid) → ((m : ℕ) → x ≡ copies.refused m → 8 ≤ m) → Left (headerReplyBy x s)
   header-left (copies.more _) h = accepted-by
   header-left copies.complete h = accepted-by
   header-left (copies.refused n) h = ended-by n (h n refl)
@@ -144,7 +144,7 @@ module _ (s : Recording) where
   element-left x h = pick-by Left (eqb (x .number) 0) (λ _. accepted-by) (λ e. ended-by _ (h (eqb-false _ _ e)))
 
   -- by stage
-  stage-left : (c : copies.Said) (x : answer.Step) → ((m : ℕ) → c ≡ copies.refused m → 8 ≤ m) → ((x .number ≡ 0 → ⊥) → 8 ≤ x .number) → Left (stageReply s c x)
+  stage-left : (c : copies.ProgressSaid) (x : answer.Step) → ((m : ℕ) → c ≡ copies.refused m → 8 ≤ m) → ((x .number ≡ 0 → ⊥) → 8 ≤ x .number) → Left (stageReply s c x)
   stage-left c x h k = go (replying.stage-view s c x)
     where
       go : {y : Result} → replying.StageView s c x y → Left y

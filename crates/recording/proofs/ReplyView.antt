@@ -20,7 +20,7 @@ use Rattle.recording.proofs.Stages.{HeaderStage, ElementStage}
 
 -- ---- by stage
 
-module _ (s : Recording) (c : copies.Said) (e : answer.Step) where
+module _ (s : Recording) (c : copies.ProgressSaid) (e : answer.Step) where
   pub data StageView : Result → Type 0 where
     in-headers : HeaderStage s → StageView (headerReplyBy c s)
     in-elements : ElementStage s → StageView (elementReplyBy e s)

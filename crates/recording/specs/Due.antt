@@ -28,7 +28,7 @@ decisionSaid (A.Refused r) = refuse (refusalNumber r)
 abbrev pub headerDue : Recording → Decision
 headerDue s = send (commandFor (copies.commandOf (s .setup .depth) (s .copies)))
 
-abbrev pub elementDueBy : due.Said → Decision
+abbrev pub elementDueBy : due.DueSaid → Decision
 elementDueBy (due.send x) = send (commandFor x)
 elementDueBy due.idle = idle
 elementDueBy (due.refused n) = refuse n

@@ -21,13 +21,13 @@ use Rattle.recording.specs.Due.{decisionOf}
 use Rattle.recording.specs.Written.{writtenFrame}
 
 -- what a fetch answers: a command by its operation code and address, idle, done, or a refusal by its number
-pub data Said : Type 0 where
-  command : ℕ → ℕ → Said
-  idle : Said
-  done : Said
-  refused : ℕ → Said
+pub data AnswerSaid : Type 0 where
+  command : ℕ → ℕ → AnswerSaid
+  idle : AnswerSaid
+  done : AnswerSaid
+  refused : ℕ → AnswerSaid
 
-abbrev pub answerSaid : Answer → Said
+abbrev pub answerSaid : Answer → AnswerSaid
 answerSaid (A.Command c) = command (commandCode c) (commandAddress c)
 answerSaid A.Idle = idle
 answerSaid A.Done = done
@@ -36,7 +36,7 @@ answerSaid (A.Refused r) = refused (refusalNumber r)
 -- the session and the answer that a fetch returns, and the frame that it leaves
 pub record Fetching : Type 0 where
   pub session : Recording
-  pub said : Said
+  pub said : AnswerSaid
   pub frame : List ℕ
 
 abbrev pub fetched : Fetched → List ℕ → Fetching

@@ -1,16 +1,17 @@
 -- 01, "A recording session": opening takes the geometry, D, W and the newest header or none.
-use Prim.Native.Nat.{ℕ, _+_, _-_, _%_, _^_}
+use Prim.Native.Nat.{ℕ, _-_}
 use mathlib.Core.Bool.{Bool, false, _||_}
 use mathlib.Core.List.{List}
-use lib.Dec.{eqb, ltb, leb}
+use lib.Dec.{eqb, ltb}
 use Rattle.geometry.specs.Pick.{pick}
-use Rattle.geometry.specs.Said as said
-use Rattle.geometry.specs.Said.{Said}
+use Rattle.geometry.specs.Place as place
+use Rattle.geometry.specs.Place.{PlaceSaid}
 use Rattle.geometry.specs.Cartridge.{lastOf}
 use Rattle.geometry.specs.declared.cartridge.Geometry.{Geometry}
 use Rattle.frame.specs.declared.header.Header.{Header}
-use Rattle.header.specs.Read.{Checked, valid, refused, readHeader}
+use Rattle.header.specs.Read.{CheckedSaid, valid, refused, readHeader}
 use Rattle.drive.specs.Exchange.{unsent}
+use Rattle.copies.specs.Carried.{openingHeader, isExhausted, renewed}
 use Rattle.copies.specs.Copies as copies
 use Rattle.elements.specs.Elements as elements
 use Rattle.recording.specs.declared.session.Recording.{Recording}
@@ -29,10 +30,6 @@ fresh depth highest h = record {
   elements = elements.startOf (h .last .0);
 }
 
--- what the opening headers carry: EOD address 0
-abbrev pub openingHeader : ℕ → ℕ → ℕ → Header
-openingHeader last pass update = record { last = record { 0 = last }; pass = pass; eod = record { 0 = 0 }; update = update }
-
 -- a refused opening returns this session, which is ended
 abbrev pub blankSession : Recording
 blankSession = fresh 0 0 (openingHeader 0 0 0)
@@ -47,16 +44,8 @@ openWith depth window exhausted h =
     (pick exhausted (openRefused 5)
     (accepting (fresh depth (window - 1) h)))
 
--- pass 65,534, or update count above 4,294,967,293
-abbrev pub isExhausted : Header → Bool
-isExhausted h = leb 65534 (h .pass) || ltb 4294967293 (h .update)
-
--- pass is old + 1 and update count old + 1; remainders only matter where the opening is refused
-abbrev pub renewed : Header → Header
-renewed h = openingHeader (h .last .0) ((h .pass + 1) % 2 ^ 16) ((h .update + 1) % 2 ^ 32)
-
 -- on a header that is valid; any other is refused with 1, 2 or 3
-abbrev pub openFor : Checked → ℕ → ℕ → Result
+abbrev pub openFor : CheckedSaid → ℕ → ℕ → Result
 openFor (valid old) depth window = openWith depth window (isExhausted old) (renewed old)
 openFor (refused n) depth window = openRefused n
 
@@ -64,9 +53,9 @@ unfoldable pub openOf : Geometry → ℕ → ℕ → List ℕ → Result
 openOf g depth window h = openFor (readHeader g h) depth window
 
 -- on none: pass 1 and update count 0
-abbrev pub openBlankFor : Said → ℕ → ℕ → Result
-openBlankFor (said.address last) depth window = openWith depth window false (openingHeader last 1 0)
-openBlankFor (said.refused n) depth window = openRefused n
+abbrev pub openBlankFor : PlaceSaid → ℕ → ℕ → Result
+openBlankFor (place.address last) depth window = openWith depth window false (openingHeader last 1 0)
+openBlankFor (place.refused n) depth window = openRefused n
 
 unfoldable pub openBlankOf : Geometry → ℕ → ℕ → Result
 openBlankOf g depth window = openBlankFor (lastOf g) depth window

@@ -37,7 +37,7 @@ abbrev pub completedOf : Recording → Recording
 completedOf s = completedBy (s .stage) s
 
 -- the session after a reply, given how far the header copies are
-abbrev pub headerReplyBy : copies.Said → Recording → Result
+abbrev pub headerReplyBy : copies.ProgressSaid → Recording → Result
 headerReplyBy (copies.more c) s = accepting (withCopies (answeredOf s) c)
 headerReplyBy copies.complete s = accepting (settledOf (completedOf (answeredOf s)))
 headerReplyBy (copies.refused n) s = ending s n
@@ -47,14 +47,14 @@ abbrev pub elementReplyBy : answer.Step → Recording → Result
 elementReplyBy x s = pick (eqb (x .number) 0) (accepting (settledOf (withElements (answeredOf s) (x .elements)))) (ending s (x .number))
 
 -- by stage, what a reply is to the header copies, and what it is to the elements and EOD; when all is done no reply is awaited
-abbrev pub stageReplyBy : Stage → copies.Said → answer.Step → Recording → Result
+abbrev pub stageReplyBy : Stage → copies.ProgressSaid → answer.Step → Recording → Result
 stageReplyBy S.OpeningHeaders c e s = headerReplyBy c s
 stageReplyBy S.Elements c e s = elementReplyBy e s
 stageReplyBy S.Eod c e s = elementReplyBy e s
 stageReplyBy S.ClosingHeaders c e s = headerReplyBy c s
 stageReplyBy S.Done c e s = ending s 8
 
-abbrev pub stageReply : Recording → copies.Said → answer.Step → Result
+abbrev pub stageReply : Recording → copies.ProgressSaid → answer.Step → Result
 stageReply s c e = stageReplyBy (s .stage) c e s
 
 -- the address of the command that is answered

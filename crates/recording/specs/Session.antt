@@ -1,11 +1,12 @@
 -- 01, "A recording session": the session's terms, and what a call's outcome is in 01's numbers.
-use Prim.Native.Nat.{ℕ, _+_, _-_, _*_, _%_, _^_}
+use Prim.Native.Nat.{ℕ, _+_, _*_}
 use mathlib.Core.Bool.{true, false}
 use lib.Dec.{ltb}
 use Rattle.geometry.specs.Pick.{pick}
 use Rattle.geometry.specs.Refused.{verdictNumber}
 use Rattle.frame.specs.declared.header.Header.{Header}
 use Rattle.drive.specs.declared.exchange.Exchange.{Exchange}
+use Rattle.copies.specs.Carried.{closingOf}
 use Rattle.copies.specs.Copies as copies
 use Rattle.copies.specs.declared.state.Copies.{Copies}
 use Rattle.elements.specs.Elements as elements
@@ -65,14 +66,9 @@ ending s n = record { session = endedOf s; number = n }
 abbrev pub eodDue : Recording → Recording
 eodDue s = withStage (withElements s (elements.acceptedOf (s .elements) false)) S.Eod
 
--- closing headers: count one higher, EOD's address, which is the one before the next
+-- closing headers, behind EOD
 abbrev pub closingHeader : Recording → Header
-closingHeader s = record {
-  last = s .copies .header .last;
-  pass = s .copies .header .pass;
-  eod = record { 0 = s .elements .next .0 - 1 };
-  update = (s .copies .header .update + 1) % 2 ^ 32;
-}
+closingHeader s = closingOf (s .copies .header) (s .elements .next)
 
 abbrev pub closingStarted : Recording → Recording
 closingStarted s = withStage (withCopies s (copies.startOf (closingHeader s))) S.ClosingHeaders

@@ -2,12 +2,15 @@
 ghost use mathlib.Core.Path.{_≡_};
 ghost use Rattle.geometry.specs.Refused.{refusalNumber};
 ghost use Rattle.recording.specs.Session.{outcomeSaid};
-ghost use Rattle.recording.specs.Open.{fresh, openRefused, openWith, isExhausted, renewed, openOf, openBlankOf};
+ghost use Rattle.recording.specs.Open.{fresh, openRefused, openWith, openOf, openBlankOf};
 use crate::session::Outcome;
 use crate::session::Recording;
 use crate::session::Setup;
 use crate::session::Stage;
 use copies::Copies;
+use copies::blank_header;
+use copies::is_exhausted;
+use copies::renew;
 use drive::Exchange;
 use elements::Elements;
 use frame::Header;
@@ -70,26 +73,6 @@ fn open_with(depth: u8, window: u8, exhausted: bool, header: Header) -> Outcome
     fresh_session(depth, window - 1, header).accepted()
 }
 
-// Whether pass or update count can't be raised.
-fn is_exhausted(old: Header) -> bool
-    ensures { λ r. ⌜ r ≡ isExhausted old ⌝ }
-{
-    (65534 <= old.pass) | (4294967293 < old.update)
-}
-
-// The opening header of a recording over an old one.
-fn renew(old: Header) -> Header
-    ensures { λ r. ⌜ r ≡ renewed old ⌝ }
-{
-    let last = old.last;
-    Header {
-        last: last,
-        pass: std::num::wrapping_add_u16(old.pass, 1),
-        eod: Address(0),
-        update: std::num::wrapping_add_u32(old.update, 1),
-    }
-}
-
 impl Recording {
     // On the newest header of the cartridge, for a drive that buffers `depth` frames, with a window of `window` blocks.
     pub fn open(g: Geometry, depth: u8, window: u8, header: &[u8]) -> Outcome
@@ -108,15 +91,7 @@ impl Recording {
     {
         let place = g.last();
         match place {
-            Place::At(last) => {
-                let header = Header {
-                    last: last,
-                    pass: 1,
-                    eod: Address(0),
-                    update: 0,
-                };
-                open_with(depth, window, false, header)
-            }
+            Place::At(last) => { open_with(depth, window, false, blank_header(last)) }
             Place::Refused(r) => refuse_opening(r),
         }
     }

@@ -1,12 +1,12 @@
 // The session, and what its calls return.
 ghost use mathlib.Core.Path.{_≡_};
 ghost use Rattle.geometry.specs.Refused.{refusalNumber};
-ghost use Rattle.recording.specs.Session.{windowOf, outcomeSaid, accepting, refusing, ending, eodDue, closingHeader, closingStarted, settledOf};
+ghost use Rattle.recording.specs.Session.{windowOf, outcomeSaid, accepting, refusing, ending, eodDue, closingStarted, settledOf};
 use copies::Copies;
+use copies::closing_header;
 use drive::Command;
 use drive::Exchange;
 use elements::Elements;
-use frame::Header;
 use geometry::Address;
 use geometry::Refusal;
 use geometry::Verdict;
@@ -110,30 +110,16 @@ impl Recording {
         }
     }
 
-    // The header of the closing copies: EOD stands before the next address.
-    fn closing_header(self) -> Header
-        ensures { λ r. ⌜ r ≡ closingHeader self ⌝ }
+    fn start_closing(self) -> Recording
+        ensures { λ r. ⌜ r ≡ closingStarted self ⌝ }
     {
         let copies = self.copies;
         let elements = self.elements;
         let header = copies.header;
         let next = elements.next;
-        let eod = if next.0 < 1 { 0 } else { next.0 - 1 };
-        let last = header.last;
-        Header {
-            last: last,
-            pass: header.pass,
-            eod: Address(eod),
-            update: std::num::wrapping_add_u32(header.update, 1),
-        }
-    }
-
-    fn start_closing(self) -> Recording
-        ensures { λ r. ⌜ r ≡ closingStarted self ⌝ }
-    {
         Recording {
             stage: Stage::ClosingHeaders,
-            copies: Copies::start(self.closing_header()),
+            copies: Copies::start(closing_header(header, next)),
             ..self
         }
     }

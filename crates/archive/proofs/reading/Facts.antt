@@ -13,7 +13,7 @@ use Rattle.geometry.specs.Cartridge.{isUser, pastReserved}
 use Rattle.geometry.proofs.PickLaws.{pick-by}
 use Rattle.geometry.proofs.Impossible.{never}
 use Rattle.judgement.specs.Judgement as judgement
-use Rattle.judgement.specs.Judgement.{Judged, judgeFrame}
+use Rattle.judgement.specs.Judgement.{JudgementSaid, judgeFrame}
 use Rattle.geometry.proofs.PastReserved.{past-reserved-least}
 use Rattle.judgement.specs.declared.told.Told.{Told}
 use Rattle.archive.specs.Tape.{Tape, Cartridge}
@@ -32,7 +32,7 @@ Counts a (going n got) = (length got ≡ n) × (n ≤ a)
 Counts a (ended got) = Unit {0}
 Counts a (stopped m) = Unit {0}
 
-advance-counts : (a : ℕ) (j : Judged) (f : List ℕ) (n : ℕ) (got : List Element) → Counts a (going n got) → Counts (suc a) (advance j f n got)
+advance-counts : (a : ℕ) (j : JudgementSaid) (f : List ℕ) (n : ℕ) (got : List Element) → Counts a (going n got) → Counts (suc a) (advance j f n got)
 advance-counts a judgement.skipped f n got c = (c .0, omega (arith, c .1))
 advance-counts a (judgement.refused m) f n got c = tt
 advance-counts a judgement.block f n got c = (length-append got _ ∙ ap (λ (k : ℕ). k + 1) (c .0), omega (arith, c .1))
@@ -76,7 +76,7 @@ first-part xs got x n e p l =
     shorter (suc k) [] = ap (λ (m : ℕ). take (suc k) (take m [])) (add-one (suc k))
     shorter (suc k) (y ∷ l) = ap (λ (m : ℕ). take (suc k) (take m (y ∷ l))) (add-one (suc k)) ∙ ap (λ (r : List Element). y ∷ r) (ap (λ (m : ℕ). take k (take m l)) (sym (add-one k)) ∙ shorter k l)
 
-advance-back : (xs : List Element) (a : ℕ) (j : Judged) (f : List ℕ) (n : ℕ) (got : List Element) → Counts a (going n got) → Fits xs (advance j f n got) → Fits xs (going n got)
+advance-back : (xs : List Element) (a : ℕ) (j : JudgementSaid) (f : List ℕ) (n : ℕ) (got : List Element) → Counts a (going n got) → Fits xs (advance j f n got) → Fits xs (going n got)
 advance-back xs a judgement.skipped f n got c h = h
 advance-back xs a (judgement.refused m) f n got c h = absurd h
 advance-back xs a judgement.block f n got c h = (first-part xs got _ n (c .0) (h .0) (h .1), omega (arith, h .1))

@@ -67,7 +67,7 @@ module _ {told : Told} {t : Tape} (k : ReadTape told t) where
         ∙ pick-t _ (lt-ltb (w .session .told .last .0) (w .session .next .0) (omega (arith, last-is)))
 
     -- a command is given where the next address is on the tape
-    pub command-given : (w .session .next .0 ≤ told .last .0) → Agreed (told .last .0) t (w .session) (w .at) (w .notes .replies) readings.none → GivesCommand (fetch.fetchOf (w .session) .said)
+    pub command-given : (w .session .next .0 ≤ told .last .0) → Agreed (told .last .0) t (w .session) (w .at) (w .notes .replies) readings.no-command → GivesCommand (fetch.fetchOf (w .session) .said)
     unfolding fetch.commandOf
     command-given within agreed = given agreed
       where
@@ -85,7 +85,7 @@ module _ {told : Told} {t : Tape} (k : ReadTape told t) where
         ordered (crosses _ _ _ _ _) = inr refl
         ordered (reads _ _ _ _ _) = inl refl
 
-        given : Agreed (told .last .0) t (w .session) (w .at) (w .notes .replies) readings.none → GivesCommand (fetch.fetchOf (w .session) .said)
+        given : Agreed (told .last .0) t (w .session) (w .at) (w .notes .replies) readings.no-command → GivesCommand (fetch.fetchOf (w .session) .said)
         given (to-seek a g _ _ _) = named (sends (fetch.commandOf (w .session)) a g within refl) due
         given (to-read a g _ _ _ _) = named (sends (fetch.commandOf (w .session)) a g within refl) due
         given (again a g o st) = named (sends-again a g) (ordered o)
@@ -111,10 +111,10 @@ module _ {told : Told} {t : Tape} (k : ReadTape told t) where
           stood ReadPosition h = tt
 
       -- no end was found
-      ends-without : w .flight ≡ readings.none → w .session .exchange .awaiting ≡ false → w .session .exchange .again ≡ false → told .last .0 < w .session .next .0 → ReadInv told t (afterFetch w)
+      ends-without : w .flight ≡ readings.no-command → w .session .exchange .awaiting ≡ false → w .session .exchange .again ≡ false → told .last .0 < w .session .next .0 → ReadInv told t (afterFetch w)
       ends-without q a g l = fetched-as w (past-last a g l) (halted m refl q (finds-no-end refl (sym (fold-above k (w .session .next .0) l) ∙ u .so-far)))
 
-      fetch-none : w .flight ≡ readings.none → Agreed (told .last .0) t (w .session) (w .at) (w .notes .replies) readings.none → ReadInv told t (afterFetch w)
+      fetch-none : w .flight ≡ readings.no-command → Agreed (told .last .0) t (w .session) (w .at) (w .notes .replies) readings.no-command → ReadInv told t (afterFetch w)
       unfolding fetch.commandOf
       fetch-none q (to-seek a g (inr above) l few) = ends-without q a g above
       fetch-none q (to-seek a g (inl h) l few) =

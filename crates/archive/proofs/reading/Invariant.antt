@@ -64,9 +64,9 @@ pub data Served (last : ℕ) (t : Tape) (s : Reading) (at replies : ℕ) (r : Re
   waits : (c : Command) → Means r busy → Ordered last s replies c → Stood s at c → Served last t s at replies r none c
 
 pub data Agreed (last : ℕ) (t : Tape) (s : Reading) (at replies : ℕ) : Flight → Type 0 where
-  to-seek : s .exchange .awaiting ≡ false → s .exchange .again ≡ false → Here last s → s .locate ≡ true → Few s replies → Agreed last t s at replies readings.none
-  to-read : s .exchange .awaiting ≡ false → s .exchange .again ≡ false → Here last s → s .locate ≡ false → at ≡ s .next .0 → FewRead s replies → Agreed last t s at replies readings.none
-  again : s .exchange .awaiting ≡ false → s .exchange .again ≡ true → Ordered last s replies (s .exchange .command) → Stood s at (s .exchange .command) → Agreed last t s at replies readings.none
+  to-seek : s .exchange .awaiting ≡ false → s .exchange .again ≡ false → Here last s → s .locate ≡ true → Few s replies → Agreed last t s at replies readings.no-command
+  to-read : s .exchange .awaiting ≡ false → s .exchange .again ≡ false → Here last s → s .locate ≡ false → at ≡ s .next .0 → FewRead s replies → Agreed last t s at replies readings.no-command
+  again : s .exchange .awaiting ≡ false → s .exchange .again ≡ true → Ordered last s replies (s .exchange .command) → Stood s at (s .exchange .command) → Agreed last t s at replies readings.no-command
   under-way : (c : Command) → s .exchange .awaiting ≡ true → s .exchange .again ≡ false → s .exchange .command ≡ c → Ordered last s replies c → Stood s at c → Agreed last t s at replies (readings.sent c)
   served : (r : Reply) (given : Option (List ℕ)) → s .exchange .awaiting ≡ true → s .exchange .again ≡ false → Served last t s at replies r given (s .exchange .command) → Agreed last t s at replies (readings.answered r given)
 
@@ -79,5 +79,5 @@ pub data ReadInv (told : Told) (t : Tape) (w : World) : Type 0 where
   under : w .notes .refused ≡ 0 → w .notes .end ≡ false → Under told t (w .session) (w .notes .deliveries)
       → Agreed (told .last .0) t (w .session) (w .at) (w .notes .replies) (w .flight) → ReadInv told t w
   over : w .notes .refused ≡ 0 → w .notes .end ≡ true → w .session .finished ≡ true → w .session .ended ≡ false → w .session .exchange .awaiting ≡ false → w .session .exchange .again ≡ false
-      → w .flight ≡ readings.none → wholeOf told t ≡ ended (w .notes .deliveries) → w .notes .replies ≤ replyBound (told .last .0) → ReadInv told t w
-  halted : w .notes .end ≡ false → w .session .ended ≡ true → w .flight ≡ readings.none → Halted told t (w .session .expected .0) (w .notes) → ReadInv told t w
+      → w .flight ≡ readings.no-command → wholeOf told t ≡ ended (w .notes .deliveries) → w .notes .replies ≤ replyBound (told .last .0) → ReadInv told t w
+  halted : w .notes .end ≡ false → w .session .ended ≡ true → w .flight ≡ readings.no-command → Halted told t (w .session .expected .0) (w .notes) → ReadInv told t w

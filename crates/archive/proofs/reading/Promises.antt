@@ -13,7 +13,7 @@ use Rattle.drive.specs.Senses.{busy}
 use Rattle.drive.specs.declared.command.Command.{Command}
 use Rattle.drive.specs.declared.reply.Reply.{Reply}
 use Rattle.judgement.specs.Judgement as judgement
-use Rattle.judgement.specs.Judgement.{Judged, judgeFrame}
+use Rattle.judgement.specs.Judgement.{JudgementSaid, judgeFrame}
 use Rattle.judgement.specs.declared.told.Told.{Told}
 use Rattle.reading.specs.Fetch as fetch
 use Rattle.reading.specs.Reply as reply
@@ -57,7 +57,7 @@ module _ {told : Told} {t : Tape} {xs : List Element} (k : ReadTape told t) (all
     unrefused-by : {x : reply.Taking} → reply.replyOf (w .session) r frame ≡ x → replyNumber (x .said) ≡ 0 → replyNumber (reply.replyOf (w .session) r frame .said) ≡ 0
     unrefused-by e z = ap (λ (x : reply.Taking). replyNumber (x .said)) e ∙ z
 
-    judged-number : (j : Judged) → Fits xs (advance j frame (w .session .expected .0) (w .notes .deliveries)) → replyNumber (reply.judgedBy j (w .session) .said) ≡ 0
+    judged-number : (j : JudgementSaid) → Fits xs (advance j frame (w .session .expected .0) (w .notes .deliveries)) → replyNumber (reply.judgedBy j (w .session) .said) ≡ 0
     judged-number judgement.skipped h = refl
     judged-number (judgement.refused m) h = absurd h
     judged-number judgement.block h = refl
@@ -96,7 +96,7 @@ module _ {told : Told} {t : Tape} {xs : List Element} (k : ReadTape told t) (all
 
   -- ---- no second command before the reply
 
-  agreed-awaits : {s : Reading} {at replies : ℕ} {g : Flight} → Agreed (told .last .0) t s at replies g → (g ≡ readings.none → ⊥) → s .exchange .awaiting ≡ true
+  agreed-awaits : {s : Reading} {at replies : ℕ} {g : Flight} → Agreed (told .last .0) t s at replies g → (g ≡ readings.no-command → ⊥) → s .exchange .awaiting ≡ true
   agreed-awaits (to-seek _ _ _ _ _) h = absurd (h refl)
   agreed-awaits (to-read _ _ _ _ _ _) h = absurd (h refl)
   agreed-awaits (again _ _ _ _) h = absurd (h refl)

@@ -21,7 +21,7 @@ use Rattle.drive.specs.declared.command.Command.{Command}
 use Rattle.drive.specs.declared.command.Command.the-variants.{Read, Write, Locate, ReadPosition}
 use Rattle.drive.specs.declared.reply.Reply.{Reply}
 use Rattle.judgement.specs.Judgement as judgement
-use Rattle.judgement.specs.Judgement.{Judged, judgeFrame}
+use Rattle.judgement.specs.Judgement.{JudgementSaid, judgeFrame}
 use Rattle.judgement.specs.declared.told.Told.{Told}
 use Rattle.judgement.proofs.JudgeView.{JudgeView, judge-view, refused-known}
 use Rattle.reading.specs.Reply as reply
@@ -88,7 +88,7 @@ module _ {told : Told} {t : Tape} (k : ReadTape told t) (w : World) (u : Under t
     one-more : {i : ℕ} → Means r i → (i ≡ busy → ⊥) → repliesAfter r (w .notes .replies) ≡ w .notes .replies + 1
     one-more means b = pick-f _ (ne-eqb _ busy (λ e. b (sym means ∙ e)))
 
-    unrefused : (said : reply.Said) → replyNumber said ≡ 0 → refusedAfter (replyNumber said) (w .notes .refused) ≡ 0
+    unrefused : (said : reply.DeliverySaid) → replyNumber said ≡ 0 → refusedAfter (replyNumber said) (w .notes .refused) ≡ 0
     unrefused said e = ap (λ (x : ℕ). refusedAfter x (w .notes .refused)) e ∙ n
 
     nothing-more : w .notes .deliveries ++ [] ≡ w .notes .deliveries
@@ -98,9 +98,9 @@ module _ {told : Told} {t : Tape} (k : ReadTape told t) (w : World) (u : Under t
     abbrev movedTo : ℕ → Bool → ℕ → Reading
     movedTo next locate expected = withExpected (reply.movedOf (w .session) (record { 0 = next }) locate) (record { 0 = expected })
 
-    goes-on : (next expected : ℕ) (locate : Bool) (said : reply.Said) → replyNumber said ≡ 0 → endAfter said (w .notes .end) ≡ w .notes .end
+    goes-on : (next expected : ℕ) (locate : Bool) (said : reply.DeliverySaid) → replyNumber said ≡ 0 → endAfter said (w .notes .end) ≡ w .notes .end
         → foldOf told t next ≡ going expected (w .notes .deliveries ++ delivered said frame)
-        → Agreed (told .last .0) t (movedTo next locate expected) (w .at) (repliesAfter r (w .notes .replies)) readings.none
+        → Agreed (told .last .0) t (movedTo next locate expected) (w .at) (repliesAfter r (w .notes .replies)) readings.no-command
         → ReadInv told t (afterTaking w r frame (reply.answering (movedTo next locate expected) said))
     goes-on next expected locate said z unended so-far agreed =
         under (unrefused said z) (unended ∙ m) (record { told-is = u .told-is; going-on = u .going-on; unfinished = u .unfinished; so-far = so-far }) agreed
@@ -140,7 +140,7 @@ module _ {told : Told} {t : Tape} (k : ReadTape told t) (w : World) (u : Under t
           go (no h) = inr (omega arith)
 
       -- one address further
-      further : {i : ℕ} → Means r i → (i ≡ busy → ⊥) → (x y : ℕ) (said : reply.Said) → y ≡ x → replyNumber said ≡ 0 → endAfter said (w .notes .end) ≡ w .notes .end → w .at ≡ w .session .next .0 + 1
+      further : {i : ℕ} → Means r i → (i ≡ busy → ⊥) → (x y : ℕ) (said : reply.DeliverySaid) → y ≡ x → replyNumber said ≡ 0 → endAfter said (w .notes .end) ≡ w .notes .end → w .at ≡ w .session .next .0 + 1
           → foldOf told t (w .session .next .0 + 1) ≡ going x (w .notes .deliveries ++ delivered said frame)
           → reply.replyOf (w .session) r frame ≡ reply.answering (withExpected (reply.advancedOf (w .session)) (record { 0 = y })) said
           → ReadInv told t (afterReply w r frame)
@@ -173,7 +173,7 @@ module _ {told : Told} {t : Tape} (k : ReadTape told t) (w : World) (u : Under t
           taken-as (replied ∙ ap (reply.ending (w .session)) q)
           (halted m refl refl (stops (inr refl) (whole-is tt (so-far ∙ ap stopped q))))
 
-      judged-by : {i : ℕ} → Means r i → (i ≡ busy → ⊥) → w .at ≡ w .session .next .0 + 1 → (j : Judged) → JudgeView told (w .session .expected) frame j
+      judged-by : {i : ℕ} → Means r i → (i ≡ busy → ⊥) → w .at ≡ w .session .next .0 + 1 → (j : JudgementSaid) → JudgeView told (w .session .expected) frame j
           → foldOf told t (w .session .next .0 + 1) ≡ advance j frame (w .session .expected .0) (w .notes .deliveries)
           → reply.replyOf (w .session) r frame ≡ reply.judgedBy j (w .session) → ReadInv told t (afterReply w r frame)
       judged-by means b at judgement.skipped v so-far replied =
@@ -228,7 +228,7 @@ module _ {told : Told} {t : Tape} (k : ReadTape told t) (w : World) (u : Under t
     repeated {c} e means replied o st =
         taken-as replied
         (under n m (record { told-is = u .told-is; going-on = u .going-on; unfinished = u .unfinished; so-far = u .so-far ∙ ap (going (w .session .expected .0)) (sym nothing-more) })
-        (subst (λ (x : ℕ). Agreed (told .last .0) t (reply.repeatedOf (w .session)) (w .at) x readings.none) (sym (pick-t _ (eq-eqb _ busy means)))
+        (subst (λ (x : ℕ). Agreed (told .last .0) t (reply.repeatedOf (w .session)) (w .at) x readings.no-command) (sym (pick-t _ (eq-eqb _ busy means)))
         (again refl refl (subst (λ (x : Command). Ordered (told .last .0) (reply.repeatedOf (w .session)) (w .notes .replies) x) (sym e) (order o)) (subst (λ (x : Command). Stood (reply.repeatedOf (w .session)) (w .at) x) (sym e) (stood c st)))))
       where
         order : {c : Command} → Ordered (told .last .0) (w .session) (w .notes .replies) c → Ordered (told .last .0) (reply.repeatedOf (w .session)) (w .notes .replies) c

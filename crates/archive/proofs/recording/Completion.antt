@@ -8,7 +8,7 @@ use native.Mathlib.Omega.{arith}
 use borrow.Author.Tests.{eqb-true}
 use lib.Dec.{eqb}
 use lib.ListN.{length}
-use Rattle.geometry.specs.Said.{address}
+use Rattle.geometry.specs.Place.{address}
 use Rattle.geometry.specs.Cartridge.{isUser, lastOf}
 use Rattle.geometry.proofs.TestLaws.{or-true}
 use Rattle.geometry.proofs.Impossible.{never}
@@ -17,7 +17,7 @@ use Rattle.frame.specs.Header.{headerFrame}
 use Rattle.frame.specs.Sent.{ReadsAs}
 use Rattle.frame.specs.declared.header.Header.{Header}
 use Rattle.header.specs.Valid.{validHeader, updateOf, headerOf}
-use Rattle.header.specs.Read.{Checked}
+use Rattle.header.specs.Read.{CheckedSaid}
 use Rattle.header.proofs.ReadLaws.{valid-taken}
 use Rattle.header.proofs.AsRead.{read-valid, read-update, read-fields}
 use Rattle.header.proofs.Built.{built-valid, built-update, built-fields}
@@ -115,4 +115,4 @@ completes w set (over _ o) pre unaltered reported = absurd (true≢false (sym re
 
 pub opens : (g : Geometry) (last : ℕ) (t : Tape) (h : List ℕ) → lastOf g ≡ address last → Cartridge last t → Newest last t h → reading.openOf g h .number ≡ 0
 unfolding reading.openOf
-opens g last t h e cart n = ap (λ (c : Checked). reading.openFor c .number) (valid-taken g h e (cart .long (n .address) h (n .here .reads)) (n .here .valid))
+opens g last t h e cart n = ap (λ (c : CheckedSaid). reading.openFor c .number) (valid-taken g h e (cart .long (n .address) h (n .here .reads)) (n .here .valid))

@@ -61,9 +61,9 @@ HeaderSent c ReadPosition f = Unit {0}
 HeaderSent c (Read a) f = Unit {0}
 
 pub data Copying (s : Recording) (d : Drive) : Flight → Type 0 where
-  at-place : s .exchange .awaiting ≡ false → s .exchange .again ≡ false → CopyLink (s .copies) d 0 → Copying s d recordings.none
-  to-seek : s .exchange .awaiting ≡ false → s .exchange .again ≡ false → CopySeek (s .copies) d → Copying s d recordings.none
-  again : s .exchange .awaiting ≡ false → s .exchange .again ≡ true → CopyAsks (s .copies) d (s .exchange .command) → Copying s d recordings.none
+  at-place : s .exchange .awaiting ≡ false → s .exchange .again ≡ false → CopyLink (s .copies) d 0 → Copying s d recordings.no-command
+  to-seek : s .exchange .awaiting ≡ false → s .exchange .again ≡ false → CopySeek (s .copies) d → Copying s d recordings.no-command
+  again : s .exchange .awaiting ≡ false → s .exchange .again ≡ true → CopyAsks (s .copies) d (s .exchange .command) → Copying s d recordings.no-command
   under-way : (c : Command) (f : List ℕ) → s .exchange .awaiting ≡ true → s .exchange .again ≡ false → s .exchange .command ≡ c → HeaderSent (s .copies) c f → CopyAsks (s .copies) d c → Copying s d (recordings.sent c f)
   replied : (r : Reply) → s .exchange .awaiting ≡ true → s .exchange .again ≡ false → CopyAnswered (s .copies) d r (s .exchange .command) → Copying s d (recordings.answered r)
 

@@ -46,7 +46,7 @@ pub data Ready (c : Copies) (d : Drive) : Type 0 where
   spoiled : c .locate ≡ true → c .outstanding ≡ 0 → d .failed ≡ true → (c .confirmed ≡ 0) ⊎ Copy (c .header) (d .tape) (nextAddress c) → Ready c d
 
 -- what a reply gives: more copies, done with them, or an end
-pub data Next (h : Header) (d : Drive) : copying.Said → Type 0 where
+pub data Next (h : Header) (d : Drive) : copying.ProgressSaid → Type 0 where
   at-place : (c : Copies) → c .header ≡ h → CountsOf c → PlacedOf c → CopyLink c d 0 → Next h d (copying.more c)
   to-seek : (c : Copies) → c .header ≡ h → CountsOf c → PlacedOf c → CopySeek c d → Next h d (copying.more c)
   through : AtRest d → Copy h (d .tape) 2995 → Next h d copying.complete
@@ -67,7 +67,7 @@ ready-kept none (spoiled t o f k) = k
 unlocated : {b : Bool} {n m : ℕ} → b ≡ false → Placed b n m
 unlocated e = record { left = λ t. clash t e; empty = λ t. clash t e }
 
-onward-next : (c : Copies) (d : Drive) → CountsOf c → Ready c d → {s : copying.Said} → view.OnwardView c s → Next (c .header) d s
+onward-next : (c : Copies) (d : Drive) → CountsOf c → Ready c d → {s : copying.ProgressSaid} → view.OnwardView c s → Next (c .header) d s
 onward-next c d n (placed l) (view.unfinished x) = at-place c refl n (unlocated (l .placed)) l
 onward-next c d n (spoiled t o f k) (view.unfinished x) =
     to-seek c refl n (record { left = λ _. ⊎-elim (λ h. h) (λ h. omega arith) x; empty = λ _. o }) (record { due = t; rests = stopped f; kept = k })
@@ -122,7 +122,7 @@ module _ (c : Copies) (d : Drive) (n : CountsOf c) where
   pub counted-next : (f : ℕ) → length (d .buffer) ≤ f → CopyLink c d 0 → Next (c .header) d (countedOf c f)
   unfolding countedOf
   counted-next f bound l =
-      pick-by (λ (s : copying.Said). Next (c .header) d s) (ltb (c .outstanding) f) (λ _. ends 8)
+      pick-by (λ (s : copying.ProgressSaid). Next (c .header) d s) (ltb (c .outstanding) f) (λ _. ends 8)
       (λ e.
       let few = ltb-false (c .outstanding) f e in
       let m = c .outstanding - f in
@@ -141,8 +141,8 @@ module _ (c : Copies) (d : Drive) (n : CountsOf c) where
   pub failed-next : (p : ℕ) → p ≡ d .at → d .failed ≡ true → CopyLink c d 0 → Next (c .header) d (failedOf c p)
   unfolding failedOf
   failed-next p at f l =
-      pick-by (λ (s : copying.Said). Next (c .header) d s) (ltb p (oldestAddress c)) (λ _. ends 8)
-      (λ x. pick-by (λ (s : copying.Said). Next (c .header) d s) (leb (nextAddress c) p) (λ _. ends 8)
+      pick-by (λ (s : copying.ProgressSaid). Next (c .header) d s) (ltb p (oldestAddress c)) (λ _. ends 8)
+      (λ x. pick-by (λ (s : copying.ProgressSaid). Next (c .header) d s) (leb (nextAddress c) p) (λ _. ends 8)
       (λ y.
       let low = ltb-false p (oldestAddress c) x in
       let high = leb-false (nextAddress c) p y in

@@ -10,7 +10,7 @@ use borrow.Author.Tests.{ltb-true, ltb-false, leb-false, eqb-false}
 use lib.Dec.{eqb, ltb, leb}
 use lib.ListN.{length}
 use Rattle.geometry.specs.Cartridge.{isUser, pastReserved}
-use Rattle.geometry.specs.Said as said
+use Rattle.geometry.specs.Place as place
 use Rattle.geometry.specs.WriteError.{stepOf}
 use Rattle.geometry.specs.declared.address.Address.{Address}
 use Rattle.geometry.proofs.PickLaws.{pick-by}
@@ -42,7 +42,7 @@ pub record Step (last : ℕ) (s : Recording) (d : Drive) (k edge : ℕ) (e : Ele
   pub held : e .outstanding ≤ e .pending
   pub room : e .limit .0 ≤ last + 1
   pub marks-is : e .marks ≡ s .elements .marks
-  pub writing : Writing last (withElements (answeredOf s) e) d k tried recordings.none
+  pub writing : Writing last (withElements (answeredOf s) e) d k tried recordings.no-command
   -- where the last was confirmed, all are on tape, and it lies before the next address
   pub all : 0 < s .elements .pending → e .pending ≡ 0 → (k ≡ e .first .0) × AtRest d × (isUser last (e .next .0 - 1) ≡ true)
 
@@ -186,7 +186,7 @@ module _ (last : ℕ) (s : Recording) (d : Drive) (k edge : ℕ) (small : last +
         (λ y.
         let above = ltb-false p (baseOf (s .elements)) x in
         let below = leb-false (s .elements .next .0) p y in
-        pick-by (λ (z : said.Said). Reached last s d k edge (failedTo (s .elements) p z)) (ltb (pastReserved (p + stepOf skip)) (s .elements .limit .0)) (λ fits. relocated above below (ltb-true _ _ fits)) (λ _. full (s .elements))))
+        pick-by (λ (z : place.PlaceSaid). Reached last s d k edge (failedTo (s .elements) p z)) (ltb (pastReserved (p + stepOf skip)) (s .elements .limit .0)) (λ fits. relocated above below (ltb-true _ _ fits)) (λ _. full (s .elements))))
       where
         relocated : baseOf (s .elements) ≤ p → p < s .elements .next .0 → pastReserved (p + stepOf skip) < s .elements .limit .0
             → Reached last s d k edge (kept (relocatedOf (confirmedOf (s .elements) (p - baseOf (s .elements))) (counting.at (pastReserved (p + stepOf skip)))))

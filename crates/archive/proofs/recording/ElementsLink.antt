@@ -62,8 +62,8 @@ pub data Answered (last : ℕ) (h : Held) (pending : ℕ) (d : Drive) (k edge : 
   waits : (c : Command) → Means r busy → Asks last h pending d k edge c → Answered last h pending d k edge r c
 
 pub data Writing (last : ℕ) (s : Recording) (d : Drive) (k edge : ℕ) : Flight → Type 0 where
-  at-place : s .exchange .awaiting ≡ false → s .exchange .again ≡ false → Linked last (heldOf s) d k edge 0 → Writing last s d k edge recordings.none
-  to-locate : s .exchange .awaiting ≡ false → s .exchange .again ≡ false → s .elements .relocate ≡ true → Moving last (heldOf s) d k edge (s .elements .target .0) → Writing last s d k edge recordings.none
-  again : s .exchange .awaiting ≡ false → s .exchange .again ≡ true → Asks last (heldOf s) (s .elements .pending) d k edge (s .exchange .command) → Writing last s d k edge recordings.none
+  at-place : s .exchange .awaiting ≡ false → s .exchange .again ≡ false → Linked last (heldOf s) d k edge 0 → Writing last s d k edge recordings.no-command
+  to-locate : s .exchange .awaiting ≡ false → s .exchange .again ≡ false → s .elements .relocate ≡ true → Moving last (heldOf s) d k edge (s .elements .target .0) → Writing last s d k edge recordings.no-command
+  again : s .exchange .awaiting ≡ false → s .exchange .again ≡ true → Asks last (heldOf s) (s .elements .pending) d k edge (s .exchange .command) → Writing last s d k edge recordings.no-command
   under-way : (c : Command) (f : List ℕ) → s .exchange .awaiting ≡ true → s .exchange .again ≡ false → s .exchange .command ≡ c → Asks last (heldOf s) (s .elements .pending) d k edge c → Writing last s d k edge (recordings.sent c f)
   replied : (r : Reply) → s .exchange .awaiting ≡ true → s .exchange .again ≡ false → Answered last (heldOf s) (s .elements .pending) d k edge r (s .exchange .command) → Writing last s d k edge (recordings.answered r)

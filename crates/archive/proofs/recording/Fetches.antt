@@ -185,7 +185,7 @@ module _ {last pass : ℕ} {premises : Type 0} (w : World) (lent frame : List �
         (goes-out c (l .edge) (course (record { counts = agree .counts; placed = agree .placed; copying = copies.under-way c (frameFor c (w .session) lent frame) refl refl refl (header-sent c) asked }))
         (λ p u same. content-out c p u same (l .content p u .seen) (λ _ _ el _. header-not-element (w .session) st el)))
 
-    asks-header : {x : Sent} → PlacedOf (w .session .copies) → command.CommandView (w .session .setup .depth) (w .session .copies) x → w .session .exchange .again ≡ false → Copying (w .session) (w .drive) recordings.none → CopyAsks (w .session .copies) (w .drive) (commandFor x)
+    asks-header : {x : Sent} → PlacedOf (w .session .copies) → command.CommandView (w .session .setup .depth) (w .session .copies) x → w .session .exchange .again ≡ false → Copying (w .session) (w .drive) recordings.no-command → CopyAsks (w .session .copies) (w .drive) (commandFor x)
     asks-header pl (command.locating t) ag (copies.at-place a g x) = clash t (x .placed)
     asks-header pl (command.locating t) ag (copies.to-seek a g x) = copies.seeks (counting.at (copying.headerAt (w .session .copies))) (header-from-first (w .session .copies .group) (w .session .copies .copy) (pl .left t)) x
     asks-header pl (command.locating t) ag (copies.again a g x) = clash g ag
@@ -196,7 +196,7 @@ module _ {last pass : ℕ} {premises : Type 0} (w : World) (lent frame : List �
     asks-header pl (command.asking f y) ag (copies.to-seek a g x) = clash (x .due) f
     asks-header pl (command.asking f y) ag (copies.again a g x) = clash g ag
 
-    again-header : w .session .exchange .again ≡ true → Copying (w .session) (w .drive) recordings.none → CopyAsks (w .session .copies) (w .drive) (w .session .exchange .command)
+    again-header : w .session .exchange .again ≡ true → Copying (w .session) (w .drive) recordings.no-command → CopyAsks (w .session .copies) (w .drive) (w .session .exchange .command)
     again-header ag (copies.at-place a g x) = clash ag g
     again-header ag (copies.to-seek a g x) = clash ag g
     again-header ag (copies.again a g x) = x
@@ -234,7 +234,7 @@ module _ {last pass : ℕ} {premises : Type 0} (w : World) (lent frame : List �
         });
       }
 
-  out-element : {x : Sent} → rule.DueView (w .session .setup .depth) (w .session .elements) (due.send x) → w .session .exchange .again ≡ false → Writing last (w .session) (w .drive) (l .k) (l .edge) recordings.none → Out (commandFor x)
+  out-element : {x : Sent} → rule.DueView (w .session .setup .depth) (w .session .elements) (due.send x) → w .session .exchange .again ≡ false → Writing last (w .session) (w .drive) (l .k) (l .edge) recordings.no-command → Out (commandFor x)
   out-element (rule.relocating r) ag (elements.at-place a g x) = clash r (x .placed)
   out-element (rule.relocating r) ag (elements.to-locate a g q x) = record { edge = l .edge; further = le-refl (l .edge); asks = elements.moves (w .session .elements .target) x }
   out-element (rule.relocating r) ag (elements.again a g x) = clash g ag
@@ -252,7 +252,7 @@ module _ {last pass : ℕ} {premises : Type 0} (w : World) (lent frame : List �
   out-element (rule.writing r p room below off) ag (elements.to-locate a g q x) = clash q r
   out-element (rule.writing r p room below off) ag (elements.again a g x) = clash g ag
 
-  again-element : w .session .exchange .again ≡ true → Writing last (w .session) (w .drive) (l .k) (l .edge) recordings.none → Out (w .session .exchange .command)
+  again-element : w .session .exchange .again ≡ true → Writing last (w .session) (w .drive) (l .k) (l .edge) recordings.no-command → Out (w .session .exchange .command)
   again-element ag (elements.at-place a g x) = clash ag g
   again-element ag (elements.to-locate a g q x) = clash ag g
   again-element ag (elements.again a g x) = record { edge = l .edge; further = le-refl (l .edge); asks = x }
@@ -291,21 +291,21 @@ module _ {last pass : ℕ} {premises : Type 0} (w : World) (lent frame : List �
 
 -- ---- no reply is awaited, so no command is in flight
 
-copying-idle : {s : Recording} {d : Drive} {f : Flight} → s .exchange .awaiting ≡ false → Copying s d f → Copying s d recordings.none
+copying-idle : {s : Recording} {d : Drive} {f : Flight} → s .exchange .awaiting ≡ false → Copying s d f → Copying s d recordings.no-command
 copying-idle a (copies.at-place b g x) = copies.at-place b g x
 copying-idle a (copies.to-seek b g x) = copies.to-seek b g x
 copying-idle a (copies.again b g x) = copies.again b g x
 copying-idle a (copies.under-way c f b g e h x) = clash b a
 copying-idle a (copies.replied r b g x) = clash b a
 
-writing-idle : {last : ℕ} {s : Recording} {d : Drive} {k edge : ℕ} {f : Flight} → s .exchange .awaiting ≡ false → Writing last s d k edge f → Writing last s d k edge recordings.none × (f ≡ recordings.none)
+writing-idle : {last : ℕ} {s : Recording} {d : Drive} {k edge : ℕ} {f : Flight} → s .exchange .awaiting ≡ false → Writing last s d k edge f → Writing last s d k edge recordings.no-command × (f ≡ recordings.no-command)
 writing-idle a (elements.at-place b g x) = (elements.at-place b g x, refl)
 writing-idle a (elements.to-locate b g r x) = (elements.to-locate b g r x, refl)
 writing-idle a (elements.again b g x) = (elements.again b g x, refl)
 writing-idle a (elements.under-way c f b g e x) = clash b a
 writing-idle a (elements.replied r b g x) = clash b a
 
-writing-safe : {last : ℕ} {s : Recording} {d : Drive} {k edge : ℕ} → s .exchange .again ≡ false → Writing last s d k edge recordings.none → Safe last d
+writing-safe : {last : ℕ} {s : Recording} {d : Drive} {k edge : ℕ} → s .exchange .again ≡ false → Writing last s d k edge recordings.no-command → Safe last d
 writing-safe ag (elements.at-place b g x) = link-safe x
 writing-safe ag (elements.to-locate b g r x) = rests-safe (x .rests)
 writing-safe ag (elements.again b g x) = clash g ag

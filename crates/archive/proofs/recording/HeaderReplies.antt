@@ -54,7 +54,7 @@ module _ (s : Recording) (r : Reply) (going : s .ended ≡ false) (asked : s .ex
   asked-so = neither _ _ going (ap not asked)
 
 abbrev pub repliedWorld : World → Recording → World
-repliedWorld w s = record { session = s; window = w .window; drive = w .drive; flight = recordings.none; notes = w .notes }
+repliedWorld w s = record { session = s; window = w .window; drive = w .drive; flight = recordings.no-command; notes = w .notes }
 
 -- what the window is for
 record Sized : Type 0 where
@@ -152,7 +152,7 @@ module _ {last pass : ℕ} {premises : Type 0} (w : World) (r : Reply) (set : Se
               };
         }
 
-    opening-next : {s : copying.Said} → Next (w .session .copies .header) (w .drive) s → Safe last (w .drive) → After (headerReplyBy s (w .session))
+    opening-next : {s : copying.ProgressSaid} → Next (w .session .copies .header) (w .drive) s → Safe last (w .drive) → After (headerReplyBy s (w .session))
     opening-next (next.at-place c e n p x) safe =
         live wr (more-live (inl q) again asked (withCopies (answeredOf (w .session)) c) (l .going) refl refl refl e (inv.opening q t (record { counts = n; placed = p; copying = copies.at-place refl again x })))
     opening-next (next.to-seek c e n p x) safe =
@@ -192,7 +192,7 @@ module _ {last pass : ℕ} {premises : Type 0} (w : World) (r : Reply) (set : Se
               };
         }
 
-    closing-next : {s : copying.Said} → Next (w .session .copies .header) (w .drive) s → Safe last (w .drive) → After (headerReplyBy s (w .session))
+    closing-next : {s : copying.ProgressSaid} → Next (w .session .copies .header) (w .drive) s → Safe last (w .drive) → After (headerReplyBy s (w .session))
     closing-next (next.at-place c e n p x) safe =
         live wr (more-live (inr q) again asked (withCopies (answeredOf (w .session)) c) (l .going) refl refl refl e (inv.closing q closed k0 e0 (record { counts = n; placed = p; copying = copies.at-place refl again x })))
     closing-next (next.to-seek c e n p x) safe =
@@ -205,9 +205,9 @@ module _ {last pass : ℕ} {premises : Type 0} (w : World) (r : Reply) (set : Se
   -- ---- by what the drive gave
 
   module _ (st : HeaderStage (w .session)) (again : w .session .exchange .again ≡ false) (asked : w .session .exchange .awaiting ≡ true) (agree : CopiesAgree (w .session) (w .drive) (w .flight))
-      (onward : (s : copying.Said) → Next (w .session .copies .header) (w .drive) s → Safe last (w .drive) → After (headerReplyBy s (w .session)))
+      (onward : (s : copying.ProgressSaid) → Next (w .session .copies .header) (w .drive) s → Safe last (w .drive) → After (headerReplyBy s (w .session)))
       (repeats : CopyAsks (w .session .copies) (w .drive) (w .session .exchange .command) → After (accepting (repeatedOf (w .session)))) where
-    by : {s : copying.Said} (n : ℕ) → caseOf (w .session) r ≡ n → answerOf (w .session) n r ≡ headerReplyBy s (w .session) → Next (w .session .copies .header) (w .drive) s → Safe last (w .drive) → After (replyOf (w .session) r)
+    by : {s : copying.ProgressSaid} (n : ℕ) → caseOf (w .session) r ≡ n → answerOf (w .session) n r ≡ headerReplyBy s (w .session) → Next (w .session .copies .header) (w .drive) s → Safe last (w .drive) → After (replyOf (w .session) r)
     by {s} n e a x safe = subst After (sym (reply-so (w .session) r (asked-so (w .session) r (l .going) asked) e ∙ a)) (onward s x safe)
 
     repeated : {c : Command} (n : ℕ) → w .session .exchange .command ≡ c → caseOf (w .session) r ≡ n → answerOf (w .session) n r ≡ accepting (repeatedOf (w .session)) → CopyAsks (w .session .copies) (w .drive) c → After (replyOf (w .session) r)

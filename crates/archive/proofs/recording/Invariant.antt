@@ -79,7 +79,7 @@ pub data Course (last : ℕ) (w : World) (k edge : ℕ) : Type 0 where
   closing : w .session .stage ≡ S.ClosingHeaders → w .session .closed ≡ true → k ≡ length (w .notes .accepted) + 1 → edge ≡ last + 1
       → CopiesAgree (w .session) (w .drive) (w .flight) → Course last w k edge
   finished : w .session .stage ≡ S.Done → w .session .closed ≡ true → k ≡ length (w .notes .accepted) + 1 → edge ≡ last + 1
-      → w .flight ≡ recordings.none → w .session .exchange .awaiting ≡ false → w .session .exchange .again ≡ false → AtRest (w .drive)
+      → w .flight ≡ recordings.no-command → w .session .exchange .awaiting ≡ false → w .session .exchange .again ≡ false → AtRest (w .drive)
       → Copy (w .session .copies .header) (w .drive .tape) (last + 1) → Course last w k edge
 
 -- ---- tape and window, under the premises
@@ -126,7 +126,7 @@ pub record Rejecting (last : ℕ) (w : World) : Type 0 where
 -- the session has ended
 pub record Over (last : ℕ) (w : World) : Type 0 where
   pub ended : w .session .ended ≡ true
-  pub none : w .flight ≡ recordings.none
+  pub none : w .flight ≡ recordings.no-command
   pub safe : Safe last (w .drive)
   pub unreported : w .notes .reported ≡ false
 

@@ -27,28 +27,28 @@ unreported {w = w} l n = go (w .notes .reported) refl
 
 -- a command in flight is awaited
 
-copying-awaits : {s : Recording} {d : Drive} {f : Flight} → Copying s d f → (f ≡ recordings.none → ⊥) → s .exchange .awaiting ≡ true
+copying-awaits : {s : Recording} {d : Drive} {f : Flight} → Copying s d f → (f ≡ recordings.no-command → ⊥) → s .exchange .awaiting ≡ true
 copying-awaits (copies.at-place _ _ _) h = absurd (h refl)
 copying-awaits (copies.to-seek _ _ _) h = absurd (h refl)
 copying-awaits (copies.again _ _ _) h = absurd (h refl)
 copying-awaits (copies.under-way _ _ a _ _ _ _) h = a
 copying-awaits (copies.replied _ a _ _) h = a
 
-writing-awaits : {last : ℕ} {s : Recording} {d : Drive} {k edge : ℕ} {f : Flight} → Writing last s d k edge f → (f ≡ recordings.none → ⊥) → s .exchange .awaiting ≡ true
+writing-awaits : {last : ℕ} {s : Recording} {d : Drive} {k edge : ℕ} {f : Flight} → Writing last s d k edge f → (f ≡ recordings.no-command → ⊥) → s .exchange .awaiting ≡ true
 writing-awaits (elements.at-place _ _ _) h = absurd (h refl)
 writing-awaits (elements.to-locate _ _ _ _) h = absurd (h refl)
 writing-awaits (elements.again _ _ _) h = absurd (h refl)
 writing-awaits (elements.under-way _ _ a _ _ _) h = a
 writing-awaits (elements.replied _ a _ _) h = a
 
-course-awaits : {last : ℕ} {w : World} {k edge : ℕ} → Course last w k edge → (w .flight ≡ recordings.none → ⊥) → w .session .exchange .awaiting ≡ true
+course-awaits : {last : ℕ} {w : World} {k edge : ℕ} → Course last w k edge → (w .flight ≡ recordings.no-command → ⊥) → w .session .exchange .awaiting ≡ true
 course-awaits (invariant.opening _ _ a) h = copying-awaits (a .copying) h
 course-awaits (invariant.writing _ a) h = writing-awaits a h
 course-awaits (invariant.ending _ _ _ a) h = writing-awaits a h
 course-awaits (invariant.closing _ _ _ _ a) h = copying-awaits (a .copying) h
 course-awaits (invariant.finished _ _ _ _ none _ _ _ _) h = absurd (h none)
 
-pub flight-awaits : {last pass : ℕ} {premises : Type 0} {w : World} → Inv last pass premises w → (w .flight ≡ recordings.none → ⊥) → w .session .exchange .awaiting ≡ true
+pub flight-awaits : {last pass : ℕ} {premises : Type 0} {w : World} → Inv last pass premises w → (w .flight ≡ recordings.no-command → ⊥) → w .session .exchange .awaiting ≡ true
 flight-awaits (live _ l) h = course-awaits (l .course) h
 flight-awaits (rejecting _ d) h = d .awaits
 flight-awaits (over _ o) h = absurd (h (o .none))

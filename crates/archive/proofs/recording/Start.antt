@@ -9,7 +9,7 @@ use native.Mathlib.Omega.{arith}
 use borrow.Author.Tests.{ltb-false, leb-false}
 use lib.Dec.{eqb, ltb, leb}
 use lib.ListN.{length-replicate}
-use Rattle.geometry.specs.Said.{Said, address, refused}
+use Rattle.geometry.specs.Place.{PlaceSaid, address, refused}
 use Rattle.geometry.specs.Cartridge.{lastOf, isUser}
 use Rattle.geometry.specs.declared.cartridge.Geometry.{Geometry}
 use Rattle.geometry.proofs.PickLaws.{pick-by}
@@ -19,7 +19,7 @@ use Rattle.geometry.proofs.Impossible.{never}
 use Rattle.frame.specs.declared.header.Header.{Header}
 use Rattle.header.specs.Valid.{validHeader, headerOf}
 use Rattle.header.specs.Read as checked
-use Rattle.header.specs.Read.{Checked, readHeader}
+use Rattle.header.specs.Read.{CheckedSaid, readHeader}
 use Rattle.header.proofs.Facts.{valid-last}
 use Rattle.header.proofs.ReadLaws.{taken-valid, refused-number}
 use Rattle.archive.specs.Conduct.{Drive, AtRest}
@@ -27,7 +27,8 @@ use Rattle.archive.specs.Tape.{Tape, Cartridge}
 use Rattle.copies.proofs.Counts.{start-counts}
 use Rattle.copies.proofs.DueAddress.{start-placed}
 use Rattle.recording.specs.Session.{Result, accepting}
-use Rattle.recording.specs.Open.{fresh, openRefused, openWith, isExhausted, renewed, openingHeader, openFor, openOf, openBlankFor, openBlankOf}
+use Rattle.copies.specs.Carried.{isExhausted, renewed, openingHeader}
+use Rattle.recording.specs.Open.{fresh, openRefused, openWith, openFor, openOf, openBlankFor, openBlankOf}
 use Rattle.recording.specs.declared.session.Recording.{Recording}
 use Rattle.recording.specs.declared.session.Stage.the-variants as S
 use Rattle.archive.specs.Recordings as recordings
@@ -81,7 +82,7 @@ module _ (g : Geometry) (last depth blocks : ℕ) (s : Recording) (e : lastOf g 
       With : Header → Type 0
       With x = (fresh depth (blocks - 1) (renewed x) ≡ s) × (blocks ≤ 64) × (isExhausted x ≡ false)
 
-      go : (c : Checked) → readHeader g h ≡ c → openFor c depth blocks ≡ accepting s → OnHeader h
+      go : (c : CheckedSaid) → readHeader g h ≡ c → openFor c depth blocks ≡ accepting s → OnHeader h
       go (checked.valid fields) r q =
           let taken = taken-valid g h e r in
           record { valid = taken .is-valid; with = subst With (taken .told) (opened-with depth blocks (isExhausted fields) (renewed fields) s q) }
@@ -111,7 +112,7 @@ module _ (g : Geometry) (last depth blocks : ℕ) (s : Recording) (e : lastOf g 
 
   blank-with : openBlankOf g depth blocks ≡ accepting s → (fresh depth (blocks - 1) (openingHeader last 1 0) ≡ s) × (blocks ≤ 64) × (false ≡ false)
   unfolding openBlankOf
-  blank-with q = opened-with depth blocks false (openingHeader last 1 0) s (sym (ap (λ (y : Said). openBlankFor y depth blocks) e) ∙ q)
+  blank-with q = opened-with depth blocks false (openingHeader last 1 0) s (sym (ap (λ (y : PlaceSaid). openBlankFor y depth blocks) e) ∙ q)
 
   started-none : openBlankOf g depth blocks ≡ accepting s → Started last s
   started-none q =
@@ -184,7 +185,7 @@ not-element (inr a) = never (cc)
 begins-fresh : (last : ℕ) (d : Drive) (window : List ℕ) (s : Recording) (x : Started last s) (premises : Type 0) → Setting last (s .copies .header .pass) → d .written ≡ [] → AtRest d
     → (premises → Cartridge last (d .tape) × NoneBears last (d .tape) (s .copies .header .pass) × Below last (s .copies .header) (d .tape)) → Inv last (s .copies .header .pass) premises (recordings.started s window d)
 begins-fresh last d window s x premises set unwritten rest pre =
-    live (subst (demand.Within last) (sym unwritten) demand.none) (record {
+    live (subst (demand.Within last) (sym unwritten) demand.nothing-written) (record {
       k = 0;
       edge = 10;
       going = ap (λ (r : Recording). r .ended) (sym (x .is));

@@ -21,7 +21,7 @@ use Rattle.recording.specs.Fetch.{Fetching, awaits, frameFor, sending, answerin
 use Rattle.recording.specs.Reply.{replyOf}
 use Rattle.recording.specs.declared.session.Recording.{Recording}
 use Rattle.recording.proofs.FetchView.{fetch-decided}
-use Rattle.archive.specs.Recordings.{Element, block, filemark, Flight, none, answered, World, Call, accept-block, accept-filemark, close, fetch, reply, refusal, returned, fetchNumber, flightAfter, reportedAfter, Calls, refuses, accepts-block, accepts-filemark, closes, fetches, replies, acts, answers, Runs, stop, call, drive, windowAfter, sent, acceptedAfter}
+use Rattle.archive.specs.Recordings.{Element, block, filemark, Flight, no-command, answered, World, Call, accept-block, accept-filemark, close, fetch, reply, refusal, returned, fetchNumber, flightAfter, reportedAfter, Calls, refuses, accepts-block, accepts-filemark, closes, fetches, replies, acts, answers, Runs, stop, call, drive, windowAfter, sent, acceptedAfter}
 use Rattle.archive.specs.Sample.{firstOpening, frame}
 
 pub framed : length frame ≡ 33280
@@ -40,18 +40,18 @@ module _ (window : List ℕ) (accepted : List Element) where
 
   -- between two commands
   abbrev pub between : Recording → Drive → World
-  between s d = world s d none
+  between s d = world s d no-command
 
   -- the close has reported done
   abbrev pub reported : Recording → Drive → World
-  reported s d = record { session = s; window = window; drive = d; flight = none; notes = record { accepted = accepted; unaltered = true; reported = true } }
+  reported s d = record { session = s; window = window; drive = d; flight = no-command; notes = record { accepted = accepted; unaltered = true; reported = true } }
 
   abbrev fetchedWorld : Drive → Bool → Fetching → World
   fetchedWorld d same x = record {
     session = x .session;
     window = window;
     drive = d;
-    flight = flightAfter (x .said) none (x .frame);
+    flight = flightAfter (x .said) no-command (x .frame);
     notes = record { accepted = accepted; unaltered = same; reported = reportedAfter (x .said) false };
   }
 
@@ -70,7 +70,7 @@ module _ (window : List ℕ) (accepted : List Element) (s : Recording) (d : Driv
 
   -- the world after a block is stored
   abbrev storedWorld : List ℕ → Bool → Stored → World
-  storedWorld b same x = record { session = x .result .session; window = x .window; drive = d; flight = none; notes = record { accepted = acceptedAfter (x .result .number) accepted (block b); unaltered = same; reported = false } }
+  storedWorld b same x = record { session = x .result .session; window = x .window; drive = d; flight = no-command; notes = record { accepted = acceptedAfter (x .result .number) accepted (block b); unaltered = same; reported = false } }
 
 module _ (window : List ℕ) (accepted : List Element) (s : Recording) (d : Drive) {cs : List Call} {u : World} where
   -- what the drive does by itself

@@ -42,7 +42,7 @@ use Rattle.archive.proofs.sample.Headers.{at}
 -- ---- one call, or one exchange
 
 -- a command that is due, what its reply is answered, and the session after it
-pub record Step (s : Reading) (c : Command) (r : Reply) (lent : List ℕ) (said : reply.Said) (next : Reading) : Type 0 where
+pub record Step (s : Reading) (c : Command) (r : Reply) (lent : List ℕ) (said : reply.DeliverySaid) (next : Reading) : Type 0 where
   pub fetched : fetch.fetchOf s ≡ fetch.sending s c
   pub replied : reply.replyOf (fetch.awaits s c) r lent ≡ record { session = next; said = said }
   pub taken : replyNumber said ≡ 0
@@ -55,7 +55,7 @@ module _ (place : ℕ) (deliveries : List Element) (n : ℕ) where
 
   -- between two commands
   abbrev pub between : Reading → World
-  between s = world s readings.none
+  between s = world s readings.no-command
 
 module _ (t : Tape) (deliveries : List Element) (n : ℕ) {cs : List Call} {u : World} where
   command-served : {place to : ℕ} {c : Command} {r : Reply} {given : Option (List ℕ)} (s : Reading) → fetch.fetchOf s ≡ fetch.sending s c → Serves t place c r given to
@@ -66,13 +66,13 @@ module _ (t : Tape) (deliveries : List Element) (n : ℕ) {cs : List Call} {u : 
       let p : afterFetching w (fetch.fetchOf s) ≡ world place deliveries n (fetch.awaits s c) (sent (commandBy (commandCode c) (commandAddress c))) = ap (afterFetching w) fetched in
       call (subst (λ (x : World). Calls w fetching x) p (fetches (inl (ap (λ (x : fetch.Fetching). fetchNumber (x .said)) fetched)))) (drive (serves c r given to (ap sent (command-by c)) serve) rest)
 
-  reply-taken : {place : ℕ} {r : Reply} {given : Option (List ℕ)} {lent : List ℕ} {said : reply.Said} {next : Reading} (s : Reading)
+  reply-taken : {place : ℕ} {r : Reply} {given : Option (List ℕ)} {lent : List ℕ} {said : reply.DeliverySaid} {next : Reading} (s : Reading)
       → LentWith given lent → reply.replyOf s r lent ≡ record { session = next; said = said } → replyNumber said ≡ 0 → endAfter said (s .finished) ≡ next .finished
       → Runs t (between place (deliveries ++ delivered said lent) (repliesAfter r n) next) cs u
       → Runs t (world place deliveries n s (answered r given)) (replying r lent ∷ cs) u
   reply-taken {place} {r} {given} {lent} {said} {next} s given-is replied small ends rest =
       let v : World = world place deliveries n s (answered r given) in
-      let after : ℕ → Bool → World = λ k end. record { session = next; at = place; flight = readings.none; notes = record { deliveries = deliveries ++ delivered said lent; replies = repliesAfter r n; refused = refusedAfter k 0; end = end } } in
+      let after : ℕ → Bool → World = λ k end. record { session = next; at = place; flight = readings.no-command; notes = record { deliveries = deliveries ++ delivered said lent; replies = repliesAfter r n; refused = refusedAfter k 0; end = end } } in
       let p : afterTaking v r lent (reply.replyOf s r lent) ≡ after (replyNumber said) (endAfter said (s .finished)) = ap (afterTaking v r lent) replied in
       let q : after (replyNumber said) (endAfter said (s .finished)) ≡ between place (deliveries ++ delivered said lent) (repliesAfter r n) next = ap (λ (k : ℕ). after k (endAfter said (s .finished))) small ∙ ap (λ (end : Bool). after 0 end) ends in
       call (subst (λ (x : World). Calls v (replying r lent) x) (p ∙ q) (replies r given lent refl given-is (inl (ap (λ (x : reply.Taking). replyNumber (x .said)) replied ∙ small)))) rest
@@ -87,7 +87,7 @@ module _ (t : Tape) (deliveries : List Element) (n : ℕ) {cs : List Call} {u : 
       call (subst (λ (x : Reading). Calls v (replying r lent) (withSession v x)) (ap (λ (x : reply.Taking). x .session) refused) (refuses (replying r lent) (omega (arith, one)) (omega (arith, one)))) rest
 
 module _ (t : Tape) (deliveries : List Element) (n : ℕ) {cs : List Call} {u : World} where
-  exchange : {place to : ℕ} {c : Command} {r : Reply} {given : Option (List ℕ)} {lent : List ℕ} {said : reply.Said} {next : Reading} (s : Reading)
+  exchange : {place to : ℕ} {c : Command} {r : Reply} {given : Option (List ℕ)} {lent : List ℕ} {said : reply.DeliverySaid} {next : Reading} (s : Reading)
       → Step s c r lent said next → Serves t place c r given to → LentWith given lent
       → Runs t (between to (deliveries ++ delivered said lent) (repliesAfter r n) next) cs u
       → Runs t (between place deliveries n s) (fetching ∷ replying r lent ∷ cs) u
@@ -135,7 +135,7 @@ module _ (pass : ℕ) (c : Command) (a expected : ℕ) (low : ltb 11999 a ≡ fa
   unfolding fetch.fetchOf fetch.commandOf
   read-fetched user = rw (low, user)
 
-  frame-replied : (clean : Bool) (f : List ℕ) → length f ≡ 33280 → (j : judgement.Judged) → judgement.judgeFrame (telling 11999 pass) (record { 0 = expected }) f ≡ j → reply.replyOf reading (bringing clean) f ≡ reply.judgedBy j reading
+  frame-replied : (clean : Bool) (f : List ℕ) → length f ≡ 33280 → (j : judgement.JudgementSaid) → judgement.judgeFrame (telling 11999 pass) (record { 0 = expected }) f ≡ j → reply.replyOf reading (bringing clean) f ≡ reply.judgedBy j reading
   unfolding reply.replyOf reply.answerOf reply.judgedOf meaningIn
   frame-replied true f long j judged = rw (eq-eqb (length f) 33280 long, judged)
   frame-replied false f long j judged = rw (eq-eqb (length f) 33280 long, judged)
@@ -153,7 +153,7 @@ unfolding meaningIn
 brought true = inl refl
 brought false = inr refl
 
-judged-ends : (j : judgement.Judged) (s : Reading) → endAfter (reply.judgedBy j s .said) (s .finished) ≡ reply.judgedBy j s .session .finished
+judged-ends : (j : judgement.JudgementSaid) (s : Reading) → endAfter (reply.judgedBy j s .said) (s .finished) ≡ reply.judgedBy j s .session .finished
 judged-ends judgement.skipped s = refl
 judged-ends (judgement.refused m) s = refl
 judged-ends judgement.block s = refl
@@ -186,7 +186,7 @@ module _ (t : Tape) (pass : ℕ) (deliveries : List Element) (n : ℕ) (c : Comm
 
   module _ (user : eqb a 2990 ≡ false) where
     -- a frame, by its judgement
-    pub frame-read : (clean : Bool) (f : List ℕ) (j : judgement.Judged) → t a ≡ some f → length f ≡ 33280 → judgement.judgeFrame (telling 11999 pass) (record { 0 = expected }) f ≡ j
+    pub frame-read : (clean : Bool) (f : List ℕ) (j : judgement.JudgementSaid) → t a ≡ some f → length f ≡ 33280 → judgement.judgeFrame (telling 11999 pass) (record { 0 = expected }) f ≡ j
         → replyNumber (reply.judgedBy j (reading pass c a expected low) .said) ≡ 0
         → Runs t (between (a + 1) (deliveries ++ delivered (reply.judgedBy j (reading pass c a expected low) .said) f) (n + 1) (reply.judgedBy j (reading pass c a expected low) .session)) cs u
         → Runs t (between a deliveries n (before pass c a false expected false)) (fetching ∷ replying (bringing clean) f ∷ cs) u

@@ -13,7 +13,7 @@ use Rattle.frame.specs.Header.{headerFrame}
 use Rattle.frame.specs.declared.header.Header.{Header}
 use Rattle.frame.proofs.Frames.{header-length}
 use Rattle.header.specs.Valid.{validHeader}
-use Rattle.header.specs.Read.{Checked}
+use Rattle.header.specs.Read.{CheckedSaid}
 use Rattle.header.proofs.ReadLaws.{valid-taken}
 use Rattle.frame.proofs.HeaderFields.{header-pass}
 use Rattle.header.proofs.Built.{built-valid, built-fields}
@@ -27,7 +27,8 @@ use Rattle.elements.specs.Trail.{trailOf}
 use Rattle.elements.specs.Due.{dueOf}
 use Rattle.elements.specs.Answer as answer
 use Rattle.elements.specs.declared.state.Elements.{Elements}
-use Rattle.recording.specs.Open.{fresh, isExhausted, renewed, openWith, openFor, openOf}
+use Rattle.copies.specs.Carried.{isExhausted, renewed}
+use Rattle.recording.specs.Open.{fresh, openWith, openFor, openOf}
 use Rattle.recording.specs.Session.{accepting, settledOf}
 use Rattle.recording.specs.Accept.{filemarkOf, closeOf}
 use Rattle.recording.specs.Due.{decisionOf}
@@ -51,7 +52,7 @@ use Rattle.archive.proofs.Demand.{demand-3}
 pub second-opened : openOf geometry depth blocks (headerFrame firstClosing) ≡ accepting (fresh depth 0 secondOpening)
 unfolding openOf openWith
 second-opened =
-    ap (λ (c : Checked). openFor c depth blocks) (valid-taken geometry (headerFrame firstClosing) refl (header-length firstClosing) first-valid)
+    ap (λ (c : CheckedSaid). openFor c depth blocks) (valid-taken geometry (headerFrame firstClosing) refl (header-length firstClosing) first-valid)
     ∙ ap (λ (h : Header). openWith depth blocks (isExhausted h) (renewed h)) (built-fields firstClosing (lit< tt) (lit< tt) (lit< tt) (lit< tt))
 
 -- ---- the elements, by what has happened to them

@@ -34,10 +34,10 @@ reads-itself f = record { long = refl; before = λ k h. refl; behind = λ k h. r
 
 -- ---- the command of a recording, sent or answered
 
-pub none-sent : {X : Type 0} {c : Command} {f : List ℕ} → _≡_ {A = Flight} recordings.none (recordings.sent c f) → X
+pub none-sent : {X : Type 0} {c : Command} {f : List ℕ} → _≡_ {A = Flight} recordings.no-command (recordings.sent c f) → X
 none-sent e = never (cc)
 
-pub none-answered : {X : Type 0} {r : Reply} → _≡_ {A = Flight} recordings.none (recordings.answered r) → X
+pub none-answered : {X : Type 0} {r : Reply} → _≡_ {A = Flight} recordings.no-command (recordings.answered r) → X
 none-answered e = never (cc)
 
 pub answered-sent : {X : Type 0} {c : Command} {f : List ℕ} {r : Reply} → _≡_ {A = Flight} (recordings.answered r) (recordings.sent c f) → X

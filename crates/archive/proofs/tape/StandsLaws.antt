@@ -6,7 +6,7 @@ use native.Mathlib.Nat.{le-of-suc-le-suc, not-suc-le-zero}
 use lib.ListN.{length, getD}
 use Rattle.frame.specs.Sent.{ReadsAs}
 use Rattle.frame.proofs.AsSent.{data-as-sent}
-use Rattle.judgement.specs.Judgement.{Judged, skipped, judgeFrame, foundSaid}
+use Rattle.judgement.specs.Judgement.{JudgementSaid, skipped, judgeFrame, foundSaid}
 use Rattle.judgement.proofs.Facts.{FoundAs}
 use Rattle.judgement.proofs.JudgeView.{JudgeView, judge-view, found-known}
 use Rattle.judgement.proofs.JudgeLaws.{below-so}
@@ -47,7 +47,7 @@ pub stands-read : {last pass i : ℕ} {x : Item} {sent read : List ℕ} → Stan
 stands-read {last} {pass} {i} {x} s r = record { found = judged-as-sent r (telling last pass) (record { 0 = i }) ∙ s .found; carries = carries-read x r (s .carries) }
 
 pub stands-found : {last pass i : ℕ} {x : Item} {f : List ℕ} → Stands last pass x i f → FoundAs (telling last pass) (record { 0 = i }) (kindFor x) f
-stands-found {last} {pass} {i} {x} {f} s = found-known (kindFor x) (subst (λ (j : Judged). JudgeView (telling last pass) (record { 0 = i }) f j) (s .found) (judge-view (telling last pass) (record { 0 = i }) f))
+stands-found {last} {pass} {i} {x} {f} s = found-known (kindFor x) (subst (λ (j : JudgementSaid). JudgeView (telling last pass) (record { 0 = i }) f j) (s .found) (judge-view (telling last pass) (record { 0 = i }) f))
 
 pub stands-long : {last pass i : ℕ} {x : Item} {f : List ℕ} → Stands last pass x i f → length f ≡ 33280
 stands-long s = stands-found s .typed .long

@@ -1,7 +1,7 @@
 -- The length is tested, then the geometry. Assumes nothing.
 use Rattle.header.specs.Read.{readHeader}
 use Rattle.geometry.proofs.PickLaws.{pick-t, pick-f}
-use Rattle.geometry.specs.Said.{placeSaid}
+use Rattle.geometry.specs.Place.{placeSaid}
 use borrow.Author.Tests.{eq-eqb, ne-eqb}
 use mathlib.Core.Path.{ap, sym, _∙_}
 use borrow.Author.Needs.{needs}

@@ -4,7 +4,7 @@ use mathlib.Core.Path.{_∙_, sym, ap}
 use native.Mathlib.Omega.{arith}
 use borrow.Author.Tests.{lt-ltb, le-ltb, le-leb, lt-leb}
 use Rattle.geometry.proofs.PickLaws.{pick-t, pick-f}
-use Rattle.geometry.specs.Said.{placeSaid}
+use Rattle.geometry.specs.Place.{placeSaid}
 use Rattle.elements.specs.Answer.{kept, confirmedOf, relocatedOf, failedTo, failedOf}
 use Rattle.elements.specs.Elements.{baseOf}
 use Rattle.elements.proofs.state.Elements.failed.Statement.{statement}

@@ -29,7 +29,7 @@ end-requires c κs = tt
 returns : tie.Need-returns
 returns c =
     c .header-reply .ensures
-    ∙ ap (λ (p : copies.Said). headerReplyBy p (c .before .before .before .before .before .args .self)) (c .before .failed .ensures)
+    ∙ ap (λ (p : copies.ProgressSaid). headerReplyBy p (c .before .before .before .before .before .args .self)) (c .before .failed .ensures)
     ∙ sym (by-headers (c .before .before .before .before .before .args .self) _ _ (header-tags (c .before .before .before .before .before .args .self) (c .before .before .match .keys1)))
 
 returns-2 : tie.Need-returns-2

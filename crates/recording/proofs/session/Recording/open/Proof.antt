@@ -1,6 +1,6 @@
 -- A valid header is renewed; any other is refused. Assumes nothing.
 use Rattle.recording.specs.Open.{openFor, openOf}
-use Rattle.header.specs.Read.{Checked, checkedSaid}
+use Rattle.header.specs.Read.{CheckedSaid, checkedSaid}
 use mathlib.Core.Path.{ap, sym, _∙_}
 use borrow.Author.Needs.{needs}
 use Rattle.recording.proofs.session.Recording.open.Statement.{statement}
@@ -29,11 +29,11 @@ refuse-opening-requires c κs = search needs
 
 returns : tie.Need-returns
 unfolding openOf
-returns c = c .open-with .ensures ∙ rw (c .before .renew .ensures, c .before .before .is-exhausted .ensures) (ap (λ (x : Checked). openFor x (c .before .before .before .before .before .before .before .before .args .depth) (c .before .before .before .before .before .before .before .before .args .window)) (ap checkedSaid (sym (c .before .before .before .before .checked .given .1)) ∙ c .before .before .before .before .before .before .read-header .ensures))
+returns c = c .open-with .ensures ∙ rw (c .before .renew .ensures, c .before .before .is-exhausted .ensures) (ap (λ (x : CheckedSaid). openFor x (c .before .before .before .before .before .before .before .before .args .depth) (c .before .before .before .before .before .before .before .before .args .window)) (ap checkedSaid (sym (c .before .before .before .before .checked .given .1)) ∙ c .before .before .before .before .before .before .read-header .ensures))
 
 returns-2 : tie.Need-returns-2
 unfolding openOf
-returns-2 c = c .refuse-opening .ensures ∙ ap (λ (x : Checked). openFor x (c .before .before .before .before .before .before .args .depth) (c .before .before .before .before .before .before .args .window)) (ap checkedSaid (sym (c .before .before .checked2 .given .1)) ∙ c .before .before .before .before .read-header .ensures)
+returns-2 c = c .refuse-opening .ensures ∙ ap (λ (x : CheckedSaid). openFor x (c .before .before .before .before .before .before .args .depth) (c .before .before .before .before .before .before .args .window)) (ap checkedSaid (sym (c .before .before .checked2 .given .1)) ∙ c .before .before .before .before .read-header .ensures)
 
 pub open-spec : {M : Type 1} → statement M
 open-spec =

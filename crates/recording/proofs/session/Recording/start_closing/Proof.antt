@@ -15,7 +15,7 @@ start-requires c κs = tt
 
 returns : tie.Need-returns
 returns c =
-    ap (λ (k : Copies). withStage (withCopies (c .before .before .before .before .before .args .self) k) ClosingHeaders)
+    ap (λ (k : Copies). withStage (withCopies (c .before .before .before .before .before .before .before .before .before .args .self) k) ClosingHeaders)
     (c .before .before .before .start .ensures ∙ ap startOf (c .before .before .before .before .closing-header .ensures))
 
 pub start-closing-spec : {M : Type 1} → statement M

@@ -4,10 +4,10 @@ use Rattle.geometry.specs.declared.address.Place.{Place}
 use Rattle.geometry.specs.declared.address.Place.the-variants.{At, Refused}
 use Rattle.geometry.specs.Refused.{refusalNumber}
 
-pub data Said : Type 0 where
-  address : ℕ → Said
-  refused : ℕ → Said
+pub data PlaceSaid : Type 0 where
+  address : ℕ → PlaceSaid
+  refused : ℕ → PlaceSaid
 
-abbrev pub placeSaid : Place → Said
+abbrev pub placeSaid : Place → PlaceSaid
 placeSaid (At a) = address (a .0)
 placeSaid (Refused r) = refused (refusalNumber r)

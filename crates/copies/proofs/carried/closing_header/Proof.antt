@@ -1,17 +1,17 @@
--- `recording::session::Recording::closing_header` meets its contract: the address before the next, and the wrapping sum's promise. Assumes nothing.
+-- `copies::carried::closing_header` meets its contract: the address before the next, and the wrapping sum's promise. Assumes nothing.
 use Prim.Native.Nat.{_-_}
 use mathlib.Core.Path.{_≡_}
 use mathlib.Core.Logic.{⊎-elim}
 use native.Mathlib.Omega.{arith}
-use Rattle.recording.proofs.session.Recording.closing_header.Statement.{statement}
-use Rattle.recording.proofs.session.Recording.closing_header.Tie as tie
+use Rattle.copies.proofs.carried.closing_header.Statement.{statement}
+use Rattle.copies.proofs.carried.closing_header.Tie as tie
 
 wrapping-add-u32-requires : tie.Need-wrapping-add-u32-requires
 wrapping-add-u32-requires c κs = tt
 
 returns : tie.Need-returns
 returns c =
-    let before-next : c .before .before .if1 .eod ≡ c .before .before .before .before .before .before .before .before .args .self .elements .next .0 - 1 =
+    let before-next : c .before .before .if1 .eod ≡ c .before .before .before .before .args .next .0 - 1 =
     ⊎-elim (λ w. omega arith) (λ w. omega arith) (c .before .before .if1 .came) in
     rw (before-next, c .wrapping-add-u32 .ensures)
 

@@ -1,6 +1,6 @@
--- `recording::open::renew` meets its contract: by what the wrapping sums promise. Assumes nothing.
-use Rattle.recording.proofs.open.renew.Statement.{statement}
-use Rattle.recording.proofs.open.renew.Tie as tie
+-- `copies::carried::renew` meets its contract: by what the wrapping sums promise. Assumes nothing.
+use Rattle.copies.proofs.carried.renew.Statement.{statement}
+use Rattle.copies.proofs.carried.renew.Tie as tie
 
 wrapping-add-u16-requires : tie.Need-wrapping-add-u16-requires
 wrapping-add-u16-requires c κs = tt
