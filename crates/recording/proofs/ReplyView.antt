@@ -50,6 +50,10 @@ module _ (s : Recording) (c : copies.ProgressSaid) (e : answer.Step) where
   pub by-done : s .stage ≡ S.Done → stageReply s c e ≡ ending s 8
   by-done q = by q
 
+-- alike to the header copies and to the elements, alike to the session
+pub stage-alike : (s : Recording) {c d : copies.ProgressSaid} {e f : answer.Step} → c ≡ d → e ≡ f → stageReply s c e ≡ stageReply s d f
+stage-alike s p q = rw (p, q)
+
 -- ---- by the command and the meaning
 
 abbrev pub Busy : ℕ → Type 0

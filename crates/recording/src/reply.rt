@@ -3,7 +3,7 @@ ghost use mathlib.Core.Path.{_≡_};
 ghost use Rattle.copies.specs.Copies.{progressSaid};
 ghost use Rattle.elements.specs.Answer.{steppedSaid};
 ghost use Rattle.recording.specs.Session.{outcomeSaid};
-ghost use Rattle.recording.specs.Reply.{answeredOf, repeatedOf, completedOf, headerReplyBy, elementReplyBy, addressOf, locatedOf, takenOf, countedOf, failedOf, overflowedOf, replyOf};
+ghost use Rattle.recording.specs.Reply.{answeredOf, repeatedOf, completedOf, headerReplyBy, elementReplyBy, stageReply, addressOf, locatedOf, takenOf, countedOf, failedOf, overflowedOf, replyOf};
 use crate::session::Outcome;
 use crate::session::Recording;
 use crate::session::Stage;
@@ -101,20 +101,27 @@ impl Recording {
         address(c)
     }
 
+    // By stage, the reply is to the header copies, or to the elements and EOD; when all is done none is awaited.
+    fn stage_reply(self, progress: Progress, stepped: Stepped) -> Outcome
+        ensures { λ r. ⌜ outcomeSaid r ≡ stageReply self (progressSaid progress) (steppedSaid stepped) ⌝ }
+    {
+        let stage = self.stage;
+        match stage {
+            Stage::OpeningHeaders | Stage::ClosingHeaders => self.header_reply(progress),
+            Stage::Elements | Stage::Eod => self.element_reply(stepped),
+            Stage::Done => self.end(Refusal::Reply),
+        }
+    }
+
     fn located(self) -> Outcome
         ensures { λ r. ⌜ outcomeSaid r ≡ locatedOf self ⌝ }
     {
         let copies = self.copies;
         let elements = self.elements;
-        let stage = self.stage;
-        match stage {
-            Stage::OpeningHeaders | Stage::ClosingHeaders =>
-                self.header_reply(Progress::More(copies.located())),
-            Stage::Elements | Stage::Eod => self.element_reply(
-                elements.located(self.address()).keep(),
-            ),
-            Stage::Done => self.end(Refusal::Reply),
-        }
+        self.stage_reply(
+            Progress::More(copies.located()),
+            elements.located(self.address()).keep(),
+        )
     }
 
     fn taken(self) -> Outcome
@@ -122,13 +129,7 @@ impl Recording {
     {
         let copies = self.copies;
         let elements = self.elements;
-        let stage = self.stage;
-        match stage {
-            Stage::OpeningHeaders | Stage::ClosingHeaders =>
-                self.header_reply(Progress::More(copies.taken())),
-            Stage::Elements | Stage::Eod => self.element_reply(elements.taken().keep()),
-            Stage::Done => self.end(Refusal::Reply),
-        }
+        self.stage_reply(Progress::More(copies.taken()), elements.taken().keep())
     }
 
     fn counted(self, buffered: u32) -> Outcome
@@ -136,14 +137,7 @@ impl Recording {
     {
         let copies = self.copies;
         let elements = self.elements;
-        let stage = self.stage;
-        match stage {
-            Stage::OpeningHeaders | Stage::ClosingHeaders => self.header_reply(copies.counted(
-                buffered,
-            )),
-            Stage::Elements | Stage::Eod => self.element_reply(elements.counted(buffered)),
-            Stage::Done => self.end(Refusal::Reply),
-        }
+        self.stage_reply(copies.counted(buffered), elements.counted(buffered))
     }
 
     // Headers ignore the skip.
@@ -152,12 +146,7 @@ impl Recording {
     {
         let copies = self.copies;
         let elements = self.elements;
-        let stage = self.stage;
-        match stage {
-            Stage::OpeningHeaders | Stage::ClosingHeaders => self.header_reply(copies.failed(p)),
-            Stage::Elements | Stage::Eod => self.element_reply(elements.failed(p, skip)),
-            Stage::Done => self.end(Refusal::Reply),
-        }
+        self.stage_reply(copies.failed(p), elements.failed(p, skip))
     }
 
     // Listed for an element or EOD, not for a header.
@@ -165,14 +154,10 @@ impl Recording {
         ensures { λ r. ⌜ outcomeSaid r ≡ overflowedOf self ⌝ }
     {
         let elements = self.elements;
-        let stage = self.stage;
-        match stage {
-            Stage::OpeningHeaders | Stage::ClosingHeaders => self.end(Refusal::Reply),
-            Stage::Elements | Stage::Eod => self.element_reply(
-                elements.overflowed(self.address()).keep(),
-            ),
-            Stage::Done => self.end(Refusal::Reply),
-        }
+        self.stage_reply(
+            Progress::Refused(Refusal::Reply),
+            elements.overflowed(self.address()).keep(),
+        )
     }
 
     // Brings the reply to the last command.

@@ -1,56 +1,20 @@
--- `recording::session::Recording::failed` meets its contract: by what the header copies and the elements promise, by stage. Assumes nothing.
-use Rattle.copies.specs.Copies as copies
-use Rattle.elements.specs.Answer as answer
-use Rattle.recording.specs.Reply.{headerReplyBy, elementReplyBy}
-use Rattle.recording.proofs.Stages.{header-tags, element-tags}
-use Rattle.recording.proofs.ReplyView.{by-headers, by-elements, by-done}
-use mathlib.Core.Path.{sym, ap, _∙_}
+-- `recording::session::Recording::failed` meets its contract: by what the header copies and the elements promise. Assumes nothing.
+use mathlib.Core.Path.{_∙_}
+use Rattle.recording.proofs.ReplyView.{stage-alike}
 use Rattle.recording.proofs.session.Recording.failed.Statement.{statement}
 use Rattle.recording.proofs.session.Recording.failed.Tie as tie
 
 failed-requires : tie.Need-failed-requires
 failed-requires c κs = tt
 
-header-reply-requires : tie.Need-header-reply-requires
-header-reply-requires c κs = tt
-
 failed-requires-2 : tie.Need-failed-requires-2
 failed-requires-2 c κs = tt
 
-element-reply-requires : tie.Need-element-reply-requires
-element-reply-requires c κs = tt
-
-enum-told : tie.Need-enum-told
-enum-told c = c .match .keys3
-
-end-requires : tie.Need-end-requires
-end-requires c κs = tt
+stage-reply-requires : tie.Need-stage-reply-requires
+stage-reply-requires c κs = tt
 
 returns : tie.Need-returns
-returns c =
-    c .header-reply .ensures
-    ∙ ap (λ (p : copies.ProgressSaid). headerReplyBy p (c .before .before .before .before .before .args .self)) (c .before .failed .ensures)
-    ∙ sym (by-headers (c .before .before .before .before .before .args .self) _ _ (header-tags (c .before .before .before .before .before .args .self) (c .before .before .match .keys1)))
-
-returns-2 : tie.Need-returns-2
-returns-2 c =
-    c .element-reply .ensures
-    ∙ ap (λ (x : answer.Step). elementReplyBy x (c .before .before .before .before .before .args .self)) (c .before .failed2 .ensures)
-    ∙ sym (by-elements (c .before .before .before .before .before .args .self) _ _ (element-tags (c .before .before .before .before .before .args .self) (c .before .before .match .keys2)))
-
-returns-3 : tie.Need-returns-3
-returns-3 c = c .end .ensures ∙ sym (by-done (c .before .before .before .before .before .args .self) _ _ (c .before .enum-told .given .1))
+returns c = c .stage-reply .ensures ∙ stage-alike (c .before .before .before .before .before .args .self) (c .before .before .failed .ensures) (c .before .failed2 .ensures)
 
 pub failed-spec : {M : Type 1} → statement M
-failed-spec =
-    tie.close
-    (tie.spec
-    failed-requires
-    header-reply-requires
-    failed-requires-2
-    element-reply-requires
-    enum-told
-    end-requires
-    returns
-    returns-2
-    returns-3)
+failed-spec = tie.close (tie.spec failed-requires failed-requires-2 stage-reply-requires returns)
