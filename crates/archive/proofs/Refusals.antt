@@ -5,13 +5,13 @@ use mathlib.Core.Bool.{true}
 use mathlib.Core.List.{List}
 use native.Mathlib.Omega.{arith}
 use Rattle.drive.specs.declared.reply.Reply.{Reply}
-use Rattle.recording.specs.Session as session
-use Rattle.recording.specs.Fetch as fetch
-use Rattle.recording.specs.Fetch.{Fetching, fetchOf}
-use Rattle.recording.specs.declared.session.Recording.{Recording}
-use Rattle.recording.proofs.Ended as ended
-use Rattle.recording.proofs.FetchView as view
-use Rattle.recording.proofs.Refusals.{Leaves, refused-window, refused-block, refused-filemark, refused-close, refused-fetch, refused-reply}
+use Rattle.recording_state.specs.Session as session
+use Rattle.recording_state.specs.Fetch as fetch
+use Rattle.recording_state.specs.Fetch.{Fetching, fetchOf}
+use Rattle.recording_state.specs.declared.state.State.{State}
+use Rattle.recording_state.proofs.Ended as ended
+use Rattle.recording_state.proofs.FetchView as view
+use Rattle.recording_state.proofs.Refusals.{Leaves, refused-window, refused-block, refused-filemark, refused-close, refused-fetch, refused-reply}
 use Rattle.reading.specs.Fetch as reading
 use Rattle.reading.specs.Reply as reply
 use Rattle.reading.specs.declared.session.Reading.{Reading}
@@ -23,7 +23,7 @@ use Rattle.archive.specs.Refusals.{lentBy, leftBy, RefusedCalls}
 
 -- ---- a recording
 
-frame-left : (s : Recording) (window frame : List ℕ) {x : Fetching} → view.FetchView s window frame x → 1 ≤ recordings.fetchNumber (x .said) → x .frame ≡ frame
+frame-left : (s : State) (window frame : List ℕ) {x : Fetching} → view.FetchView s window frame x → 1 ≤ recordings.fetchNumber (x .said) → x .frame ≡ frame
 unfolding fetch.sending
 frame-left s window frame (view.wrongPhase _) h = refl
 frame-left s window frame (view.wrongLength _ _ _) h = refl
@@ -34,27 +34,27 @@ frame-left s window frame (view.resting _ _ _ _) h = refl
 frame-left s window frame (view.stopping _ _ _ _ _) h = refl
 frame-left s window frame (view.finished _ _ _) h = refl
 
-left-as-lent : (s : Recording) (c : recordings.Call) → 1 ≤ recordings.refusal s c → leftBy s c ≡ lentBy c
+left-as-lent : (s : State) (c : recordings.Call) → 1 ≤ recordings.refusal s c → leftBy s c ≡ lentBy c
 left-as-lent s (recordings.accept-block b window) h = refused-window s b window h
 left-as-lent s recordings.accept-filemark h = refl
 left-as-lent s recordings.close h = refl
 left-as-lent s (recordings.fetch window frame) h = frame-left s window frame (view.fetch-view s window frame) h
 left-as-lent s (recordings.reply r) h = refl
 
-fetch-leaves : (s : Recording) (window frame : List ℕ) (x : fetch.AnswerSaid) → fetchOf s window frame .said ≡ x → 1 ≤ recordings.fetchNumber x → Leaves (recordings.fetchNumber x) s (fetchOf s window frame .session)
+fetch-leaves : (s : State) (window frame : List ℕ) (x : fetch.AnswerSaid) → fetchOf s window frame .said ≡ x → 1 ≤ recordings.fetchNumber x → Leaves (recordings.fetchNumber x) s (fetchOf s window frame .session)
 fetch-leaves s window frame (fetch.command _ _) e h = absurd (omega arith)
 fetch-leaves s window frame fetch.idle e h = absurd (omega arith)
 fetch-leaves s window frame fetch.done e h = absurd (omega arith)
 fetch-leaves s window frame (fetch.refused n) e h = refused-fetch s n window frame e
 
-leaves : (s : Recording) (c : recordings.Call) → 1 ≤ recordings.refusal s c → Leaves (recordings.refusal s c) s (recordings.returned s c)
+leaves : (s : State) (c : recordings.Call) → 1 ≤ recordings.refusal s c → Leaves (recordings.refusal s c) s (recordings.returned s c)
 leaves s (recordings.accept-block b window) h = refused-block s b window
 leaves s recordings.accept-filemark h = refused-filemark s
 leaves s recordings.close h = refused-close s
 leaves s (recordings.fetch window frame) h = fetch-leaves s window frame (fetchOf s window frame .said) refl h
 leaves s (recordings.reply r) h = refused-reply s r
 
-refused-7 : (s : Recording) (c : recordings.Call) → s .ended ≡ true → recordings.refusal s c ≡ 7
+refused-7 : (s : State) (c : recordings.Call) → s .ended ≡ true → recordings.refusal s c ≡ 7
 refused-7 s (recordings.accept-block b window) e = ap (λ x. x .result .number) (ended.ended-block s e b window)
 refused-7 s recordings.accept-filemark e = ap (λ (x : session.Result). x .number) (ended.ended-filemark s e)
 refused-7 s recordings.close e = ap (λ (x : session.Result). x .number) (ended.ended-close s e)

@@ -6,11 +6,11 @@ use Rattle.geometry.proofs.Impossible.{never}
 use Rattle.drive.specs.Command.{commandCode, commandAddress, commandBy, commandFor}
 use Rattle.drive.specs.declared.command.Command.{Command}
 use Rattle.drive.proofs.Cases.{command-by}
-use Rattle.recording.specs.Fetch as recording
-use Rattle.recording.specs.Fetch.{sending}
-use Rattle.recording.specs.declared.session.Recording.{Recording}
-use Rattle.recording.proofs.FetchView as view
-use Rattle.recording.proofs.FetchView.{FetchView, fetch-view}
+use Rattle.recording_state.specs.Fetch as recording
+use Rattle.recording_state.specs.Fetch.{sending}
+use Rattle.recording_state.specs.declared.state.State.{State}
+use Rattle.recording_state.proofs.FetchView as view
+use Rattle.recording_state.proofs.FetchView.{FetchView, fetch-view}
 use Rattle.reading.specs.Fetch as reading
 use Rattle.reading.specs.declared.session.Reading.{Reading}
 use Rattle.reading.proofs.FetchView as reading-view
@@ -27,7 +27,7 @@ named {number} {address} {c} n = ap (λ (x : ℕ). commandBy x address) (n .numb
 
 -- ---- a recording
 
-module _ (s : Recording) (lent frame : List ℕ) (n a : ℕ) where
+module _ (s : State) (lent frame : List ℕ) (n a : ℕ) where
   sends : (c : Command) → sending s c lent frame .said ≡ recording.command n a → Names n a (sending s c lent frame .session .exchange .command)
   unfolding sending
   sends c e = record { number-is = cc; address-is = cc }

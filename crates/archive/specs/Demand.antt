@@ -11,9 +11,9 @@ use Rattle.geometry.specs.Cartridge.{lastOf, isUser, isHeader}
 use Rattle.geometry.specs.declared.cartridge.Geometry.{Geometry}
 use Rattle.header.specs.Valid.{headerOf}
 use Rattle.drive.specs.declared.reply.Reply.{Reply}
-use Rattle.recording.specs.Session.{Result, accepting}
-use Rattle.recording.specs.Open.{openOf, openBlankOf}
-use Rattle.recording.specs.declared.session.Recording.{Recording}
+use Rattle.recording_state.specs.Session.{Result, accepting}
+use Rattle.recording_state.specs.Open.{openOf, openBlankOf}
+use Rattle.recording_state.specs.declared.state.State.{State}
 use Rattle.reading.specs.Open as reading
 use Rattle.reading.specs.Fetch as fetch
 use Rattle.archive.specs.Tape.{Tape, Cartridge, Bears}
@@ -105,7 +105,7 @@ pub record Promised (g : Geometry) (last : ℕ) (t : Tape) (o : Opening) (w : re
 -- SEGTRK and TRKS are 16-bit
 unfoldable pub Demand3 : Type 0
 Demand3 =
-    (g : Geometry) (last depth blocks : ℕ) (d : Drive) (o : Opening) (s : Recording) (window : List ℕ)
+    (g : Geometry) (last depth blocks : ℕ) (d : Drive) (o : Opening) (s : State) (window : List ℕ)
     (calls : List recordings.Call) (w : recordings.World)
     → g .segtrk < 2 ^ 16 → g .trks < 2 ^ 16 → lastOf g ≡ address last
     → Cartridge last (d .tape) → d .written ≡ [] → AtRest d

@@ -11,10 +11,10 @@ use Rattle.archive.specs.Conduct.{Drive, Acts, Answers}
 use Rattle.drive.specs.Command.{commandBy}
 use Rattle.drive.specs.declared.command.Command.{Command}
 use Rattle.drive.specs.declared.reply.Reply.{Reply}
-use Rattle.recording.specs.Accept.{filemarkOf, blockOf, closeOf}
-use Rattle.recording.specs.Fetch.{AnswerSaid, command, idle, done, refused, fetchOf}
-use Rattle.recording.specs.Reply.{replyOf}
-use Rattle.recording.specs.declared.session.Recording.{Recording}
+use Rattle.recording_state.specs.Accept.{filemarkOf, blockOf, closeOf}
+use Rattle.recording_state.specs.Fetch.{AnswerSaid, command, idle, done, refused, fetchOf}
+use Rattle.recording_state.specs.Reply.{replyOf}
+use Rattle.recording_state.specs.declared.state.State.{State}
 
 -- what is accepted: a block's 32,768 bytes, or a filemark
 pub data Element : Type 0 where
@@ -36,7 +36,7 @@ pub record Notes : Type 0 where
   pub reported : Bool
 
 pub record World : Type 0 where
-  pub session : Recording
+  pub session : State
   -- the window as last left
   pub window : List ℕ
   pub drive : Drive
@@ -58,7 +58,7 @@ fetchNumber idle = 0
 fetchNumber done = 0
 fetchNumber (refused n) = n
 
-abbrev pub refusal : Recording → Call → ℕ
+abbrev pub refusal : State → Call → ℕ
 refusal s (accept-block b window) = blockOf s b window .result .number
 refusal s accept-filemark = filemarkOf s .number
 refusal s close = closeOf s .number
@@ -70,7 +70,7 @@ abbrev pub TakesEffect : ℕ → Type 0
 TakesEffect n = (n ≡ 0) ⊎ (8 ≤ n)
 
 -- the session that a call returns
-abbrev pub returned : Recording → Call → Recording
+abbrev pub returned : State → Call → State
 returned s (accept-block b window) = blockOf s b window .result .session
 returned s accept-filemark = filemarkOf s .session
 returned s close = closeOf s .session
@@ -95,7 +95,7 @@ afterRefusal w c = record {
   notes = w .notes;
 }
 
-abbrev pub withSession : World → Recording → World
+abbrev pub withSession : World → State → World
 withSession w s = record { session = s; window = w .window; drive = w .drive; flight = w .flight; notes = w .notes }
 
 -- an accept that is not refused adds its element
@@ -177,7 +177,7 @@ pub data Runs : World → List Call → World → Type 0 where
   drive : {w v u : World} {cs : List Call} → Moves w v → Runs v cs u → Runs w cs u
 
 -- a session just opened, any window, and a drive that has written nothing for it yet
-abbrev pub started : Recording → List ℕ → Drive → World
+abbrev pub started : State → List ℕ → Drive → World
 started s window d = record {
   session = s;
   window = window;

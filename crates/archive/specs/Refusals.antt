@@ -3,10 +3,10 @@ use Prim.Native.Nat.{ℕ, _≤_}
 use mathlib.Core.Path.{_≡_}
 use mathlib.Core.Bool.{true}
 use mathlib.Core.List.{List, []}
-use Rattle.recording.specs.Session as recording
-use Rattle.recording.specs.Accept.{blockOf}
-use Rattle.recording.specs.Fetch.{fetchOf}
-use Rattle.recording.specs.declared.session.Recording.{Recording}
+use Rattle.recording_state.specs.Session as recording
+use Rattle.recording_state.specs.Accept.{blockOf}
+use Rattle.recording_state.specs.Fetch.{fetchOf}
+use Rattle.recording_state.specs.declared.state.State.{State}
 use Rattle.reading.specs.Session as reading
 use Rattle.reading.specs.declared.session.Reading.{Reading}
 use Rattle.archive.specs.Recordings as recordings
@@ -21,14 +21,14 @@ lentBy (recordings.fetch window frame) = frame
 lentBy (recordings.reply r) = []
 
 -- and as the call leaves it
-abbrev pub leftBy : Recording → recordings.Call → List ℕ
+abbrev pub leftBy : State → recordings.Call → List ℕ
 leftBy s (recordings.accept-block b window) = blockOf s b window .window
 leftBy s recordings.accept-filemark = []
 leftBy s recordings.close = []
 leftBy s (recordings.fetch window frame) = fetchOf s window frame .frame
 leftBy s (recordings.reply r) = []
 
-pub record RecordingRefused (s : Recording) (c : recordings.Call) : Type 0 where
+pub record RecordingRefused (s : State) (c : recordings.Call) : Type 0 where
   -- buffers stay untouched
   pub untouched : 1 ≤ recordings.refusal s c → leftBy s c ≡ lentBy c
   -- 1 to 7: session unchanged
@@ -44,5 +44,5 @@ pub record ReadingRefused (s : Reading) (c : readings.Call) : Type 0 where
   pub only-7 : s .ended ≡ true → readings.refusal s c ≡ 7
 
 pub record RefusedCalls : Type 0 where
-  pub recording : (s : Recording) (c : recordings.Call) → RecordingRefused s c
+  pub recording : (s : State) (c : recordings.Call) → RecordingRefused s c
   pub reading : (s : Reading) (c : readings.Call) → ReadingRefused s c

@@ -1,85 +1,21 @@
--- 01, "A recording session": the session's terms, and what a call's outcome is in 01's numbers.
-use Prim.Native.Nat.{ℕ, _+_, _*_}
-use mathlib.Core.Bool.{true, false}
-use lib.Dec.{ltb}
-use Rattle.geometry.specs.Pick.{pick}
+-- What the public calls return, in the terms of the definitions over the session's state.
+use Prim.Native.Nat.{ℕ}
+use mathlib.Core.List.{List}
 use Rattle.geometry.specs.Refused.{verdictNumber}
-use Rattle.frame.specs.declared.header.Header.{Header}
-use Rattle.drive.specs.declared.exchange.Exchange.{Exchange}
-use Rattle.copies.specs.Carried.{closingOf}
-use Rattle.copies.specs.Copies as copies
-use Rattle.copies.specs.declared.state.Copies.{Copies}
-use Rattle.elements.specs.Elements as elements
-use Rattle.elements.specs.declared.state.Elements.{Elements}
-use Rattle.recording.specs.declared.session.Recording.{Recording}
-use Rattle.recording.specs.declared.session.Outcome.{Outcome}
-use Rattle.recording.specs.declared.session.Stage.{Stage}
-use Rattle.recording.specs.declared.session.Stage.the-variants as S
-
--- W, of which a session holds W − 1, and the length of a window
-abbrev pub windowOf : Recording → ℕ
-windowOf s = s .setup .highest + 1
-
-abbrev pub windowLength : Recording → ℕ
-windowLength s = windowOf s * 32768
+use Rattle.recording_state.specs.Session.{Result}
+use Rattle.recording_state.specs.Accept.{Stored}
+use Rattle.recording_state.specs.Fetch.{Fetching, answerSaid}
+use Rattle.recording.specs.declared.recording.Outcome.{Outcome}
+use Rattle.recording.specs.declared.recording.Fetched.{Fetched}
 
 -- the session and the number of the refusal, 0 for none
-pub record Result : Type 0 where
-  pub session : Recording
-  pub number : ℕ
-
 abbrev pub outcomeSaid : Outcome → Result
-outcomeSaid r = record { session = r .session; number = verdictNumber (r .verdict) }
+outcomeSaid r = record { session = r .session .state; number = verdictNumber (r .verdict) }
 
-abbrev pub accepting : Recording → Result
-accepting s = record { session = s; number = 0 }
+-- a call's result, and the window that it leaves
+abbrev pub blockSaid : Outcome → List ℕ → Stored
+blockSaid r window = record { result = outcomeSaid r; window = window }
 
--- refusals 1 to 7: session unchanged
-abbrev pub refusing : Recording → ℕ → Result
-refusing s n = record { session = s; number = n }
-
--- the session with one field set
-abbrev pub withStage : Recording → Stage → Recording
-withStage s stage = record { setup = s .setup; stage = stage; exchange = s .exchange; closed = s .closed; ended = s .ended; copies = s .copies; elements = s .elements }
-
-abbrev pub withExchange : Recording → Exchange → Recording
-withExchange s x = record { setup = s .setup; stage = s .stage; exchange = x; closed = s .closed; ended = s .ended; copies = s .copies; elements = s .elements }
-
-abbrev pub withCopies : Recording → Copies → Recording
-withCopies s c = record { setup = s .setup; stage = s .stage; exchange = s .exchange; closed = s .closed; ended = s .ended; copies = c; elements = s .elements }
-
-abbrev pub withElements : Recording → Elements → Recording
-withElements s e = record { setup = s .setup; stage = s .stage; exchange = s .exchange; closed = s .closed; ended = s .ended; copies = s .copies; elements = e }
-
--- close was called
-abbrev pub closedOf : Recording → Recording
-closedOf s = record { setup = s .setup; stage = s .stage; exchange = s .exchange; closed = true; ended = s .ended; copies = s .copies; elements = s .elements }
-
--- refusals 8 to 12: session ended
-abbrev pub endedOf : Recording → Recording
-endedOf s = record { setup = s .setup; stage = s .stage; exchange = s .exchange; closed = s .closed; ended = true; copies = s .copies; elements = s .elements }
-
-abbrev pub ending : Recording → ℕ → Result
-ending s n = record { session = endedOf s; number = n }
-
--- EOD becomes due: it carries the next number and is no filemark
-abbrev pub eodDue : Recording → Recording
-eodDue s = withStage (withElements s (elements.acceptedOf (s .elements) false)) S.Eod
-
--- closing headers, behind EOD
-abbrev pub closingHeader : Recording → Header
-closingHeader s = closingOf (s .copies .header) (s .elements .next)
-
-abbrev pub closingStarted : Recording → Recording
-closingStarted s = withStage (withCopies s (copies.startOf (closingHeader s))) S.ClosingHeaders
-
-abbrev pub settledBy : Stage → Recording → Recording
-settledBy S.OpeningHeaders s = s
-settledBy S.Elements s = pick (s .closed) (eodDue s) s
-settledBy S.Eod s = closingStarted s
-settledBy S.ClosingHeaders s = s
-settledBy S.Done s = s
-
--- EOD becomes due when close was called and every element is on tape; the closing headers when EOD is
-unfoldable pub settledOf : Recording → Recording
-settledOf s = pick (ltb 0 (s .elements .pending)) s (settledBy (s .stage) s)
+-- the session and the answer that a fetch returns, and the frame that it leaves
+abbrev pub fetched : Fetched → List ℕ → Fetching
+fetched r frame = record { session = r .session .state; said = answerSaid (r .answer); frame = frame }

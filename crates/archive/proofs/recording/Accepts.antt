@@ -21,14 +21,14 @@ use Rattle.drive.specs.Senses.{meaningOf}
 use Rattle.elements.specs.Elements as elements
 use Rattle.elements.specs.declared.state.Elements.{Elements}
 use Rattle.elements.proofs.AcceptLaws.{mark-kept, accepted-new}
-use Rattle.recording.specs.Accept.{acceptsNone, isFull, withElement, filemarkOf, placeOf, Stored, blockOf, closeOf}
-use Rattle.recording.specs.Session.{closedOf, Result, windowOf, windowLength, accepting, eodDue, closingStarted, settledBy, settledOf}
-use Rattle.recording.specs.Window.{blockAt, putBlock}
-use Rattle.recording.specs.declared.session.Recording.{Recording}
-use Rattle.recording.specs.declared.session.Stage.{Stage}
-use Rattle.recording.specs.declared.session.Stage.the-variants as S
-use Rattle.recording.proofs.BlockPlace.{place-inside}
-use Rattle.recording.proofs.Stages.{HeaderStage, ElementStage}
+use Rattle.recording_state.specs.Accept.{acceptsNone, isFull, withElement, filemarkOf, placeOf, Stored, blockOf, closeOf}
+use Rattle.recording_state.specs.Session.{closedOf, Result, windowOf, windowLength, accepting, eodDue, closingStarted, settledBy, settledOf}
+use Rattle.recording_state.specs.Window.{blockAt, putBlock}
+use Rattle.recording_state.specs.declared.state.State.{State}
+use Rattle.recording_state.specs.declared.state.Stage.{Stage}
+use Rattle.recording_state.specs.declared.state.Stage.the-variants as S
+use Rattle.recording_state.proofs.BlockPlace.{place-inside}
+use Rattle.recording_state.proofs.Stages.{HeaderStage, ElementStage}
 use Rattle.archive.specs.Recordings.{World, Element, block, filemark, TakesEffect, afterBlock, afterFilemark, acceptedAfter}
 use Rattle.archive.proofs.tape.Basics.{no-effect}
 use Rattle.archive.proofs.tape.WindowLaws.{put-same-block, put-other-block}
@@ -44,28 +44,28 @@ use Rattle.archive.proofs.recording.Setting.{Setting}
 
 -- ---- calls that take effect
 
-pub record Accepting (s : Recording) : Type 0 where
+pub record Accepting (s : State) : Type 0 where
   pub going : s .ended ≡ false
   pub unclosed : s .closed ≡ false
   pub room : s .elements .pending ≤ s .setup .highest
 
-accepting-so : (s : Recording) → acceptsNone s ≡ false → isFull s ≡ false → Accepting s
+accepting-so : (s : State) → acceptsNone s ≡ false → isFull s ≡ false → Accepting s
 accepting-so s a b = let x = or-false (s .ended) (s .closed) a in record { going = x .0; unclosed = x .1; room = ltb-false (s .setup .highest) (s .elements .pending) b }
 
-pub filemark-view : (s : Recording) → TakesEffect (filemarkOf s .number) → (filemarkOf s ≡ accepting (withElement s true)) × Accepting s
+pub filemark-view : (s : State) → TakesEffect (filemarkOf s .number) → (filemarkOf s ≡ accepting (withElement s true)) × Accepting s
 unfolding filemarkOf
 filemark-view s =
     pick-by (λ (r : Result). TakesEffect (r .number) → (r ≡ accepting (withElement s true)) × Accepting s) (acceptsNone s) (λ _ te. no-effect (omega arith) (omega arith) te)
     (λ a. pick-by (λ (r : Result). TakesEffect (r .number) → (r ≡ accepting (withElement s true)) × Accepting s) (isFull s) (λ _ te. no-effect (omega arith) (omega arith) te)
     (λ b te. (refl, accepting-so s a b)))
 
-pub record Storing (s : Recording) (b window : List ℕ) (r : Stored) : Type 0 where
+pub record Storing (s : State) (b window : List ℕ) (r : Stored) : Type 0 where
   pub is : r ≡ record { result = accepting (withElement s false); window = putBlock window (placeOf s) b }
   pub accepting-it : Accepting s
   pub full : length b ≡ 32768
   pub long : length window ≡ windowLength s
 
-pub block-view : (s : Recording) (b window : List ℕ) → TakesEffect (blockOf s b window .result .number) → Storing s b window (blockOf s b window)
+pub block-view : (s : State) (b window : List ℕ) → TakesEffect (blockOf s b window .result .number) → Storing s b window (blockOf s b window)
 unfolding blockOf
 block-view s b window =
     pick-by (λ (r : Stored). TakesEffect (r .result .number) → Storing s b window r) (acceptsNone s) (λ _ te. no-effect (omega arith) (omega arith) te)
@@ -76,7 +76,7 @@ block-view s b window =
     record { is = refl; accepting-it = accepting-so s a f; full = eqb-true (length b) 32768 (lengths .0); long = eqb-true (length window) (windowLength s) (lengths .1) }))
     (λ _ te. no-effect (omega arith) (omega arith) te))
 
-pub close-view : (s : Recording) → TakesEffect (closeOf s .number) → (closeOf s ≡ accepting (settledOf (closedOf s))) × (s .ended ≡ false) × (s .closed ≡ false)
+pub close-view : (s : State) → TakesEffect (closeOf s .number) → (closeOf s ≡ accepting (settledOf (closedOf s))) × (s .ended ≡ false) × (s .closed ≡ false)
 unfolding closeOf
 close-view s =
     pick-by (λ (r : Result). TakesEffect (r .number) → (r ≡ accepting (settledOf (closedOf s))) × (s .ended ≡ false) × (s .closed ≡ false)) (acceptsNone s) (λ _ te. no-effect (omega arith) (omega arith) te)
@@ -98,7 +98,7 @@ mod-apart n i j l u e = go (decLe (suc (i / n)) (j / n))
     go (yes h) = omega (arith, a, b, mul-le-mul-right n h)
     go (no h) = let g : j / n ≤ i / n = omega arith in omega (arith, a, b, mul-le-mul-right n g)
 
-abbrev withAccepted : World → Recording → List ℕ → Bool → List Element → World
+abbrev withAccepted : World → State → List ℕ → Bool → List Element → World
 withAccepted w s window unaltered xs = record {
   session = s;
   window = window;
@@ -107,11 +107,11 @@ withAccepted w s window unaltered xs = record {
   notes = record { accepted = xs; unaltered = unaltered; reported = w .notes .reported };
 }
 
-abbrev acceptedWorld : World → Recording → List ℕ → Bool → Element → World
+abbrev acceptedWorld : World → State → List ℕ → Bool → Element → World
 acceptedWorld w s window unaltered x = withAccepted w s window unaltered (w .notes .accepted ++ x ∷ [])
 
 -- what the window must keep and gain
-pub record Gains (s : Recording) (before after : List ℕ) (x : Element) (marks : List Bool) : Type 0 where
+pub record Gains (s : State) (before after : List ℕ) (x : Element) (marks : List Bool) : Type 0 where
   pub keeps : (i : ℕ) → i < s .elements .pending → blockAt after ((s .elements .first .0 + i) % windowOf s) ≡ blockAt before ((s .elements .first .0 + i) % windowOf s)
   pub gains : StoredAs (element x) after marks (windowOf s) (s .elements .first .0 + s .elements .pending)
 
@@ -246,7 +246,7 @@ module _ {last pass : ℕ} {premises : Type 0} (w : World) (set : Setting last p
 
 -- ---- the calls
 
-rejecting-more : {last : ℕ} (w : World) (s : Recording) (window : List ℕ) (unaltered : Bool) (x : Element) (d : Rejecting last w) → s .ended ≡ w .session .ended → s .exchange .awaiting ≡ w .session .exchange .awaiting → s .exchange .command ≡ w .session .exchange .command → s .stage ≡ w .session .stage → Rejecting last (acceptedWorld w s window unaltered x)
+rejecting-more : {last : ℕ} (w : World) (s : State) (window : List ℕ) (unaltered : Bool) (x : Element) (d : Rejecting last w) → s .ended ≡ w .session .ended → s .exchange .awaiting ≡ w .session .exchange .awaiting → s .exchange .command ≡ w .session .exchange .command → s .stage ≡ w .session .stage → Rejecting last (acceptedWorld w s window unaltered x)
 rejecting-more w s window unaltered x d ended awaiting command stage = record {
   reply = d .reply;
   going = ended ∙ d .going;
@@ -306,7 +306,7 @@ keeps-block {last} {pass} {premises} w b lent set i te =
 -- ---- close
 
 -- EOD becomes due, or the closing headers do, or neither
-pub settled-cases : (s : Recording) (P : Recording → Type 0) → ((0 < s .elements .pending) ⊎ (HeaderStage s ⊎ (s .stage ≡ S.Done)) ⊎ ((s .stage ≡ S.Elements) × (s .closed ≡ false)) → P s)
+pub settled-cases : (s : State) (P : State → Type 0) → ((0 < s .elements .pending) ⊎ (HeaderStage s ⊎ (s .stage ≡ S.Done)) ⊎ ((s .stage ≡ S.Elements) × (s .closed ≡ false)) → P s)
     → (s .stage ≡ S.Elements → s .closed ≡ true → s .elements .pending ≡ 0 → P (eodDue s)) → (s .stage ≡ S.Eod → s .elements .pending ≡ 0 → P (closingStarted s)) → P (settledOf s)
 unfolding settledOf
 settled-cases s P same eod-due closing-due =

@@ -6,13 +6,13 @@ use mathlib.Core.Bool.{true}
 use mathlib.Core.Logic.{inl, inr}
 use native.Mathlib.Omega.{arith}
 use Rattle.drive.specs.declared.reply.Reply.{Reply}
-use Rattle.recording.specs.Reply.{replyOf}
-use Rattle.recording.specs.declared.session.Recording.{Recording}
+use Rattle.recording_state.specs.Reply.{replyOf}
+use Rattle.recording_state.specs.declared.state.State.{State}
 use Rattle.geometry.proofs.PickLaws.{pick-by}
 use Rattle.buffer.specs.Bytes.{agree}
 use Rattle.buffer.proofs.Agreement.{agree-is}
-use Rattle.recording.proofs.ListedReplies.{unlisted-refused}
-use Rattle.recording.proofs.Refusals.{refused-window, refused-reply}
+use Rattle.recording_state.proofs.ListedReplies.{unlisted-refused}
+use Rattle.recording_state.proofs.Refusals.{refused-window, refused-reply}
 use Rattle.archive.specs.Recordings as recordings
 use Rattle.archive.specs.Recordings.{World, TakesEffect, afterReply}
 use Rattle.archive.specs.Demand.{Within}
@@ -35,7 +35,7 @@ rejecting-reply : {last pass : ℕ} {premises : Type 0} (w : World) (r : Reply) 
 rejecting-reply w r written d same =
     let s = w .session in
     let refused : replyOf s (d .reply) .number ≡ 8 = unlisted-refused s (d .reply) (d .going) (d .awaits) (d .off-headers) (d .unlisted) in
-    let ended : replyOf s (d .reply) .session .ended ≡ true = ap (λ (x : Recording). x .ended) (refused-reply s (d .reply) .ended (omega arith)) in
+    let ended : replyOf s (d .reply) .session .ended ≡ true = ap (λ (x : State). x .ended) (refused-reply s (d .reply) .ended (omega arith)) in
     over written (record { ended = subst (λ (x : Reply). replyOf s x .session .ended ≡ true) same ended; none = refl; safe = d .safe; unreported = d .unreported })
 
 -- ---- a reply
@@ -63,12 +63,12 @@ same-window w recordings.close l = refl
 same-window w (recordings.fetch lent frame) l = refl
 same-window w (recordings.reply r) l = refl
 
-abbrev withWindow : World → Recording → List ℕ → World
+abbrev withWindow : World → State → List ℕ → World
 withWindow w s window = record { session = s; window = window; drive = w .drive; flight = w .flight; notes = w .notes }
 
 pub keeps-call : {last pass : ℕ} {premises : Type 0} (w v : World) (c : recordings.Call) → Setting last pass → Inv last pass premises w → recordings.Calls w c v → Inv last pass premises v
 keeps-call {last} {pass} {premises} w v c set i (recordings.refuses _ l h) =
-    subst (λ (s : Recording). Inv last pass premises (withWindow w s (recordings.windowAfter w c))) (sym (refused-calls .recording (w .session) c .unchanged l h))
+    subst (λ (s : State). Inv last pass premises (withWindow w s (recordings.windowAfter w c))) (sym (refused-calls .recording (w .session) c .unchanged l h))
     (subst (λ (x : List ℕ). Inv last pass premises (withWindow w (w .session) x)) (sym (same-window w c l)) i)
 keeps-call w v c set i (recordings.accepts-block b lent te) = keeps-block w b lent set i te
 keeps-call w v c set i (recordings.accepts-filemark te) = keeps-filemark w set i te

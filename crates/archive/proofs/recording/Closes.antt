@@ -9,12 +9,12 @@ use lib.ListN.{length, length-set}
 use Rattle.drive.specs.Listed.{Listed}
 use Rattle.drive.specs.Senses.{meaningOf}
 use Rattle.elements.specs.Elements as elements
-use Rattle.recording.specs.Accept.{closeOf}
-use Rattle.recording.specs.Session.{closedOf, Result, windowOf, eodDue, closingStarted, settledOf}
-use Rattle.recording.specs.declared.session.Recording.{Recording}
-use Rattle.recording.specs.declared.session.Stage.{Stage}
-use Rattle.recording.specs.declared.session.Stage.the-variants as S
-use Rattle.recording.proofs.Stages.{ElementStage}
+use Rattle.recording_state.specs.Accept.{closeOf}
+use Rattle.recording_state.specs.Session.{closedOf, Result, windowOf, eodDue, closingStarted, settledOf}
+use Rattle.recording_state.specs.declared.state.State.{State}
+use Rattle.recording_state.specs.declared.state.Stage.{Stage}
+use Rattle.recording_state.specs.declared.state.Stage.the-variants as S
+use Rattle.recording_state.proofs.Stages.{ElementStage}
 use Rattle.archive.specs.Recordings.{World, TakesEffect, withSession}
 use Rattle.archive.proofs.tape.Scan.{Seen}
 use Rattle.archive.proofs.tape.SeenLaws.{seen-eod}
@@ -110,7 +110,7 @@ module _ {last pass : ℕ} {premises : Type 0} (w : World) (l : Live last pass p
   not-eod e (inv.closing q c a b g) = clash c unclosed
   not-eod e (inv.finished q c a b f g h r y) = clash c unclosed
 
-rejecting-close : {last : ℕ} (w : World) (s : Recording) → Rejecting last w → s .ended ≡ w .session .ended → s .exchange .awaiting ≡ w .session .exchange .awaiting → s .exchange .command ≡ w .session .exchange .command → (ElementStage s → ElementStage (w .session)) → Rejecting last (withSession w s)
+rejecting-close : {last : ℕ} (w : World) (s : State) → Rejecting last w → s .ended ≡ w .session .ended → s .exchange .awaiting ≡ w .session .exchange .awaiting → s .exchange .command ≡ w .session .exchange .command → (ElementStage s → ElementStage (w .session)) → Rejecting last (withSession w s)
 rejecting-close w s d ended awaiting command stage = record {
   reply = d .reply;
   going = ended ∙ d .going;
@@ -129,11 +129,11 @@ keeps-close {last} {pass} {premises} w i te =
   where
     go : w .session .ended ≡ false → w .session .closed ≡ false → Inv last pass premises w → Inv last pass premises (withSession w (settledOf (closedOf (w .session))))
     go going unclosed (live wr l) =
-        settled-cases (closedOf (w .session)) (λ (s : Recording). Inv last pass premises (withSession w s)) (λ _. live wr (closed-live w l unclosed))
+        settled-cases (closedOf (w .session)) (λ (s : State). Inv last pass premises (withSession w s)) (λ _. live wr (closed-live w l unclosed))
         (λ q c none. live wr (eod-live (withSession w (closedOf (w .session))) (closed-live w l unclosed) q c none))
         (λ q none. not-eod w l unclosed q (l .course))
     go going unclosed (rejecting wr d) =
-        settled-cases (closedOf (w .session)) (λ (s : Recording). Inv last pass premises (withSession w s)) (λ _. rejecting wr (rejecting-close w (closedOf (w .session)) d refl refl refl (λ h. h)))
+        settled-cases (closedOf (w .session)) (λ (s : State). Inv last pass premises (withSession w s)) (λ _. rejecting wr (rejecting-close w (closedOf (w .session)) d refl refl refl (λ h. h)))
         (λ q c none. rejecting wr (rejecting-close w (eodDue (closedOf (w .session))) d refl refl refl (λ _. inl q)))
         (λ q none. rejecting wr (rejecting-close w (closingStarted (closedOf (w .session))) d refl refl refl (λ _. inr q)))
     go going unclosed (over wr o) = clash (o .ended) going

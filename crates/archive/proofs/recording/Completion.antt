@@ -22,8 +22,8 @@ use Rattle.header.proofs.ReadLaws.{valid-taken}
 use Rattle.header.proofs.AsRead.{read-valid, read-update, read-fields}
 use Rattle.header.proofs.Built.{built-valid, built-update, built-fields}
 use Rattle.archive.specs.Tape.{Tape, Cartridge}
-use Rattle.recording.specs.declared.session.Stage.{Stage}
-use Rattle.recording.specs.declared.session.Stage.the-variants as S
+use Rattle.recording_state.specs.declared.state.Stage.{Stage}
+use Rattle.recording_state.specs.declared.state.Stage.the-variants as S
 use Rattle.reading.specs.Open as reading
 use Rattle.archive.specs.Headers.{HeaderAt, Newest}
 use Rattle.archive.specs.Recordings.{World}

@@ -20,9 +20,9 @@ use Rattle.header.specs.Valid.{updateOf}
 use Rattle.archive.specs.Conduct as conduct
 use Rattle.archive.specs.Conduct.{Drive, Written, Left, as-before, as-new, not-at-all, wrote, failing}
 use Rattle.archive.specs.Tape.{Tape, Cartridge, put}
-use Rattle.recording.specs.declared.session.Stage.{Stage}
-use Rattle.recording.specs.declared.session.Stage.the-variants as S
-use Rattle.recording.proofs.Stages.{ElementStage}
+use Rattle.recording_state.specs.declared.state.Stage.{Stage}
+use Rattle.recording_state.specs.declared.state.Stage.the-variants as S
+use Rattle.recording_state.proofs.Stages.{ElementStage}
 use Rattle.archive.specs.Recordings.{World, Element, withDrive}
 use Rattle.archive.proofs.tape.Basics.{none-some, some-same}
 use Rattle.archive.proofs.tape.Places.{header-not-user}

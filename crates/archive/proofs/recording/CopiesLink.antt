@@ -17,7 +17,7 @@ use Rattle.copies.specs.Copies.{nextAddress}
 use Rattle.copies.specs.declared.state.Copies.{Copies}
 use Rattle.copies.proofs.Counts.{CountsOf}
 use Rattle.copies.proofs.DueAddress.{PlacedOf}
-use Rattle.recording.specs.declared.session.Recording.{Recording}
+use Rattle.recording_state.specs.declared.state.State.{State}
 use Rattle.archive.specs.Recordings as recordings
 use Rattle.archive.specs.Recordings.{Flight}
 use Rattle.archive.proofs.recording.HeaderCopies.{Copy}
@@ -60,14 +60,14 @@ HeaderSent c (Locate a) f = Unit {0}
 HeaderSent c ReadPosition f = Unit {0}
 HeaderSent c (Read a) f = Unit {0}
 
-pub data Copying (s : Recording) (d : Drive) : Flight → Type 0 where
+pub data Copying (s : State) (d : Drive) : Flight → Type 0 where
   at-place : s .exchange .awaiting ≡ false → s .exchange .again ≡ false → CopyLink (s .copies) d 0 → Copying s d recordings.no-command
   to-seek : s .exchange .awaiting ≡ false → s .exchange .again ≡ false → CopySeek (s .copies) d → Copying s d recordings.no-command
   again : s .exchange .awaiting ≡ false → s .exchange .again ≡ true → CopyAsks (s .copies) d (s .exchange .command) → Copying s d recordings.no-command
   under-way : (c : Command) (f : List ℕ) → s .exchange .awaiting ≡ true → s .exchange .again ≡ false → s .exchange .command ≡ c → HeaderSent (s .copies) c f → CopyAsks (s .copies) d c → Copying s d (recordings.sent c f)
   replied : (r : Reply) → s .exchange .awaiting ≡ true → s .exchange .again ≡ false → CopyAnswered (s .copies) d r (s .exchange .command) → Copying s d (recordings.answered r)
 
-pub record CopiesAgree (s : Recording) (d : Drive) (f : Flight) : Type 0 where
+pub record CopiesAgree (s : State) (d : Drive) (f : Flight) : Type 0 where
   pub counts : CountsOf (s .copies)
   pub placed : PlacedOf (s .copies)
   pub copying : Copying s d f

@@ -26,7 +26,7 @@ use Rattle.copies.specs.Copies.{nextAddress}
 use Rattle.copies.specs.declared.state.Copies.{Copies}
 use Rattle.copies.proofs.Counts.{CountsOf}
 use Rattle.copies.proofs.HeaderPlaces.{is-header, header-from-first}
-use Rattle.recording.specs.declared.session.Recording.{Recording}
+use Rattle.recording_state.specs.declared.state.State.{State}
 use Rattle.archive.specs.Recordings.{Flight}
 use Rattle.archive.proofs.recording.HeaderCopies.{Copy}
 use Rattle.archive.proofs.tape.ScanLaws.{put-same, put-other}
@@ -133,7 +133,7 @@ module _ (c : Copies) (counts : CountsOf c) (d : Drive) (f : List ℕ) (rest : L
   answered-goes free (link.moved a m p none-left fresh at s) = rests-still b free (s .rests)
   answered-goes free (waits k m a) = map-goes (λ _ x. waits k m x) (asks-goes free a)
 
-pub copying-goes : {s : Recording} {d : Drive} {g : Flight} (f : List ℕ) (rest : List (List ℕ)) → CountsOf (s .copies) → d .buffer ≡ f ∷ rest → d .failed ≡ false → Copying s d g → CopyGoes (s .copies .header) d f rest (λ e. Copying s e g)
+pub copying-goes : {s : State} {d : Drive} {g : Flight} (f : List ℕ) (rest : List (List ℕ)) → CountsOf (s .copies) → d .buffer ≡ f ∷ rest → d .failed ≡ false → Copying s d g → CopyGoes (s .copies .header) d f rest (λ e. Copying s e g)
 copying-goes {s} {d} f rest n b free (at-place a g l) = map-goes (λ _ x. at-place a g x) (link-goes (s .copies) n d f rest b l)
 copying-goes f rest n b free (to-seek a g l) = rests-still b free (l .rests)
 copying-goes {s} {d} f rest n b free (again a g x) = map-goes (λ _ y. again a g y) (asks-goes (s .copies) n d f rest b free x)

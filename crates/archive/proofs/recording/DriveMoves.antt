@@ -15,10 +15,10 @@ use Rattle.archive.specs.Conduct as conduct
 use Rattle.archive.specs.Conduct.{Drive, Acts, Answers, Left, Written, as-new, wrote, failing}
 use Rattle.drive.specs.declared.command.Command.{Command}
 use Rattle.drive.specs.declared.reply.Reply.{Reply}
-use Rattle.recording.specs.declared.session.Stage.the-variants as S
-use Rattle.recording.proofs.ListedReplies.{OffHeaders}
-use Rattle.recording.proofs.Stages.{HeaderStage, ElementStage, header-not-element, header-not-done, element-not-done}
-use Rattle.recording.proofs.Kept.{heldOf}
+use Rattle.recording_state.specs.declared.state.Stage.the-variants as S
+use Rattle.recording_state.proofs.ListedReplies.{OffHeaders}
+use Rattle.recording_state.proofs.Stages.{HeaderStage, ElementStage, header-not-element, header-not-done, element-not-done}
+use Rattle.recording_state.proofs.Kept.{heldOf}
 use Rattle.archive.specs.Recordings as recordings
 use Rattle.archive.specs.Recordings.{World, Flight, withDrive, Moves}
 use Rattle.archive.specs.Demand.{Within, one-more}

@@ -25,14 +25,14 @@ use Rattle.copies.proofs.DueAddress.{start-placed}
 use Rattle.elements.specs.Elements as counting
 use Rattle.elements.specs.Answer as answer
 use Rattle.elements.specs.declared.state.Elements.{Elements}
-use Rattle.recording.specs.Session.{Result, windowOf, accepting, ending, withElements, closingHeader, closingStarted, settledOf}
-use Rattle.recording.specs.Reply.{caseOf, answeredOf, repeatedOf, elementReplyBy, answerOf, replyOf}
-use Rattle.recording.specs.declared.session.Recording.{Recording}
-use Rattle.recording.specs.declared.session.Stage.{Stage}
-use Rattle.recording.specs.declared.session.Stage.the-variants as S
-use Rattle.recording.proofs.Stages.{HeaderStage, ElementStage, element-not-done}
-use Rattle.recording.proofs.Kept.{heldOf}
-use Rattle.recording.proofs.ReplyView.{by-elements, reply-so}
+use Rattle.recording_state.specs.Session.{Result, windowOf, accepting, ending, withElements, closingHeader, closingStarted, settledOf}
+use Rattle.recording_state.specs.Reply.{caseOf, answeredOf, repeatedOf, elementReplyBy, answerOf, replyOf}
+use Rattle.recording_state.specs.declared.state.State.{State}
+use Rattle.recording_state.specs.declared.state.Stage.{Stage}
+use Rattle.recording_state.specs.declared.state.Stage.the-variants as S
+use Rattle.recording_state.proofs.Stages.{HeaderStage, ElementStage, element-not-done}
+use Rattle.recording_state.proofs.Kept.{heldOf}
+use Rattle.recording_state.proofs.ReplyView.{by-elements, reply-so}
 use Rattle.archive.specs.Recordings as recordings
 use Rattle.archive.specs.Recordings.{World, Element}
 use Rattle.archive.specs.Demand.{Within}
@@ -81,7 +81,7 @@ module _ {last pass : ℕ} {premises : Type 0} (w : World) (r : Reply) (set : Se
   -- ---- before the stage is looked at
 
   module _ (e : Elements) (s : Step last (w .session) (w .drive) (l .k) (l .edge) e) where
-    abbrev stepped : Recording
+    abbrev stepped : State
     stepped = withElements (answeredOf (w .session)) e
 
     counted-so : Counted last (length (w .notes .accepted)) stepped
@@ -197,10 +197,10 @@ module _ {last pass : ℕ} {premises : Type 0} (w : World) (r : Reply) (set : Se
   settles : w .session .exchange .again ≡ false → Ends → (e : Elements) → Step last (w .session) (w .drive) (l .k) (l .edge) e → Inv last pass premises (repliedWorld w (settledOf (withElements (answeredOf (w .session)) e)))
   settles again (writing q) e s =
       let x = stepped-live e s (inv.writing q (s .writing)) in
-      settled-cases (withElements (answeredOf (w .session)) e) (λ (v : Recording). Inv last pass premises (repliedWorld w v)) (λ _. live wr x)
+      settled-cases (withElements (answeredOf (w .session)) e) (λ (v : State). Inv last pass premises (repliedWorld w v)) (λ _. live wr x)
       (λ a b c. live wr (eod-live (repliedWorld w (withElements (answeredOf (w .session)) e)) x a b c)) (λ a _. never (cc))
   settles again (ending-one q c one) e s =
-      settled-cases (withElements (answeredOf (w .session)) e) (λ (v : Recording). Inv last pass premises (repliedWorld w v)) (λ why. live wr (stepped-live e s (inv.ending q c (still why) (s .writing))))
+      settled-cases (withElements (answeredOf (w .session)) e) (λ (v : State). Inv last pass premises (repliedWorld w v)) (λ why. live wr (stepped-live e s (inv.ending q c (still why) (s .writing))))
       (λ a _ _. never (cc)) (λ a none. live wr (closing-live e s q c (omega arith) none again))
     where
       still : (0 < e .pending) ⊎ (HeaderStage (withElements (answeredOf (w .session)) e) ⊎ (w .session .stage ≡ S.Done)) ⊎ ((w .session .stage ≡ S.Elements) × (w .session .closed ≡ false)) → e .pending ≡ 1

@@ -20,10 +20,10 @@ use Rattle.elements.specs.Elements.{at, baseOf, numberOf}
 use Rattle.elements.specs.Answer as answer
 use Rattle.elements.specs.Answer.{kept, refusing, locatedOf, takenOf, confirmedOf, relocatedOf, overflowedOf, failedTo, countedOf, failedOf}
 use Rattle.elements.specs.declared.state.Elements.{Elements}
-use Rattle.recording.specs.Session.{withElements}
-use Rattle.recording.specs.Reply.{answeredOf}
-use Rattle.recording.specs.declared.session.Recording.{Recording}
-use Rattle.recording.proofs.Kept.{heldOf}
+use Rattle.recording_state.specs.Session.{withElements}
+use Rattle.recording_state.specs.Reply.{answeredOf}
+use Rattle.recording_state.specs.declared.state.State.{State}
+use Rattle.recording_state.proofs.Kept.{heldOf}
 use Rattle.geometry.proofs.PastReserved.{past-reserved-least}
 use Rattle.archive.specs.Recordings as recordings
 use Rattle.archive.proofs.tape.Basics.{no-frames}
@@ -32,7 +32,7 @@ use Rattle.archive.proofs.recording.ElementsLink as elements
 use Rattle.archive.proofs.recording.ElementsLink.{edgeOf, Linked, Moving, Writing}
 
 -- the elements after a reply: some more are confirmed, and the tape was tried as far or further
-pub record Step (last : ℕ) (s : Recording) (d : Drive) (k edge : ℕ) (e : Elements) : Type 0 where
+pub record Step (last : ℕ) (s : State) (d : Drive) (k edge : ℕ) (e : Elements) : Type 0 where
   pub n : ℕ
   pub tried : ℕ
   pub further : edge ≤ tried
@@ -46,12 +46,12 @@ pub record Step (last : ℕ) (s : Recording) (d : Drive) (k edge : ℕ) (e : Ele
   -- where the last was confirmed, all are on tape, and it lies before the next address
   pub all : 0 < s .elements .pending → e .pending ≡ 0 → (k ≡ e .first .0) × AtRest d × (isUser last (e .next .0 - 1) ≡ true)
 
-pub data Reached (last : ℕ) (s : Recording) (d : Drive) (k edge : ℕ) : answer.Step → Type 0 where
+pub data Reached (last : ℕ) (s : State) (d : Drive) (k edge : ℕ) : answer.Step → Type 0 where
   goes : (e : Elements) → Step last s d k edge e → Reached last s d k edge (kept e)
   unlawful : (e : Elements) → Reached last s d k edge (refusing e 8)
   full : (e : Elements) → Reached last s d k edge (refusing e 9)
 
-module _ (last : ℕ) (s : Recording) (d : Drive) (k edge : ℕ) (small : last + 65 < 2 ^ 32) (again : s .exchange .again ≡ false) (held : s .elements .outstanding ≤ s .elements .pending) (low : s .elements .pending ≤ 64) (room : s .elements .limit .0 ≤ last + 1) where
+module _ (last : ℕ) (s : State) (d : Drive) (k edge : ℕ) (small : last + 65 < 2 ^ 32) (again : s .exchange .again ≡ false) (held : s .elements .outstanding ≤ s .elements .pending) (low : s .elements .pending ≤ 64) (room : s .elements .limit .0 ≤ last + 1) where
   pub taken-step : s .elements .outstanding < s .elements .pending → Linked last (heldOf s) d k edge 1 → Step last s d k edge (takenOf (s .elements))
   taken-step due l =
       let roof = l .roof in

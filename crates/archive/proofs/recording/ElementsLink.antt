@@ -12,8 +12,8 @@ use Rattle.drive.specs.Senses.{good, busy, writeError, volumeOverflow}
 use Rattle.drive.specs.declared.command.Command.{Command}
 use Rattle.drive.specs.declared.command.Command.the-variants.{Write, Locate, ReadPosition}
 use Rattle.drive.specs.declared.reply.Reply.{Reply}
-use Rattle.recording.specs.declared.session.Recording.{Recording}
-use Rattle.recording.proofs.Kept.{Held, heldOf}
+use Rattle.recording_state.specs.declared.state.State.{State}
+use Rattle.recording_state.proofs.Kept.{Held, heldOf}
 use Rattle.archive.specs.Recordings as recordings
 use Rattle.archive.specs.Recordings.{Flight}
 
@@ -61,7 +61,7 @@ pub data Answered (last : ℕ) (h : Held) (pending : ℕ) (d : Drive) (k edge : 
   moved : (a : Address) → Means r good → d .buffer ≡ [] → d .failed ≡ false → d .at ≡ a .0 → Moving last h d k edge (a .0) → Answered last h pending d k edge r (Locate a)
   waits : (c : Command) → Means r busy → Asks last h pending d k edge c → Answered last h pending d k edge r c
 
-pub data Writing (last : ℕ) (s : Recording) (d : Drive) (k edge : ℕ) : Flight → Type 0 where
+pub data Writing (last : ℕ) (s : State) (d : Drive) (k edge : ℕ) : Flight → Type 0 where
   at-place : s .exchange .awaiting ≡ false → s .exchange .again ≡ false → Linked last (heldOf s) d k edge 0 → Writing last s d k edge recordings.no-command
   to-locate : s .exchange .awaiting ≡ false → s .exchange .again ≡ false → s .elements .relocate ≡ true → Moving last (heldOf s) d k edge (s .elements .target .0) → Writing last s d k edge recordings.no-command
   again : s .exchange .awaiting ≡ false → s .exchange .again ≡ true → Asks last (heldOf s) (s .elements .pending) d k edge (s .exchange .command) → Writing last s d k edge recordings.no-command

@@ -18,8 +18,8 @@ use Rattle.drive.specs.declared.command.Command.{Command}
 use Rattle.drive.specs.declared.command.Command.the-variants.{Write, Locate, ReadPosition}
 use Rattle.drive.specs.declared.reply.Reply.{Reply}
 use Rattle.drive.specs.Listed.{Listed}
-use Rattle.recording.specs.declared.session.Recording.{Recording}
-use Rattle.recording.proofs.Kept.{Held, heldOf}
+use Rattle.recording_state.specs.declared.state.State.{State}
+use Rattle.recording_state.proofs.Kept.{Held, heldOf}
 use Rattle.archive.specs.Recordings.{Flight}
 use Rattle.archive.proofs.tape.Places.{user-not-header}
 use Rattle.archive.proofs.tape.UserPlaces.{ranges-user}
@@ -109,7 +109,7 @@ module _ (last : ℕ) (h : Held) (d : Drive) (k edge : ℕ) (pending : ℕ) (hel
   answered-goes (link.moved a m none-left fresh at s) = rests-still b free (s .rests)
   answered-goes (waits c m a) = map-goes (λ _ _ _ x. waits c m x) (asks-goes a)
 
-pub writing-goes : {last : ℕ} {s : Recording} {d : Drive} {k edge : ℕ} {g : Flight} (f : List ℕ) (rest : List (List ℕ)) → s .elements .outstanding ≤ s .elements .pending → d .buffer ≡ f ∷ rest → d .failed ≡ false
+pub writing-goes : {last : ℕ} {s : State} {d : Drive} {k edge : ℕ} {g : Flight} (f : List ℕ) (rest : List (List ℕ)) → s .elements .outstanding ≤ s .elements .pending → d .buffer ≡ f ∷ rest → d .failed ≡ false
     → Writing last s d k edge g → Goes last (s .elements .first .0) (s .elements .pending) d rest k edge (λ e j x. Writing last s e j x g)
 writing-goes {last} {s} {d} {k} {edge} f rest held b free (at-place a g l) = map-goes (λ _ _ _ x. at-place a g x) (link-goes last (heldOf s) d k edge (s .elements .pending) held f rest b free (omega (arith, held)) l)
 writing-goes f rest held b free (to-locate a g r l) = rests-still b free (l .rests)

@@ -27,16 +27,16 @@ use Rattle.copies.proofs.HeaderPlaces.{header-from-first}
 use Rattle.elements.specs.Elements as counting
 use Rattle.elements.specs.Due as due
 use Rattle.elements.proofs.DueView as rule
-use Rattle.recording.specs.Session.{windowOf, windowLength}
-use Rattle.recording.specs.Written.{writtenBy, writtenFrame}
-use Rattle.recording.specs.Fetch.{Fetching, fetchOf, awaits, frameFor, sending}
-use Rattle.recording.specs.declared.session.Recording.{Recording}
-use Rattle.recording.specs.declared.session.Stage.{Stage}
-use Rattle.recording.specs.declared.session.Stage.the-variants as S
-use Rattle.recording.proofs.FetchView as view
-use Rattle.recording.proofs.FetchView.{FetchView, fetch-view}
-use Rattle.recording.proofs.Stages.{HeaderStage, ElementStage, header-not-element, header-not-done, element-not-done}
-use Rattle.recording.proofs.Kept.{Held, heldOf}
+use Rattle.recording_state.specs.Session.{windowOf, windowLength}
+use Rattle.recording_state.specs.Written.{writtenBy, writtenFrame}
+use Rattle.recording_state.specs.Fetch.{Fetching, fetchOf, awaits, frameFor, sending}
+use Rattle.recording_state.specs.declared.state.State.{State}
+use Rattle.recording_state.specs.declared.state.Stage.{Stage}
+use Rattle.recording_state.specs.declared.state.Stage.the-variants as S
+use Rattle.recording_state.proofs.FetchView as view
+use Rattle.recording_state.proofs.FetchView.{FetchView, fetch-view}
+use Rattle.recording_state.proofs.Stages.{HeaderStage, ElementStage, header-not-element, header-not-done, element-not-done}
+use Rattle.recording_state.proofs.Kept.{Held, heldOf}
 use Rattle.archive.specs.Recordings as recordings
 use Rattle.archive.specs.Recordings.{World, Flight, TakesEffect, fetchNumber, flightAfter, reportedAfter, afterFetch}
 use Rattle.archive.specs.Demand.{Within}
@@ -101,7 +101,7 @@ fetchedWorld w lent x = record {
   notes = record { accepted = w .notes .accepted; unaltered = w .notes .unaltered && agree lent (w .window); reported = reportedAfter (x .said) (w .notes .reported) };
 }
 
-abbrev lentWorld : World → List ℕ → Recording → Flight → Bool → World
+abbrev lentWorld : World → List ℕ → State → Flight → Bool → World
 lentWorld w lent s f reported = record { session = s; window = lent; drive = w .drive; flight = f; notes = record { accepted = w .notes .accepted; unaltered = w .notes .unaltered && agree lent (w .window); reported = reported } }
 
 module _ {last pass : ℕ} {premises : Type 0} (w : World) (lent frame : List ℕ) (set : Setting last pass) (wr : Within last (w .drive .written)) (l : Live last pass premises w) where
@@ -291,21 +291,21 @@ module _ {last pass : ℕ} {premises : Type 0} (w : World) (lent frame : List �
 
 -- ---- no reply is awaited, so no command is in flight
 
-copying-idle : {s : Recording} {d : Drive} {f : Flight} → s .exchange .awaiting ≡ false → Copying s d f → Copying s d recordings.no-command
+copying-idle : {s : State} {d : Drive} {f : Flight} → s .exchange .awaiting ≡ false → Copying s d f → Copying s d recordings.no-command
 copying-idle a (copies.at-place b g x) = copies.at-place b g x
 copying-idle a (copies.to-seek b g x) = copies.to-seek b g x
 copying-idle a (copies.again b g x) = copies.again b g x
 copying-idle a (copies.under-way c f b g e h x) = clash b a
 copying-idle a (copies.replied r b g x) = clash b a
 
-writing-idle : {last : ℕ} {s : Recording} {d : Drive} {k edge : ℕ} {f : Flight} → s .exchange .awaiting ≡ false → Writing last s d k edge f → Writing last s d k edge recordings.no-command × (f ≡ recordings.no-command)
+writing-idle : {last : ℕ} {s : State} {d : Drive} {k edge : ℕ} {f : Flight} → s .exchange .awaiting ≡ false → Writing last s d k edge f → Writing last s d k edge recordings.no-command × (f ≡ recordings.no-command)
 writing-idle a (elements.at-place b g x) = (elements.at-place b g x, refl)
 writing-idle a (elements.to-locate b g r x) = (elements.to-locate b g r x, refl)
 writing-idle a (elements.again b g x) = (elements.again b g x, refl)
 writing-idle a (elements.under-way c f b g e x) = clash b a
 writing-idle a (elements.replied r b g x) = clash b a
 
-writing-safe : {last : ℕ} {s : Recording} {d : Drive} {k edge : ℕ} → s .exchange .again ≡ false → Writing last s d k edge recordings.no-command → Safe last d
+writing-safe : {last : ℕ} {s : State} {d : Drive} {k edge : ℕ} → s .exchange .again ≡ false → Writing last s d k edge recordings.no-command → Safe last d
 writing-safe ag (elements.at-place b g x) = link-safe x
 writing-safe ag (elements.to-locate b g r x) = rests-safe (x .rests)
 writing-safe ag (elements.again b g x) = clash g ag
@@ -374,7 +374,7 @@ module _ {last pass : ℕ} {premises : Type 0} (w : World) (lent frame : List �
   live-fetch (inv.finished q c a b f g h r y) v te = fetch-done q h v te
 
 -- refused with 7
-wrong-phase : {X : Type 0} (s : Recording) (lent frame : List ℕ) → s .ended || s .exchange .awaiting ≡ true → TakesEffect (fetchNumber (fetchOf s lent frame .said)) → X
+wrong-phase : {X : Type 0} (s : State) (lent frame : List ℕ) → s .ended || s .exchange .awaiting ≡ true → TakesEffect (fetchNumber (fetchOf s lent frame .said)) → X
 unfolding fetchOf
 wrong-phase s lent frame e te = no-effect (omega arith) (omega arith) (subst (λ (x : Fetching). TakesEffect (fetchNumber (x .said))) (pick-t _ e) te)
 

@@ -17,13 +17,13 @@ use Rattle.drive.specs.declared.command.Command.{Command}
 use Rattle.drive.specs.declared.reply.Reply.{Reply}
 use Rattle.copies.specs.Copies as copying
 use Rattle.elements.specs.declared.state.Elements.{Elements}
-use Rattle.recording.specs.Session.{Result, accepting, ending, withStage, withCopies, settledOf}
-use Rattle.recording.specs.Reply.{caseOf, answeredOf, repeatedOf, completedBy, headerReplyBy, answerOf, replyOf}
-use Rattle.recording.specs.declared.session.Recording.{Recording}
-use Rattle.recording.specs.declared.session.Stage.{Stage}
-use Rattle.recording.specs.declared.session.Stage.the-variants as S
-use Rattle.recording.proofs.Stages.{HeaderStage, header-not-element}
-use Rattle.recording.proofs.ReplyView.{by-headers, reply-so}
+use Rattle.recording_state.specs.Session.{Result, accepting, ending, withStage, withCopies, settledOf}
+use Rattle.recording_state.specs.Reply.{caseOf, answeredOf, repeatedOf, completedBy, headerReplyBy, answerOf, replyOf}
+use Rattle.recording_state.specs.declared.state.State.{State}
+use Rattle.recording_state.specs.declared.state.Stage.{Stage}
+use Rattle.recording_state.specs.declared.state.Stage.the-variants as S
+use Rattle.recording_state.proofs.Stages.{HeaderStage, header-not-element}
+use Rattle.recording_state.proofs.ReplyView.{by-headers, reply-so}
 use Rattle.archive.specs.Recordings as recordings
 use Rattle.archive.specs.Recordings.{World}
 use Rattle.archive.specs.Demand.{Within}
@@ -46,14 +46,14 @@ use Rattle.archive.proofs.recording.Setting.{Setting}
 
 -- ---- which case a reply is
 
-module _ (s : Recording) (r : Reply) (going : s .ended ≡ false) (asked : s .exchange .awaiting ≡ true) where
+module _ (s : State) (r : Reply) (going : s .ended ≡ false) (asked : s .exchange .awaiting ≡ true) where
   pub case-is : {c : Command} {m : ℕ} → s .exchange .command ≡ c → Means r m → caseOf s r ≡ commandCode c * 256 + m
   case-is {c} e means = ap (λ (x : Command). commandCode x * 256 + meaningOf (r .key) (r .asc) (r .ascq)) e ∙ ap (λ (x : ℕ). commandCode c * 256 + x) means
 
   pub asked-so : (s .ended || not (s .exchange .awaiting)) ≡ false
   asked-so = neither _ _ going (ap not asked)
 
-abbrev pub repliedWorld : World → Recording → World
+abbrev pub repliedWorld : World → State → World
 repliedWorld w s = record { session = s; window = w .window; drive = w .drive; flight = recordings.no-command; notes = w .notes }
 
 -- what the window is for
@@ -69,11 +69,11 @@ module _ {last pass : ℕ} {premises : Type 0} (w : World) (r : Reply) (set : Se
   ends-so n d safe = over wr (record { ended = refl; none = refl; safe = safe; unreported = unreported l d })
 
   module _ (st : HeaderStage (w .session)) (again : w .session .exchange .again ≡ false) (asked : w .session .exchange .awaiting ≡ true) where
-    sized-same : (v : Recording) → v .setup .highest ≡ w .session .setup .highest → v .elements ≡ w .session .elements → _≡_ {A = Sized} (record { top = v .setup .highest; els = v .elements }) (record { top = w .session .setup .highest; els = w .session .elements })
+    sized-same : (v : State) → v .setup .highest ≡ w .session .setup .highest → v .elements ≡ w .session .elements → _≡_ {A = Sized} (record { top = v .setup .highest; els = v .elements }) (record { top = w .session .setup .highest; els = w .session .elements })
     sized-same v high els = ap (λ (n : ℕ). record { top = n; els = v .elements }) high ∙ ap (λ (x : Elements). record { top = w .session .setup .highest; els = x }) els
 
     -- the same headers, other copies or another command
-    more-live : (v : Recording) → v .ended ≡ false → v .stage ≡ w .session .stage → v .setup .highest ≡ w .session .setup .highest → v .elements ≡ w .session .elements → v .copies .header ≡ w .session .copies .header
+    more-live : (v : State) → v .ended ≡ false → v .stage ≡ w .session .stage → v .setup .highest ≡ w .session .setup .highest → v .elements ≡ w .session .elements → v .copies .header ≡ w .session .copies .header
         → Course last (repliedWorld w v) (l .k) (l .edge) → Live last pass premises (repliedWorld w v)
     more-live v going stage high els head course = record {
       k = l .k;
@@ -111,7 +111,7 @@ module _ {last pass : ℕ} {premises : Type 0} (w : World) (r : Reply) (set : Se
   -- ---- the opening headers
 
   module _ (q : w .session .stage ≡ S.OpeningHeaders) (t : inv.Unstarted last (w .session .elements) (l .k) (l .edge)) (again : w .session .exchange .again ≡ false) (asked : w .session .exchange .awaiting ≡ true) where
-    abbrev opened : Recording
+    abbrev opened : State
     opened = withStage (answeredOf (w .session)) S.Elements
 
     nothing-queued : AtRest (w .drive) → w .drive .failed ≡ false → Queue last pass (w .notes .accepted) (l .k) (w .drive .buffer)
@@ -159,13 +159,13 @@ module _ {last pass : ℕ} {premises : Type 0} (w : World) (r : Reply) (set : Se
         live wr (more-live (inl q) again asked (withCopies (answeredOf (w .session)) c) (l .going) refl refl refl e (inv.opening q t (record { counts = n; placed = p; copying = copies.to-seek refl again x })))
     opening-next (next.through rests copy) safe =
         subst (λ (x : Stage). Inv last pass premises (repliedWorld w (settledOf (completedBy x (answeredOf (w .session)))))) (sym q)
-        (settled-cases opened (λ (v : Recording). Inv last pass premises (repliedWorld w v)) (λ _. live wr (opened-live rests)) (λ a b c. live wr (eod-live (repliedWorld w opened) (opened-live rests) a b c)) (λ a _. never (cc)))
+        (settled-cases opened (λ (v : State). Inv last pass premises (repliedWorld w v)) (λ _. live wr (opened-live rests)) (λ a b c. live wr (eod-live (repliedWorld w opened) (opened-live rests) a b c)) (λ a _. never (cc)))
     opening-next (next.ends n) safe = ends-so n (λ z. never (cc)) safe
 
   -- ---- the closing headers
 
   module _ (q : w .session .stage ≡ S.ClosingHeaders) (closed : w .session .closed ≡ true) (k0 : l .k ≡ length (w .notes .accepted) + 1) (e0 : l .edge ≡ last + 1) (again : w .session .exchange .again ≡ false) (asked : w .session .exchange .awaiting ≡ true) where
-    abbrev done : Recording
+    abbrev done : State
     done = withStage (answeredOf (w .session)) S.Done
 
     done-live : AtRest (w .drive) → Copy (w .session .copies .header) (w .drive .tape) 2995 → Live last pass premises (repliedWorld w done)
@@ -199,7 +199,7 @@ module _ {last pass : ℕ} {premises : Type 0} (w : World) (r : Reply) (set : Se
         live wr (more-live (inr q) again asked (withCopies (answeredOf (w .session)) c) (l .going) refl refl refl e (inv.closing q closed k0 e0 (record { counts = n; placed = p; copying = copies.to-seek refl again x })))
     closing-next (next.through rests copy) safe =
         subst (λ (x : Stage). Inv last pass premises (repliedWorld w (settledOf (completedBy x (answeredOf (w .session)))))) (sym q)
-        (settled-cases done (λ (v : Recording). Inv last pass premises (repliedWorld w v)) (λ _. live wr (done-live rests copy)) (λ a _ _. never (cc)) (λ a _. never (cc)))
+        (settled-cases done (λ (v : State). Inv last pass premises (repliedWorld w v)) (λ _. live wr (done-live rests copy)) (λ a _ _. never (cc)) (λ a _. never (cc)))
     closing-next (next.ends n) safe = ends-so n (λ z. never (cc)) safe
 
   -- ---- by what the drive gave

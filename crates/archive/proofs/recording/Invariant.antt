@@ -14,12 +14,12 @@ use Rattle.archive.specs.Tape.{Cartridge}
 use Rattle.drive.specs.declared.command.Command.the-variants.{Write}
 use Rattle.drive.specs.declared.reply.Reply.{Reply}
 use Rattle.elements.specs.declared.state.Elements.{Elements}
-use Rattle.recording.specs.Session.{windowOf}
-use Rattle.recording.specs.declared.session.Recording.{Recording}
-use Rattle.recording.specs.declared.session.Stage.{Stage}
-use Rattle.recording.specs.declared.session.Stage.the-variants as S
-use Rattle.recording.proofs.ListedReplies.{OffHeaders}
-use Rattle.recording.proofs.Stages.{ElementStage}
+use Rattle.recording_state.specs.Session.{windowOf}
+use Rattle.recording_state.specs.declared.state.State.{State}
+use Rattle.recording_state.specs.declared.state.Stage.{Stage}
+use Rattle.recording_state.specs.declared.state.Stage.the-variants as S
+use Rattle.recording_state.proofs.ListedReplies.{OffHeaders}
+use Rattle.recording_state.proofs.Stages.{ElementStage}
 use Rattle.archive.specs.Recordings as recordings
 use Rattle.archive.specs.Recordings.{World}
 use Rattle.archive.specs.Demand.{Within}
@@ -47,7 +47,7 @@ spareOf S.Done = 0
 
 -- ---- the session alone
 
-pub record Counted (last n : ℕ) (s : Recording) : Type 0 where
+pub record Counted (last n : ℕ) (s : State) : Type 0 where
   pub wide : s .setup .highest ≤ 63
   pub held : s .elements .outstanding ≤ s .elements .pending
   pub windowed : s .elements .pending ≤ s .setup .highest + 1

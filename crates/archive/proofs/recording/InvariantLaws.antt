@@ -5,9 +5,9 @@ use mathlib.Core.Bool.{Bool, true, false}
 use mathlib.Core.List.{List}
 use Rattle.geometry.proofs.PickLaws.{pick-t}
 use Rattle.geometry.proofs.TestLaws.{either-right}
-use Rattle.recording.specs.Fetch.{Fetching, fetchOf}
-use Rattle.recording.specs.declared.session.Recording.{Recording}
-use Rattle.recording.specs.declared.session.Stage.the-variants as S
+use Rattle.recording_state.specs.Fetch.{Fetching, fetchOf}
+use Rattle.recording_state.specs.declared.state.State.{State}
+use Rattle.recording_state.specs.declared.state.Stage.the-variants as S
 use Rattle.archive.specs.Recordings as recordings
 use Rattle.archive.specs.Recordings.{World, Flight, fetchNumber}
 use Rattle.archive.specs.Conduct.{Drive}
@@ -27,14 +27,14 @@ unreported {w = w} l n = go (w .notes .reported) refl
 
 -- a command in flight is awaited
 
-copying-awaits : {s : Recording} {d : Drive} {f : Flight} → Copying s d f → (f ≡ recordings.no-command → ⊥) → s .exchange .awaiting ≡ true
+copying-awaits : {s : State} {d : Drive} {f : Flight} → Copying s d f → (f ≡ recordings.no-command → ⊥) → s .exchange .awaiting ≡ true
 copying-awaits (copies.at-place _ _ _) h = absurd (h refl)
 copying-awaits (copies.to-seek _ _ _) h = absurd (h refl)
 copying-awaits (copies.again _ _ _) h = absurd (h refl)
 copying-awaits (copies.under-way _ _ a _ _ _ _) h = a
 copying-awaits (copies.replied _ a _ _) h = a
 
-writing-awaits : {last : ℕ} {s : Recording} {d : Drive} {k edge : ℕ} {f : Flight} → Writing last s d k edge f → (f ≡ recordings.no-command → ⊥) → s .exchange .awaiting ≡ true
+writing-awaits : {last : ℕ} {s : State} {d : Drive} {k edge : ℕ} {f : Flight} → Writing last s d k edge f → (f ≡ recordings.no-command → ⊥) → s .exchange .awaiting ≡ true
 writing-awaits (elements.at-place _ _ _) h = absurd (h refl)
 writing-awaits (elements.to-locate _ _ _ _) h = absurd (h refl)
 writing-awaits (elements.again _ _ _) h = absurd (h refl)
@@ -54,6 +54,6 @@ flight-awaits (rejecting _ d) h = d .awaits
 flight-awaits (over _ o) h = absurd (h (o .none))
 
 -- so another fetch is refused with 7
-pub fetch-awaited : (s : Recording) (lent frame : List ℕ) → s .exchange .awaiting ≡ true → fetchNumber (fetchOf s lent frame .said) ≡ 7
+pub fetch-awaited : (s : State) (lent frame : List ℕ) → s .exchange .awaiting ≡ true → fetchNumber (fetchOf s lent frame .said) ≡ 7
 unfolding fetchOf
 fetch-awaited s lent frame a = ap (λ (x : Fetching). fetchNumber (x .said)) (pick-t _ (either-right (s .ended) (s .exchange .awaiting) a))

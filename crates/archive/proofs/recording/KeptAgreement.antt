@@ -14,8 +14,8 @@ use Rattle.drive.specs.declared.reply.Reply.{Reply}
 use Rattle.copies.specs.declared.state.Copies.{Copies}
 use Rattle.copies.proofs.Counts.{CountsOf}
 use Rattle.copies.proofs.DueAddress.{PlacedOf}
-use Rattle.recording.specs.declared.session.Recording.{Recording}
-use Rattle.recording.proofs.Kept.{Held, heldOf}
+use Rattle.recording_state.specs.declared.state.State.{State}
+use Rattle.recording_state.proofs.Kept.{Held, heldOf}
 use Rattle.archive.specs.Recordings as recordings
 use Rattle.archive.specs.Recordings.{Flight}
 use Rattle.archive.proofs.recording.CopiesLink as copies
@@ -25,7 +25,7 @@ use Rattle.archive.proofs.recording.ElementsLink.{Linked, Moving, Asks,
 
 -- ---- header copies
 
-module _ (s v : Recording) (d : Drive) (h : heldOf v ≡ heldOf s) (c : v .copies ≡ s .copies) where
+module _ (s v : State) (d : Drive) (h : heldOf v ≡ heldOf s) (c : v .copies ≡ s .copies) where
   awaiting-is : v .exchange .awaiting ≡ s .exchange .awaiting
   awaiting-is = ap (λ (x : Held). x .exchange .awaiting) h
 
@@ -66,7 +66,7 @@ answered-more l (elements.filled a m low x) = elements.filled a m low x
 answered-more l (elements.moved a m e f p x) = elements.moved a m e f p x
 answered-more l (elements.waits c m x) = elements.waits c m (asks-more l x)
 
-module _ (last : ℕ) (s v : Recording) (d : Drive) (k edge : ℕ) (h : heldOf v ≡ heldOf s) (more : s .elements .pending ≤ v .elements .pending) where
+module _ (last : ℕ) (s v : State) (d : Drive) (k edge : ℕ) (h : heldOf v ≡ heldOf s) (more : s .elements .pending ≤ v .elements .pending) where
   asks-as : {c : Command} → Asks last (heldOf s) (s .elements .pending) d k edge c → Asks last (heldOf v) (v .elements .pending) d k edge c
   asks-as {c} x = subst (λ (y : Held). Asks last y (v .elements .pending) d k edge c) (sym h) (asks-more more x)
 
@@ -125,7 +125,7 @@ answered-numbers {pending = pending} b (elements.filled a m low l) = link-number
 answered-numbers {pending = pending} b (elements.moved a m e f p x) = move-numbers pending x
 answered-numbers {pending = pending} b (elements.waits c m x) = asks-numbers b x
 
-pub writing-numbers : {last : ℕ} {s : Recording} {d : Drive} {k edge : ℕ} {f : Flight} → s .elements .outstanding ≤ s .elements .pending → Writing last s d k edge f → Numbers last (s .elements .first .0) (s .elements .outstanding) (s .elements .pending) k d
+pub writing-numbers : {last : ℕ} {s : State} {d : Drive} {k edge : ℕ} {f : Flight} → s .elements .outstanding ≤ s .elements .pending → Writing last s d k edge f → Numbers last (s .elements .first .0) (s .elements .outstanding) (s .elements .pending) k d
 writing-numbers {s = s} b (elements.at-place a g l) = link-numbers (s .elements .pending) (omega (arith, b)) l
 writing-numbers {s = s} b (elements.to-locate a g r m) = move-numbers (s .elements .pending) m
 writing-numbers b (elements.again a g x) = asks-numbers b x
@@ -133,5 +133,5 @@ writing-numbers b (elements.under-way c f a g e x) = asks-numbers b x
 writing-numbers b (elements.replied r a g x) = answered-numbers b x
 
 -- a WRITE in flight is of something due
-pub sent-due : {last : ℕ} {s : Recording} {d : Drive} {k edge : ℕ} {a : Address} {f : List ℕ} → Writing last s d k edge (recordings.sent (Write a) f) → s .elements .outstanding < s .elements .pending
+pub sent-due : {last : ℕ} {s : State} {d : Drive} {k edge : ℕ} {a : Address} {f : List ℕ} → Writing last s d k edge (recordings.sent (Write a) f) → s .elements .outstanding < s .elements .pending
 sent-due (elements.under-way _ _ a g e (elements.writes b p due off low l)) = due

@@ -15,10 +15,10 @@ use Rattle.drive.specs.declared.command.Command.{Command}
 use Rattle.drive.specs.declared.command.Command.the-variants.{Read, Write}
 use Rattle.drive.specs.declared.reply.Reply.{Reply}
 use Rattle.copies.specs.declared.state.Copies.{Copies}
-use Rattle.recording.specs.declared.session.Recording.{Recording}
-use Rattle.recording.proofs.Kept.{Held, heldOf}
-use Rattle.recording.proofs.ListedReplies.{OffHeaders, OnHeaders, Lawful, unlisted-refused, listed-taken}
-use Rattle.recording.proofs.Stages.{HeaderStage, ElementStage, header-not-element}
+use Rattle.recording_state.specs.declared.state.State.{State}
+use Rattle.recording_state.proofs.Kept.{Held, heldOf}
+use Rattle.recording_state.proofs.ListedReplies.{OffHeaders, OnHeaders, Lawful, unlisted-refused, listed-taken}
+use Rattle.recording_state.proofs.Stages.{HeaderStage, ElementStage, header-not-element}
 use Rattle.archive.specs.Recordings as recordings
 use Rattle.archive.specs.Recordings.{World, refusal}
 use Rattle.archive.proofs.tape.Basics.{none-sent, answered-sent}
@@ -32,7 +32,7 @@ use Rattle.archive.proofs.recording.Invariant as invariant
 use Rattle.archive.proofs.recording.Invariant.{Course, Live, Inv, live, rejecting, over}
 
 -- what a session has sent, and awaits the reply to
-pub record Issued (s : Recording) (c : Command) : Type 0 where
+pub record Issued (s : State) (c : Command) : Type 0 where
   pub going : s .ended ≡ false
   pub awaits : s .exchange .awaiting ≡ true
   pub is : s .exchange .command ≡ c

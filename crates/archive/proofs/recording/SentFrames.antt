@@ -13,19 +13,19 @@ use Rattle.frame.specs.declared.element.Kind.{Kind}
 use Rattle.frame.specs.declared.element.Kind.the-variants.{Data, Marker, Eod}
 use Rattle.judgement.specs.Judgement.{judgeFrame, foundSaid}
 use Rattle.elements.specs.Elements as elements
-use Rattle.recording.specs.Session.{windowOf, windowLength}
-use Rattle.recording.specs.Window.{blockAt}
-use Rattle.recording.specs.Written.{kindBy, kindOf, elementPlace, writtenElement, writtenBy, writtenFrame}
-use Rattle.recording.specs.declared.session.Recording.{Recording}
-use Rattle.recording.specs.declared.session.Stage.{Stage}
-use Rattle.recording.specs.declared.session.Stage.the-variants as S
+use Rattle.recording_state.specs.Session.{windowOf, windowLength}
+use Rattle.recording_state.specs.Window.{blockAt}
+use Rattle.recording_state.specs.Written.{kindBy, kindOf, elementPlace, writtenElement, writtenBy, writtenFrame}
+use Rattle.recording_state.specs.declared.state.State.{State}
+use Rattle.recording_state.specs.declared.state.Stage.{Stage}
+use Rattle.recording_state.specs.declared.state.Stage.the-variants as S
 use Rattle.archive.specs.Recordings.{Element, block, filemark}
 use Rattle.archive.proofs.tape.Basics.{reads-itself}
 use Rattle.archive.proofs.tape.WrittenFrames.{written-judged, written-data}
 use Rattle.archive.proofs.tape.Stands.{Item, element, eod, itemAt, kindFor, Carries, telling, Stands, StoredAs}
 use Rattle.archive.proofs.tape.StandsLaws.{item-in, item-past}
 
-module _ (last pass : ℕ) (s : Recording) (window : List ℕ) (xs : List Element) (last-is : s .copies .header .last .0 ≡ last) (pass-is : s .copies .header .pass ≡ pass) (low : pass ≤ 65534)
+module _ (last pass : ℕ) (s : State) (window : List ℕ) (xs : List Element) (last-is : s .copies .header .last .0 ≡ last) (pass-is : s .copies .header .pass ≡ pass) (low : pass ≤ 65534)
     (long : length window ≡ windowLength s) (small : s .elements .first .0 + s .elements .outstanding < 2 ^ 32) where
   abbrev number : ℕ
   number = s .elements .first .0 + s .elements .outstanding

@@ -26,11 +26,11 @@ use Rattle.archive.specs.Conduct.{Drive, AtRest}
 use Rattle.archive.specs.Tape.{Tape, Cartridge}
 use Rattle.copies.proofs.Counts.{start-counts}
 use Rattle.copies.proofs.DueAddress.{start-placed}
-use Rattle.recording.specs.Session.{Result, accepting}
+use Rattle.recording_state.specs.Session.{Result, accepting}
 use Rattle.copies.specs.Carried.{isExhausted, renewed, openingHeader}
-use Rattle.recording.specs.Open.{fresh, openRefused, openWith, openFor, openOf, openBlankFor, openBlankOf}
-use Rattle.recording.specs.declared.session.Recording.{Recording}
-use Rattle.recording.specs.declared.session.Stage.the-variants as S
+use Rattle.recording_state.specs.Open.{fresh, openRefused, openWith, openFor, openOf, openBlankFor, openBlankOf}
+use Rattle.recording_state.specs.declared.state.State.{State}
+use Rattle.recording_state.specs.declared.state.Stage.the-variants as S
 use Rattle.archive.specs.Recordings as recordings
 use Rattle.archive.specs.Demand as demand
 use Rattle.archive.specs.Demand.{newPass, Opening, on-header, on-none, opened, OnNewest, NoneBears}
@@ -47,7 +47,7 @@ use Rattle.archive.proofs.recording.Setting.{Setting, Premises}
 
 -- ---- an opening that was accepted
 
-pub record Started (last : ℕ) (s : Recording) : Type 0 where
+pub record Started (last : ℕ) (s : State) : Type 0 where
   pub depth : ℕ
   pub highest : ℕ
   pub header : Header
@@ -58,10 +58,10 @@ pub record Started (last : ℕ) (s : Recording) : Type 0 where
   pub eod-zero : header .eod .0 ≡ 0
   pub count-fits : header .update + 1 < 2 ^ 32
 
-refused-accepting : {X : Type 0} {s : Recording} (n : ℕ) → 1 ≤ n → openRefused n ≡ accepting s → X
+refused-accepting : {X : Type 0} {s : State} (n : ℕ) → 1 ≤ n → openRefused n ≡ accepting s → X
 refused-accepting n l e = let z : n ≡ 0 = ap (λ (r : Result). r .number) e in absurd (omega arith)
 
-opened-with : (depth blocks : ℕ) (exhausted : Bool) (h : Header) (s : Recording) → openWith depth blocks exhausted h ≡ accepting s → (fresh depth (blocks - 1) h ≡ s) × (blocks ≤ 64) × (exhausted ≡ false)
+opened-with : (depth blocks : ℕ) (exhausted : Bool) (h : Header) (s : State) → openWith depth blocks exhausted h ≡ accepting s → (fresh depth (blocks - 1) h ≡ s) × (blocks ≤ 64) × (exhausted ≡ false)
 unfolding openWith
 opened-with depth blocks exhausted h s =
     pick-by (λ (r : Result). r ≡ accepting s → (fresh depth (blocks - 1) h ≡ s) × (blocks ≤ 64) × (exhausted ≡ false)) (eqb depth 0 || (eqb blocks 0 || ltb 64 blocks)) (λ _ e. refused-accepting 4 (omega arith) e)
@@ -70,7 +70,7 @@ opened-with depth blocks exhausted h s =
     let widths = or-false (eqb blocks 0) (ltb 64 blocks) (or-false (eqb depth 0) (eqb blocks 0 || ltb 64 blocks) sizes .1) in
     (ap (λ (r : Result). r .session) e, ltb-false 64 blocks (widths .1), x)))
 
-module _ (g : Geometry) (last depth blocks : ℕ) (s : Recording) (e : lastOf g ≡ address last) where
+module _ (g : Geometry) (last depth blocks : ℕ) (s : State) (e : lastOf g ≡ address last) where
   pub record OnHeader (h : List ℕ) : Type 0 where
     pub valid : validHeader last h ≡ true
     pub with : (fresh depth (blocks - 1) (renewed (headerOf h)) ≡ s) × (blocks ≤ 64) × (isExhausted (headerOf h) ≡ false)
@@ -137,8 +137,8 @@ module _ (g : Geometry) (last depth blocks : ℕ) (s : Recording) (e : lastOf g 
   pass-is (on-header h) q =
       let o = on-header-view h q in
       let small : (headerOf h .pass + 1) % 2 ^ 16 ≡ headerOf h .pass + 1 = mod-eq-of-lt (let y = fresh-counts h o .0 in omega arith) in
-      sym (ap (λ (r : Recording). r .copies .header .pass) (o .with .0)) ∙ small
-  pass-is on-none q = sym (ap (λ (r : Recording). r .copies .header .pass) (blank-with q .0))
+      sym (ap (λ (r : State). r .copies .header .pass) (o .with .0)) ∙ small
+  pass-is on-none q = sym (ap (λ (r : State). r .copies .header .pass) (blank-with q .0))
 
   -- every valid header that the cartridge holds counts less
   pub starts-below : (t : Tape) (o : Opening) → opened g depth blocks o ≡ accepting s → OnNewest last t o → Below last (s .copies .header) t
@@ -146,11 +146,11 @@ module _ (g : Geometry) (last depth blocks : ℕ) (s : Recording) (e : lastOf g 
       let o = on-header-view h q in
       let x = fresh-counts h o in
       let few : (headerOf h .update + 1) % 2 ^ 32 ≡ headerOf h .update + 1 = mod-eq-of-lt (let y = x .1 in omega arith) in
-      let is : renewed (headerOf h) .update ≡ s .copies .header .update = ap (λ (r : Recording). r .copies .header .update) (o .with .0) in
+      let is : renewed (headerOf h) .update ≡ s .copies .header .update = ap (λ (r : State). r .copies .header .update) (o .with .0) in
       inl (omega (arith, n .highest a f at, few, is))
   starts-below t on-none q n a f at = absurd (n a f at)
 
-pub sets : (g : Geometry) (last depth blocks : ℕ) (o : Opening) (s : Recording) → g .segtrk < 2 ^ 16 → g .trks < 2 ^ 16 → lastOf g ≡ address last
+pub sets : (g : Geometry) (last depth blocks : ℕ) (o : Opening) (s : State) → g .segtrk < 2 ^ 16 → g .trks < 2 ^ 16 → lastOf g ≡ address last
     → opened g depth blocks o ≡ accepting s → Setting last (s .copies .header .pass)
 sets g last depth blocks o s seg trk e q =
     let f = frames-of g last e in
@@ -158,7 +158,7 @@ sets g last depth blocks o s seg trk e q =
     record {
       large = f .large;
       small = last-small g last seg trk f;
-      low = subst (λ (r : Recording). r .copies .header .pass ≤ 65534) (x .is) (x .pass-low);
+      low = subst (λ (r : State). r .copies .header .pass ≤ 65534) (x .is) (x .pass-low);
     }
 
 -- ---- the start
@@ -182,14 +182,14 @@ not-element : (S.OpeningHeaders ≡ S.Elements) ⊎ (S.OpeningHeaders ≡ S.Eod)
 not-element (inl a) = never (cc)
 not-element (inr a) = never (cc)
 
-begins-fresh : (last : ℕ) (d : Drive) (window : List ℕ) (s : Recording) (x : Started last s) (premises : Type 0) → Setting last (s .copies .header .pass) → d .written ≡ [] → AtRest d
+begins-fresh : (last : ℕ) (d : Drive) (window : List ℕ) (s : State) (x : Started last s) (premises : Type 0) → Setting last (s .copies .header .pass) → d .written ≡ [] → AtRest d
     → (premises → Cartridge last (d .tape) × NoneBears last (d .tape) (s .copies .header .pass) × Below last (s .copies .header) (d .tape)) → Inv last (s .copies .header .pass) premises (recordings.started s window d)
 begins-fresh last d window s x premises set unwritten rest pre =
     live (subst (demand.Within last) (sym unwritten) demand.nothing-written) (record {
       k = 0;
       edge = 10;
-      going = ap (λ (r : Recording). r .ended) (sym (x .is));
-      counted = subst (λ (r : Recording). inv.Counted last 0 r) (x .is) (record {
+      going = ap (λ (r : State). r .ended) (sym (x .is));
+      counted = subst (λ (r : State). inv.Counted last 0 r) (x .is) (record {
         wide = x .narrow;
         held = le-refl 0;
         windowed = omega arith;
@@ -197,13 +197,13 @@ begins-fresh last d window s x premises set unwritten rest pre =
         marks = length-replicate {A = Bool} 64 false;
         room = room;
       });
-      carried = subst (λ (r : Recording). Carried last (r .copies .header .pass) (inv.spareOf (r .stage)) (r .copies .header)) (x .is) (record {
+      carried = subst (λ (r : State). Carried last (r .copies .header .pass) (inv.spareOf (r .stage)) (r .copies .header)) (x .is) (record {
         last-is = x .last-is;
         pass-is = refl;
         eod-fits = ap (λ (n : ℕ). eqb n 0 || isUser last n) (x .eod-zero);
         count-fits = x .count-fits;
       });
-      course = subst (λ (r : Recording). inv.Course last (recordings.started r window d) 0 10) (x .is)
+      course = subst (λ (r : State). inv.Course last (recordings.started r window d) 0 10) (x .is)
           (inv.opening refl (record { first-is = refl; none-out = refl; relocates = refl; target-is = refl; roof = omega (arith, set .large); zone = inl (omega arith); spread = le-refl 10 }) (record {
             counts = start-counts (x .header);
             placed = start-placed (x .header);
@@ -214,7 +214,7 @@ begins-fresh last d window s x premises set unwritten rest pre =
           let c = pre p in
           record {
             tape = c .0;
-            seen = subst (λ (n : ℕ). Seen last (s .copies .header .pass) [] n 0 10 (d .tape)) (ap (λ (r : Recording). inv.totalOf (r .stage) 0) (x .is)) (nothing-seen last (s .copies .header .pass) (d .tape) (c .0) (c .1));
+            seen = subst (λ (n : ℕ). Seen last (s .copies .header .pass) [] n 0 10 (d .tape)) (ap (λ (r : State). inv.totalOf (r .stage) 0) (x .is)) (nothing-seen last (s .copies .header .pass) (d .tape) (c .0) (c .1));
             below = c .2;
             stored = λ i h. absurd (none-pending i h);
             queue = λ st _. absurd (opening-stage st);
@@ -226,14 +226,14 @@ begins-fresh last d window s x premises set unwritten rest pre =
     room = let e : (x .header .last .0 + 1) % 2 ^ 32 ≡ x .header .last .0 + 1 = mod-eq-of-lt (omega (arith, x .last-is, set .small)) in omega (arith, x .last-is)
 
     none-pending : (i : ℕ) → i < s .elements .pending → ⊥
-    none-pending i h = let e : 0 ≡ s .elements .pending = ap (λ (r : Recording). r .elements .pending) (x .is) in omega arith
+    none-pending i h = let e : 0 ≡ s .elements .pending = ap (λ (r : State). r .elements .pending) (x .is) in omega arith
 
     opening-stage : (s .stage ≡ S.Elements) ⊎ (s .stage ≡ S.Eod) → ⊥
     opening-stage st =
-        let e : S.OpeningHeaders ≡ s .stage = ap (λ (r : Recording). r .stage) (x .is) in
+        let e : S.OpeningHeaders ≡ s .stage = ap (λ (r : State). r .stage) (x .is) in
         not-element (⊎-elim (λ q. inl (e ∙ q)) (λ q. inr (e ∙ q)) st)
 
-pub begins : (g : Geometry) (last depth blocks : ℕ) (d : Drive) (o : Opening) (s : Recording) (window : List ℕ) → lastOf g ≡ address last
+pub begins : (g : Geometry) (last depth blocks : ℕ) (d : Drive) (o : Opening) (s : State) (window : List ℕ) → lastOf g ≡ address last
     → Setting last (s .copies .header .pass) → Cartridge last (d .tape) → d .written ≡ [] → AtRest d → opened g depth blocks o ≡ accepting s
     → Inv last (s .copies .header .pass) (Premises last (s .copies .header .pass) (d .tape) o) (recordings.started s window d)
 begins g last depth blocks d o s window e set cart unwritten rest q =

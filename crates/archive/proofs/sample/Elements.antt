@@ -11,8 +11,8 @@ use Rattle.archive.specs.Tape.{Tape, put}
 use Rattle.drive.specs.declared.command.Command.the-variants.{Write, Locate, ReadPosition}
 use Rattle.elements.specs.Elements as elements
 use Rattle.elements.specs.declared.state.Elements.{Elements}
-use Rattle.recording.specs.Written.{writtenFrame}
-use Rattle.recording.specs.declared.session.Recording.{Recording}
+use Rattle.recording_state.specs.Written.{writtenFrame}
+use Rattle.recording_state.specs.declared.state.State.{State}
 use Rattle.archive.specs.Recordings.{Element, World, Call, fetch, reply, Runs}
 use Rattle.archive.specs.Sample.{frame, good, writeError, exchanges}
 use Rattle.archive.proofs.sample.Exchange.{Step, between, acting, exchange}
@@ -26,7 +26,7 @@ noneAccepted = elements.startOf 11999
 
 module _ (window : List ℕ) (long : length window ≡ 32768) (accepted : List Element) (t : Tape) (past : List ℕ) {cs : List Call} {u : World} where
   -- WRITE, the drive writes the frame as sent, READ POSITION finds nothing buffered
-  pub element-written : (a : ℕ) (f : List ℕ) {s taken next : Recording} → writtenFrame s window ≡ f → Step s (Write (at a)) good taken → Step taken ReadPosition good next
+  pub element-written : (a : ℕ) (f : List ℕ) {s taken next : State} → writtenFrame s window ≡ f → Step s (Write (at a)) good taken → Step taken ReadPosition good next
       → Runs (between window accepted next (buffered (put t a (some f)) (a + 1) (a ∷ past) [])) cs u
       → Runs (between window accepted s (buffered t a past [])) (exchanges window 2 cs) u
   unfolding meaningIn
@@ -40,7 +40,7 @@ module _ (window : List ℕ) (long : length window ≡ 32768) (accepted : List E
       (exchange window accepted taken onTape long confirm (counts good refl refl) rest))
 
   -- WRITE, the drive fails and leaves what was there, READ POSITION reports it, LOCATE the target
-  pub element-failed : (a skip target : ℕ) {s taken failed next : Recording} → Step s (Write (at a)) good taken → Step taken ReadPosition (writeError a skip) failed → Step failed (Locate (at target)) good next
+  pub element-failed : (a skip target : ℕ) {s taken failed next : State} → Step s (Write (at a)) good taken → Step taken ReadPosition (writeError a skip) failed → Step failed (Locate (at target)) good next
       → Runs (between window accepted next (buffered (put t a (t a)) target (a ∷ past) [])) cs u
       → Runs (between window accepted s (buffered t a past [])) (exchanges window 1 (fetch window frame ∷ reply (writeError a skip) ∷ exchanges window 1 cs)) u
   unfolding meaningIn

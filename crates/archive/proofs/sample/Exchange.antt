@@ -13,14 +13,14 @@ use Rattle.archive.specs.Conduct.{Drive, Acts, Answers}
 use Rattle.drive.specs.declared.command.Command.{Command}
 use Rattle.drive.specs.declared.reply.Reply.{Reply}
 use Rattle.drive.proofs.Cases.{command-by}
-use Rattle.recording.specs.Session.{Result, windowLength, accepting, refusing}
-use Rattle.recording.specs.Accept.{Stored, blockOf, filemarkOf, closeOf}
-use Rattle.recording.specs.Due as decision
-use Rattle.recording.specs.Due.{decisionOf, send}
-use Rattle.recording.specs.Fetch.{Fetching, awaits, frameFor, sending, answering, fetchOf}
-use Rattle.recording.specs.Reply.{replyOf}
-use Rattle.recording.specs.declared.session.Recording.{Recording}
-use Rattle.recording.proofs.FetchView.{fetch-decided}
+use Rattle.recording_state.specs.Session.{Result, windowLength, accepting, refusing}
+use Rattle.recording_state.specs.Accept.{Stored, blockOf, filemarkOf, closeOf}
+use Rattle.recording_state.specs.Due as decision
+use Rattle.recording_state.specs.Due.{decisionOf, send}
+use Rattle.recording_state.specs.Fetch.{Fetching, awaits, frameFor, sending, answering, fetchOf}
+use Rattle.recording_state.specs.Reply.{replyOf}
+use Rattle.recording_state.specs.declared.state.State.{State}
+use Rattle.recording_state.proofs.FetchView.{fetch-decided}
 use Rattle.archive.specs.Recordings.{Element, block, filemark, Flight, no-command, answered, World, Call, accept-block, accept-filemark, close, fetch, reply, refusal, returned, fetchNumber, flightAfter, reportedAfter, Calls, refuses, accepts-block, accepts-filemark, closes, fetches, replies, acts, answers, Runs, stop, call, drive, windowAfter, sent, acceptedAfter}
 use Rattle.archive.specs.Sample.{firstOpening, frame}
 
@@ -28,22 +28,22 @@ pub framed : length frame ≡ 33280
 framed = header-length firstOpening
 
 -- a command that is due in a session with W 1, and the session after its reply
-pub record Step (s : Recording) (c : Command) (r : Reply) (next : Recording) : Type 0 where
+pub record Step (s : State) (c : Command) (r : Reply) (next : State) : Type 0 where
   pub free : s .ended || s .exchange .awaiting ≡ false
   pub sized : windowLength s ≡ 32768
   pub decided : decisionOf s ≡ send c
   pub replied : replyOf (awaits s c) r ≡ accepting next
 
 module _ (window : List ℕ) (accepted : List Element) where
-  abbrev pub world : Recording → Drive → Flight → World
+  abbrev pub world : State → Drive → Flight → World
   world s d f = record { session = s; window = window; drive = d; flight = f; notes = record { accepted = accepted; unaltered = true; reported = false } }
 
   -- between two commands
-  abbrev pub between : Recording → Drive → World
+  abbrev pub between : State → Drive → World
   between s d = world s d no-command
 
   -- the close has reported done
-  abbrev pub reported : Recording → Drive → World
+  abbrev pub reported : State → Drive → World
   reported s d = record { session = s; window = window; drive = d; flight = no-command; notes = record { accepted = accepted; unaltered = true; reported = true } }
 
   abbrev fetchedWorld : Drive → Bool → Fetching → World
@@ -55,7 +55,7 @@ module _ (window : List ℕ) (accepted : List Element) where
     notes = record { accepted = accepted; unaltered = same; reported = reportedAfter (x .said) false };
   }
 
-module _ (window : List ℕ) (accepted : List Element) (s : Recording) (d : Drive) where
+module _ (window : List ℕ) (accepted : List Element) (s : State) (d : Drive) where
   fetched : length window ≡ windowLength s → s .ended || s .exchange .awaiting ≡ false → (x : decision.Decision) → decisionOf s ≡ x → fetchNumber (answering x s window frame .said) ≡ 0
       → Calls (between window accepted s d) (fetch window frame) (fetchedWorld window accepted d true (answering x s window frame))
   fetched long free x decided small =
@@ -72,12 +72,12 @@ module _ (window : List ℕ) (accepted : List Element) (s : Recording) (d : Driv
   abbrev storedWorld : List ℕ → Bool → Stored → World
   storedWorld b same x = record { session = x .result .session; window = x .window; drive = d; flight = no-command; notes = record { accepted = acceptedAfter (x .result .number) accepted (block b); unaltered = same; reported = false } }
 
-module _ (window : List ℕ) (accepted : List Element) (s : Recording) (d : Drive) {cs : List Call} {u : World} where
+module _ (window : List ℕ) (accepted : List Element) (s : State) (d : Drive) {cs : List Call} {u : World} where
   -- what the drive does by itself
   pub acting : {e : Drive} → Acts d e → Runs (between window accepted s e) cs u → Runs (between window accepted s d) cs u
   acting a rest = drive (acts _ a) rest
 
-  pub exchange : {next : Recording} {e : Drive} {c : Command} {r : Reply} → length window ≡ 32768 → Step s c r next → Answers d (frameFor c s window frame) c r e
+  pub exchange : {next : State} {e : Drive} {c : Command} {r : Reply} → length window ≡ 32768 → Step s c r next → Answers d (frameFor c s window frame) c r e
       → Runs (between window accepted next e) cs u → Runs (between window accepted s d) (fetch window frame ∷ reply r ∷ cs) u
   unfolding sending
   exchange {next} {e} {c} {r} long step answer rest =
@@ -86,19 +86,19 @@ module _ (window : List ℕ) (accepted : List Element) (s : Recording) (d : Driv
       let t : Calls w (reply r) (between window accepted next e) = subst (λ v. Calls w (reply r) v) p (replies r refl (inl (ap (λ (x : Result). x .number) (step .replied)))) in
       call (fetched window accepted s d (long ∙ sym (step .sized)) (step .free) (send c) (step .decided) refl) (drive (answers c (frameFor c s window frame) r e (ap (λ (x : Command). sent x (frameFor c s window frame)) (command-by c)) answer) (call t rest))
 
-  pub filemark-accepted : {next : Recording} → filemarkOf s ≡ accepting next → Runs (between window (accepted ++ filemark ∷ []) next d) cs u → Runs (between window accepted s d) (accept-filemark ∷ cs) u
+  pub filemark-accepted : {next : State} → filemarkOf s ≡ accepting next → Runs (between window (accepted ++ filemark ∷ []) next d) cs u → Runs (between window accepted s d) (accept-filemark ∷ cs) u
   filemark-accepted {next} e rest =
       call
       (subst (λ v. Calls (between window accepted s d) accept-filemark v) (ap (λ (x : Result). between window (acceptedAfter (x .number) accepted filemark) (x .session) d) e)
       (accepts-filemark (inl (ap (λ (x : Result). x .number) e)))) rest
 
-  pub block-accepted : {next : Recording} (b after : List ℕ) → blockOf s b window ≡ record { result = accepting next; window = after }
+  pub block-accepted : {next : State} (b after : List ℕ) → blockOf s b window ≡ record { result = accepting next; window = after }
       → Runs (between after (accepted ++ block b ∷ []) next d) cs u → Runs (between window accepted s d) (accept-block b window ∷ cs) u
   block-accepted {next} b after e rest =
       let p : storedWorld window accepted s d b (true && agree window window) (blockOf s b window) ≡ between after (accepted ++ block b ∷ []) next d = ap (λ t. storedWorld window accepted s d b t (blockOf s b window)) (agree-same window) ∙ ap (λ x. storedWorld window accepted s d b true x) e in
       call (subst (λ v. Calls (between window accepted s d) (accept-block b window) v) p (accepts-block b window (inl (ap (λ (x : Stored). x .result .number) e)))) rest
 
-  pub close-accepted : {next : Recording} → closeOf s ≡ accepting next → Runs (between window accepted next d) cs u → Runs (between window accepted s d) (close ∷ cs) u
+  pub close-accepted : {next : State} → closeOf s ≡ accepting next → Runs (between window accepted next d) cs u → Runs (between window accepted s d) (close ∷ cs) u
   close-accepted {next} e rest =
       call
       (subst (λ v. Calls (between window accepted s d) close v) (ap (λ (x : Result). between window accepted (x .session) d) e) (closes (inl (ap (λ (x : Result). x .number) e)))) rest

@@ -24,14 +24,14 @@ use Rattle.elements.specs.Trail.{trailOf}
 use Rattle.elements.specs.Due.{dueOf}
 use Rattle.elements.specs.Answer as answer
 use Rattle.elements.specs.declared.state.Elements.{Elements}
-use Rattle.recording.specs.Open.{fresh, openWith, openBlankOf}
-use Rattle.recording.specs.Session.{accepting, refusing, settledOf}
-use Rattle.recording.specs.Accept.{blockOf, filemarkOf, closeOf}
-use Rattle.recording.specs.Due.{decisionOf}
-use Rattle.recording.specs.Written.{writtenFrame, writtenElement, elementOf}
-use Rattle.recording.specs.Fetch.{awaits}
-use Rattle.recording.specs.Reply.{repeatedOf, answerOf, replyOf}
-use Rattle.recording.specs.declared.session.Recording.{Recording}
+use Rattle.recording_state.specs.Open.{fresh, openWith, openBlankOf}
+use Rattle.recording_state.specs.Session.{accepting, refusing, settledOf}
+use Rattle.recording_state.specs.Accept.{blockOf, filemarkOf, closeOf}
+use Rattle.recording_state.specs.Due.{decisionOf}
+use Rattle.recording_state.specs.Written.{writtenFrame, writtenElement, elementOf}
+use Rattle.recording_state.specs.Fetch.{awaits}
+use Rattle.recording_state.specs.Reply.{repeatedOf, answerOf, replyOf}
+use Rattle.recording_state.specs.declared.state.State.{State}
 use Rattle.archive.specs.Headers.{Newest, NoHeader}
 use Rattle.archive.specs.Recordings.{block, World, Call, accept-block, accept-filemark, close, fetch, reply, Runs, started}
 use Rattle.archive.specs.Demand.{NoneBears, newPass, on-none, Promised, Readable, Demand3}
@@ -101,7 +101,7 @@ block-located : Step (writing firstOpening blockAccepted ReadPosition) (Locate (
 unfolding decisionOf dueOf replyOf answerOf settledOf meaningIn
 block-located = record { free = refl; sized = refl; decided = refl; replied = refl }
 
-abbrev repeating : Recording
+abbrev repeating : State
 repeating = repeatedOf (awaits (writing firstOpening located (Locate (at 10))) (Write (at 10)))
 
 write-busy : Step (writing firstOpening located (Locate (at 10))) (Write (at 10)) busy repeating

@@ -6,7 +6,7 @@ use mathlib.Core.List.{List, [], _∷_}
 use mathlib.Core.Option.{some}
 use Rattle.archive.specs.Conduct.{Drive, reads, writes}
 use Rattle.archive.specs.Tape.{Tape, put}
-use Rattle.recording.specs.declared.session.Recording.{Recording}
+use Rattle.recording_state.specs.declared.state.State.{State}
 use Rattle.archive.specs.Recordings.{Element, World, Call, Runs}
 use Rattle.archive.proofs.tape.Basics.{reads-itself}
 use Rattle.archive.proofs.sample.Exchange.{between, acting}
@@ -18,7 +18,7 @@ abbrev pub flushed : Tape → ℕ → List ℕ → List (List ℕ) → Drive
 flushed t at written [] = buffered t at written []
 flushed t at written (f ∷ rest) = flushed (put t at (some f)) (at + 1) (at ∷ written) rest
 
-module _ (window : List ℕ) (accepted : List Element) (s : Recording) {cs : List Call} {u : World} where
+module _ (window : List ℕ) (accepted : List Element) (s : State) {cs : List Call} {u : World} where
   pub flush : (frames : List (List ℕ)) (t : Tape) (at : ℕ) (written : List ℕ)
       → Runs (between window accepted s (flushed t at written frames)) cs u → Runs (between window accepted s (buffered t at written frames)) cs u
   flush [] t at written rest = rest

@@ -22,15 +22,15 @@ use Rattle.copies.specs.Copies as copies
 use Rattle.copies.specs.declared.state.Copies.{Copies}
 use Rattle.elements.specs.Elements as elements
 use Rattle.elements.specs.declared.state.Elements.{Elements}
-use Rattle.recording.specs.Open.{fresh}
-use Rattle.recording.specs.Session.{accepting, settledOf}
-use Rattle.recording.specs.Due as decision
-use Rattle.recording.specs.Due.{decisionOf}
-use Rattle.recording.specs.Written.{writtenFrame}
-use Rattle.recording.specs.Reply.{answerOf, replyOf}
-use Rattle.recording.specs.declared.session.Recording.{Recording}
-use Rattle.recording.specs.declared.session.Stage.{Stage}
-use Rattle.recording.specs.declared.session.Stage.the-variants as S
+use Rattle.recording_state.specs.Open.{fresh}
+use Rattle.recording_state.specs.Session.{accepting, settledOf}
+use Rattle.recording_state.specs.Due as decision
+use Rattle.recording_state.specs.Due.{decisionOf}
+use Rattle.recording_state.specs.Written.{writtenFrame}
+use Rattle.recording_state.specs.Reply.{answerOf, replyOf}
+use Rattle.recording_state.specs.declared.state.State.{State}
+use Rattle.recording_state.specs.declared.state.Stage.{Stage}
+use Rattle.recording_state.specs.declared.state.Stage.the-variants as S
 use Rattle.archive.specs.Recordings.{Element, World, Call, fetch, reply, Runs, started}
 use Rattle.archive.specs.Sample.{depth, frame, good, exchanges, headerExchanges}
 use Rattle.archive.proofs.sample.Exchange.{Step, between, reported, exchange, done}
@@ -42,7 +42,7 @@ at n = record { 0 = n }
 -- ---- the sessions, and the drive
 
 -- a session with W 1 between two commands
-abbrev session : Stage → Bool → Elements → Command → Copies → Recording
+abbrev session : Stage → Bool → Elements → Command → Copies → State
 session stage closed e c copies = record {
   setup = record { depth = depth; highest = 0 };
   stage = stage;
@@ -58,16 +58,16 @@ abbrev copiesAt : Header → ℕ → ℕ → ℕ → Bool → Copies
 copiesAt h group copy confirmed locate = record { header = h; group = group; copy = copy; outstanding = copy; confirmed = confirmed; locate = locate }
 
 -- in the elements' stage, in EOD's, before the closing headers, and done
-abbrev pub writing : Header → Elements → Command → Recording
+abbrev pub writing : Header → Elements → Command → State
 writing h e c = session S.Elements false e c (copiesAt h 1 5 5 false)
 
-abbrev pub ending : Header → Elements → Command → Recording
+abbrev pub ending : Header → Elements → Command → State
 ending h e c = session S.Eod true e c (copiesAt h 1 5 5 false)
 
-abbrev pub closing : Header → Elements → Recording
+abbrev pub closing : Header → Elements → State
 closing h e = session S.ClosingHeaders true e ReadPosition (copies.startOf h)
 
-abbrev pub finished : Header → Elements → Recording
+abbrev pub finished : Header → Elements → State
 finished h e = session S.Done true e ReadPosition (copiesAt h 1 5 5 false)
 
 -- among the copies of a group, of the opening or the closing headers, and behind all of them
@@ -75,14 +75,14 @@ abbrev headerStage : Bool → Stage
 headerStage true = S.OpeningHeaders
 headerStage false = S.ClosingHeaders
 
-abbrev among : Bool → Bool → Elements → Header → ℕ → ℕ → Command → ℕ → Bool → Recording
+abbrev among : Bool → Bool → Elements → Header → ℕ → ℕ → Command → ℕ → Bool → State
 among opening closed e h group confirmed c copy locate = session (headerStage opening) closed e c (copiesAt h group copy confirmed locate)
 
 abbrev stageBehind : Bool → Stage
 stageBehind true = S.Elements
 stageBehind false = S.Done
 
-abbrev behind : Bool → Bool → Elements → Header → Recording
+abbrev behind : Bool → Bool → Elements → Header → State
 behind opening closed e h = session (stageBehind opening) closed e ReadPosition (copiesAt h 1 5 5 false)
 
 -- the drive after a group, and after both
@@ -146,7 +146,7 @@ opening-settled h = refl
 
 closing-settled : (e : Elements) (h : Header) → settledOf (finished h e) ≡ finished h e
 unfolding settledOf
-closing-settled e h = pick-by (λ (s : Recording). s ≡ finished h e) (ltb 0 (e .pending)) (λ q. refl) (λ q. refl)
+closing-settled e h = pick-by (λ (s : State). s ≡ finished h e) (ltb 0 (e .pending)) (λ q. refl) (λ q. refl)
 
 done-decided : (e : Elements) (h : Header) → decisionOf (finished h e) ≡ decision.done
 unfolding decisionOf
@@ -161,7 +161,7 @@ module _ (window : List ℕ) (long : length window ≡ 32768) (accepted : List E
         → Runs (between window accepted (among opening closed e h group confirmed c copy false) (buffered t a written fs)) (fetch window frame ∷ reply good ∷ cs) u
     unfolding meaningIn
     copy-written c copy low t a written fs rest =
-        let s : Recording = among opening closed e h group confirmed c copy false in
+        let s : State = among opening closed e h group confirmed c copy false in
         let d : Drive = buffered t a written fs in
         let w : Command = Write (at (headerAddress group copy)) in
         exchange window accepted s d long (copy-taken closed e h group confirmed c copy low opening)

@@ -28,12 +28,12 @@ use Rattle.elements.specs.Due.{dueOf}
 use Rattle.elements.specs.Answer as answer
 use Rattle.elements.specs.declared.state.Elements.{Elements}
 use Rattle.copies.specs.Carried.{isExhausted, renewed}
-use Rattle.recording.specs.Open.{fresh, openWith, openFor, openOf}
-use Rattle.recording.specs.Session.{accepting, settledOf}
-use Rattle.recording.specs.Accept.{filemarkOf, closeOf}
-use Rattle.recording.specs.Due.{decisionOf}
-use Rattle.recording.specs.Written.{writtenFrame, writtenElement, elementOf}
-use Rattle.recording.specs.Reply.{answerOf, replyOf}
+use Rattle.recording_state.specs.Open.{fresh, openWith, openFor, openOf}
+use Rattle.recording_state.specs.Session.{accepting, settledOf}
+use Rattle.recording_state.specs.Accept.{filemarkOf, closeOf}
+use Rattle.recording_state.specs.Due.{decisionOf}
+use Rattle.recording_state.specs.Written.{writtenFrame, writtenElement, elementOf}
+use Rattle.recording_state.specs.Reply.{answerOf, replyOf}
 use Rattle.archive.specs.Headers.{Newest}
 use Rattle.archive.specs.Recordings.{World, Call, accept-filemark, close, fetch, reply, Runs, started}
 use Rattle.archive.specs.Demand.{NoneBears, newPass, on-header, Promised, Readable, Demand3}

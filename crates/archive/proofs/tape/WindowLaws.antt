@@ -9,8 +9,8 @@ use borrow.Author.Tests.{ltb-true, ltb-false}
 use lib.Dec.{ltb}
 use lib.ListN.{length, take, drop, getD, length-drop, length-append, List·getD-append}
 use lib.Seq.{getD-append-add, take-at, drop-at, length-take-le, getD-take, getD-drop, ext-getD}
-use Rattle.recording.specs.Window.{blockAt, putBlock}
-use Rattle.recording.proofs.BlockPlace.{block-length}
+use Rattle.recording_state.specs.Window.{blockAt, putBlock}
+use Rattle.recording_state.proofs.BlockPlace.{block-length}
 
 apart-by : (i j : ℕ) → (i ≡ j → ⊥) → (t : Bool) → ltb i j ≡ t → (i < j) ⊎ (j < i)
 apart-by i j differ true e = inl (ltb-true i j e)

@@ -15,11 +15,11 @@ use Rattle.frame.proofs.Frames.{element-length, element-data}
 use Rattle.judgement.specs.Judgement.{judgeFrame, foundSaid}
 use Rattle.judgement.proofs.Written.{judged-written}
 use Rattle.elements.specs.Elements.{numberOf}
-use Rattle.recording.specs.Session.{windowLength}
-use Rattle.recording.specs.Window.{blockAt}
-use Rattle.recording.specs.Written.{kindOf, elementOf, elementPlace, writtenElement}
-use Rattle.recording.proofs.BlockPlace.{place-inside, block-length}
-use Rattle.recording.specs.declared.session.Recording.{Recording}
+use Rattle.recording_state.specs.Session.{windowLength}
+use Rattle.recording_state.specs.Window.{blockAt}
+use Rattle.recording_state.specs.Written.{kindOf, elementOf, elementPlace, writtenElement}
+use Rattle.recording_state.proofs.BlockPlace.{place-inside, block-length}
+use Rattle.recording_state.specs.declared.state.State.{State}
 use Rattle.archive.proofs.tape.Stands.{telling}
 
 pub block-fits : (k : Kind) (b : List ℕ) → length b ≡ 32768 → elementFits k 33280 (length b) ≡ true
@@ -27,7 +27,7 @@ block-fits Data b h = eq-eqb (length b) 32768 h
 block-fits Marker b h = refl
 block-fits Eod b h = refl
 
-module _ (s : Recording) (window : List ℕ) (long : length window ≡ windowLength s) where
+module _ (s : State) (window : List ℕ) (long : length window ≡ windowLength s) where
   inside : elementPlace s * 32768 + 32768 ≤ length window
   inside = subst (λ (n : ℕ). elementPlace s * 32768 + 32768 ≤ n) (sym long) (place-inside (numberOf (s .elements) (s .elements .outstanding)) (s .setup .highest))
 

@@ -1,0 +1,114 @@
+// Fetching the next command. The public calls are the methods of `recording`.
+ghost use mathlib.Core.Path.{_≡_};
+ghost use lib.ListN.{length};
+ghost use Rattle.recording_state.specs.Session.{windowLength};
+ghost use Rattle.recording_state.specs.Due.{decisionSaid, headerDue, elementDue, decisionOf};
+ghost use Rattle.recording_state.specs.Fetch.{fetched, sending, fetchRefused, fetchOf};
+use drive::Command;
+use drive::Exchange;
+use elements::Due;
+use filling::fill;
+use geometry::Refusal;
+use recording_state::Answer;
+use recording_state::Fetched;
+use recording_state::Stage;
+use recording_state::State;
+
+// What is due for elements and EOD.
+fn element_due(s: State) -> Answer
+    ensures { λ r. ⌜ decisionSaid r ≡ elementDue s ⌝ }
+{
+    let elements = s.elements;
+    let setup = s.setup;
+    let due = elements.due(setup.depth);
+    match due {
+        Due::Send(c) => Answer::Command(c),
+        Due::Idle => Answer::Idle,
+        Due::Refused(r) => Answer::Refused(r),
+    }
+}
+
+// What is due for the header copies.
+fn header_due(s: State) -> Answer
+    ensures { λ r. ⌜ decisionSaid r ≡ headerDue s ⌝ }
+{
+    let copies = s.copies;
+    let setup = s.setup;
+    Answer::Command(copies.command(setup.depth))
+}
+
+// What a fetch answers, once the session is found able to: the same command after busy, else what is due in this stage.
+fn decide(s: State) -> Answer
+    ensures { λ r. ⌜ decisionSaid r ≡ decisionOf s ⌝ }
+{
+    let exchange = s.exchange;
+    if exchange.again {
+        let c = exchange.command;
+        return Answer::Command(c);
+    }
+    let stage = s.stage;
+    match stage {
+        Stage::OpeningHeaders => header_due(s),
+        Stage::Elements => element_due(s),
+        Stage::Eod => element_due(s),
+        Stage::ClosingHeaders => header_due(s),
+        Stage::Done => Answer::Done,
+    }
+}
+
+// Hands out a command: only a WRITE writes to the frame.
+fn send(mut s: State, c: Command, window: &[u8], frame: &mut [u8]) -> Fetched
+    requires { ⌜ length (now window) ≡ windowLength s ⌝ }
+    requires { ⌜ length (now frame) ≡ 33280 ⌝ }
+    ensures { λ r. ⌜ fetched r (now (frame .exit)) ≡ sending s c (now (window .entry)) (now (frame .entry)) ⌝ }
+{
+    if let Command::Write(_) = c {
+        fill(s, window, frame);
+    }
+    s.exchange = Exchange::sent(c);
+    Fetched {
+        session: s,
+        answer: Answer::Command(c),
+    }
+}
+
+fn refuse_fetch(s: State, refusal: Refusal) -> Fetched
+    ensures { λ r. ⌜ r ≡ fetchRefused s refusal ⌝ }
+{
+    Fetched {
+        session: s,
+        answer: Answer::Refused(refusal),
+    }
+}
+
+// The next command, or idle, or done. The window is lent as the accepts left it; the frame is written only for a WRITE, and then all of it.
+pub fn fetch(mut s: State, window: &[u8], frame: &mut [u8]) -> Fetched
+    ensures { λ r. ⌜ fetched r (now (frame .exit)) ≡ fetchOf s (now (window .entry)) (now (frame .entry)) ⌝ }
+{
+    let exchange = s.exchange;
+    if s.ended | exchange.awaiting {
+        return refuse_fetch(s, Refusal::Phase);
+    }
+    if window.len() != s.window() * 32768 {
+        return refuse_fetch(s, Refusal::Length);
+    }
+    if frame.len() != 33280 {
+        return refuse_fetch(s, Refusal::Length);
+    }
+    let answer = decide(s);
+    match answer {
+        Answer::Command(c) => send(s, c, window, frame),
+        Answer::Idle => Fetched {
+            session: s,
+            answer: Answer::Idle,
+        },
+        Answer::Done => Fetched {
+            session: s,
+            answer: Answer::Done,
+        },
+        Answer::Refused(r) => {
+            s.ended = true;
+            refuse_fetch(s, r)
+        }
+    }
+}

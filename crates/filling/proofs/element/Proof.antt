@@ -1,0 +1,41 @@
+-- `filling::element` meets its contract: by what its callees promise, field by field. Assumes nothing.
+use Prim.Native.Nat.{ℕ}
+use mathlib.Core.Path.{_∙_, ap}
+use Rattle.frame.specs.declared.element.Kind.{Kind}
+use Rattle.frame.specs.declared.element.Element.{Element}
+use Rattle.elements.specs.Elements.{numberOf}
+use Rattle.elements.specs.declared.trail.Trail.{Trail}
+use Rattle.recording_state.specs.Written.{kindOf, elementOf}
+use Rattle.recording_state.specs.declared.state.State.{State}
+use Rattle.filling.proofs.element.Statement.{statement}
+use Rattle.filling.proofs.element.Tie as tie
+
+abbrev made : State → Kind → ℕ → Trail → Element
+made s kind number trail = record {
+  kind = kind;
+  pass = s .copies .header .pass;
+  last = s .copies .header .last;
+  seq = record { 0 = number };
+  filemarks = trail .filemarks;
+  marker = trail .marker;
+}
+
+trail-requires : tie.Need-trail-requires
+trail-requires c κs = tt
+
+kind-requires : tie.Need-kind-requires
+kind-requires c κs = tt
+
+number-requires : tie.Need-number-requires
+number-requires c κs = tt
+
+returns : tie.Need-returns
+unfolding elementOf
+returns c =
+    let s = c .before .before .before .before .before .before .before .before .args .s in
+    ap (λ k. made s k (c .number .result .0) (c .before .before .before .trail .result)) (c .before .kind .ensures)
+    ∙ ap (λ n. made s (kindOf s) n (c .before .before .before .trail .result)) (c .number .ensures)
+    ∙ ap (made s (kindOf s) (numberOf (s .elements) (s .elements .outstanding))) (c .before .before .before .trail .ensures)
+
+pub element-spec : {M : Type 1} → statement M
+element-spec = tie.close (tie.spec trail-requires kind-requires number-requires returns)

@@ -1,0 +1,28 @@
+-- `filling::element_place` meets its contract: by what its callees promise. Assumes nothing.
+use Prim.Native.Nat.{_%_}
+use mathlib.Core.Path.{_∙_, ap}
+use native.Mathlib.Omega.{arith}
+use Rattle.elements.specs.Elements.{numberOf}
+use Rattle.filling.proofs.element_place.Statement.{statement}
+use Rattle.filling.proofs.element_place.Tie as tie
+
+number-requires : tie.Need-number-requires
+number-requires c κs = tt
+
+cast-result : tie.Need-cast-result
+cast-result c = omega arith
+
+window-requires : tie.Need-window-requires
+window-requires c κs = tt
+
+rem-result : tie.Need-rem-result
+rem-result c = omega arith
+
+returns : tie.Need-returns
+returns c =
+    let e = c .before .before .before .before .args .s .elements in
+    ap (λ n. n % c .window .result) (c .before .before .number .ensures)
+    ∙ ap (λ w. numberOf e (e .outstanding) % w) (c .window .ensures)
+
+pub element-place-spec : {M : Type 1} → statement M
+element-place-spec = tie.close (tie.spec number-requires cast-result window-requires rem-result returns)

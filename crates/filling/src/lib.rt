@@ -1,0 +1,91 @@
+// The frame that a WRITE of a recording writes. The public calls are the methods of `recording`.
+mod window;
+
+ghost use mathlib.Core.Path.{_≡_};
+ghost use lib.ListN.{length};
+ghost use Rattle.recording_state.specs.Session.{windowLength};
+ghost use Rattle.recording_state.specs.Written.{kindOf, elementOf, elementPlace, writtenElement, writtenHeader, writtenFrame};
+use crate::window::block_at;
+use frame::Element;
+use frame::Kind;
+use frame::build_element;
+use frame::build_header;
+use recording_state::Stage;
+use recording_state::State;
+
+fn kind(s: State) -> Kind
+    ensures { λ r. ⌜ r ≡ kindOf s ⌝ }
+{
+    let elements = s.elements;
+    let stage = s.stage;
+    if let Stage::Eod = stage {
+        return Kind::Eod;
+    }
+    if elements.is_mark() {
+        return Kind::Marker;
+    }
+    Kind::Data
+}
+
+// The next element to be written, or EOD, for its present address.
+fn element(s: State) -> Element
+    ensures { λ r. ⌜ r ≡ elementOf s ⌝ }
+{
+    let copies = s.copies;
+    let elements = s.elements;
+    let header = copies.header;
+    let last = header.last;
+    let trail = elements.trail();
+    let marker = trail.marker;
+    Element {
+        kind: kind(s),
+        pass: header.pass,
+        last: last,
+        seq: elements.number(elements.outstanding),
+        filemarks: trail.filemarks,
+        marker: marker,
+    }
+}
+
+// The window block of the next element to be written.
+fn element_place(s: State) -> usize
+    ensures { λ r. ⌜ r ≡ elementPlace s ⌝ }
+{
+    let elements = s.elements;
+    let number = elements.number(elements.outstanding);
+    (number.0 as usize) % s.window()
+}
+
+fn fill_element(s: State, window: &[u8], frame: &mut [u8])
+    requires { ⌜ length (now window) ≡ windowLength s ⌝ }
+    requires { ⌜ length (now frame) ≡ 33280 ⌝ }
+    ensures { λ _. ⌜ now (frame .exit) ≡ writtenElement s (now (window .entry)) ⌝ }
+{
+    let place = element_place(s);
+    build_element(frame, element(s), block_at(window, place));
+}
+
+fn fill_header(s: State, frame: &mut [u8])
+    requires { ⌜ length (now frame) ≡ 33280 ⌝ }
+    ensures { λ _. ⌜ now (frame .exit) ≡ writtenHeader s ⌝ }
+{
+    let copies = s.copies;
+    let header = copies.header;
+    build_header(frame, header);
+}
+
+// Fills the frame of a WRITE.
+pub fn fill(s: State, window: &[u8], frame: &mut [u8])
+    requires { ⌜ length (now window) ≡ windowLength s ⌝ }
+    requires { ⌜ length (now frame) ≡ 33280 ⌝ }
+    ensures { λ _. ⌜ now (frame .exit) ≡ writtenFrame s (now (window .entry)) ⌝ }
+{
+    let stage = s.stage;
+    match stage {
+        Stage::OpeningHeaders => fill_header(s, frame),
+        Stage::Elements => fill_element(s, window, frame),
+        Stage::Eod => fill_element(s, window, frame),
+        Stage::ClosingHeaders => fill_header(s, frame),
+        Stage::Done => fill_header(s, frame),
+    }
+}

@@ -1,0 +1,96 @@
+// Opening a recording session. The public calls are the methods of `recording`.
+ghost use mathlib.Core.Path.{_≡_};
+ghost use Rattle.geometry.specs.Refused.{refusalNumber};
+ghost use Rattle.recording_state.specs.Session.{outcomeSaid};
+ghost use Rattle.recording_state.specs.Open.{fresh, openRefused, openWith, openOf, openBlankOf};
+use copies::Copies;
+use copies::blank_header;
+use copies::is_exhausted;
+use copies::renew;
+use drive::Exchange;
+use elements::Elements;
+use frame::Header;
+use geometry::Address;
+use geometry::Geometry;
+use geometry::Place;
+use geometry::Refusal;
+use header::Checked;
+use header::read_header;
+use recording_state::Outcome;
+use recording_state::Setup;
+use recording_state::Stage;
+use recording_state::State;
+
+// A session at its first command.
+fn fresh_session(depth: u8, highest: u8, header: Header) -> State
+    ensures { λ r. ⌜ r ≡ fresh depth highest header ⌝ }
+{
+    let last = header.last;
+    State {
+        setup: Setup {
+            depth: depth,
+            highest: highest,
+        },
+        stage: Stage::OpeningHeaders,
+        exchange: Exchange::unsent(),
+        closed: false,
+        ended: false,
+        copies: Copies::start(header),
+        elements: Elements::start(last),
+    }
+}
+
+// A refused opening returns an ended session.
+fn refuse_opening(refusal: Refusal) -> Outcome
+    ensures { λ r. ⌜ outcomeSaid r ≡ openRefused (refusalNumber refusal) ⌝ }
+{
+    let header = Header {
+        last: Address(0),
+        pass: 0,
+        eod: Address(0),
+        update: 0,
+    };
+    let session = fresh_session(0, 0, header);
+    session.end(refusal)
+}
+
+// The sizes are looked at, then the opening's header is the old one's with a new pass.
+fn open_with(depth: u8, window: u8, exhausted: bool, header: Header) -> Outcome
+    ensures { λ r. ⌜ outcomeSaid r ≡ openWith depth window exhausted header ⌝ }
+{
+    if depth == 0 {
+        return refuse_opening(Refusal::Capacity);
+    }
+    if window == 0 {
+        return refuse_opening(Refusal::Capacity);
+    }
+    if 64 < window {
+        return refuse_opening(Refusal::Capacity);
+    }
+    if exhausted {
+        return refuse_opening(Refusal::Exhausted);
+    }
+    fresh_session(depth, window - 1, header).accepted()
+}
+
+// On the newest header of the cartridge, for a drive that buffers `depth` frames, with a window of `window` blocks.
+pub fn open(g: Geometry, depth: u8, window: u8, header: &[u8]) -> Outcome
+    ensures { λ r. ⌜ outcomeSaid r ≡ openOf g depth window (now (header .entry)) ⌝ }
+{
+    let checked = read_header(g, header);
+    match checked {
+        Checked::Valid(old) => open_with(depth, window, is_exhausted(old), renew(old)),
+        Checked::Refused(r) => refuse_opening(r),
+    }
+}
+
+// On a cartridge that holds no valid header.
+pub fn open_blank(g: Geometry, depth: u8, window: u8) -> Outcome
+    ensures { λ r. ⌜ outcomeSaid r ≡ openBlankOf g depth window ⌝ }
+{
+    let place = g.last();
+    match place {
+        Place::At(last) => { open_with(depth, window, false, blank_header(last)) }
+        Place::Refused(r) => refuse_opening(r),
+    }
+}

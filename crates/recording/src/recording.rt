@@ -1,0 +1,110 @@
+// The session that a host holds, and its calls. Each is the call of a crate below on the session's state.
+ghost use mathlib.Core.Path.{_≡_};
+ghost use Rattle.recording_state.specs.Session as state;
+ghost use Rattle.recording_state.specs.Open.{openOf, openBlankOf};
+ghost use Rattle.recording_state.specs.Accept.{filemarkOf, blockOf, closeOf};
+ghost use Rattle.recording_state.specs.Fetch as fetch;
+ghost use Rattle.recording_state.specs.Reply.{replyOf};
+ghost use Rattle.recording.specs.Session.{outcomeSaid, blockSaid, fetched};
+use drive::Reply;
+use geometry::Geometry;
+use geometry::Verdict;
+use recording_state::Answer;
+use recording_state::State;
+
+pub struct Recording {
+    pub state: State,
+}
+
+// What every call but a fetch returns.
+pub struct Outcome {
+    pub session: Recording,
+    pub verdict: Verdict,
+}
+
+pub struct Fetched {
+    pub session: Recording,
+    pub answer: Answer,
+}
+
+impl Outcome {
+    fn of(o: recording_state::Outcome) -> Outcome
+        ensures { λ r. ⌜ outcomeSaid r ≡ state.outcomeSaid o ⌝ }
+    {
+        let s = o.session;
+        let verdict = o.verdict;
+        Outcome {
+            session: Recording { state: s },
+            verdict: verdict,
+        }
+    }
+}
+
+impl Fetched {
+    fn of(f: recording_state::Fetched) -> Fetched
+        ensures { λ r. ⌜ (r .session .state ≡ f .session) × (r .answer ≡ f .answer) ⌝ }
+    {
+        let s = f.session;
+        let answer = f.answer;
+        Fetched {
+            session: Recording { state: s },
+            answer: answer,
+        }
+    }
+}
+
+impl Recording {
+    // On the newest header of the cartridge, for a drive that buffers `depth` frames, with a window of `window` blocks.
+    pub fn open(g: Geometry, depth: u8, window: u8, header: &[u8]) -> Outcome
+        ensures { λ r. ⌜ outcomeSaid r ≡ openOf g depth window (now (header .entry)) ⌝ }
+    {
+        Outcome::of(opening::open(g, depth, window, header))
+    }
+
+    // On a cartridge that holds no valid header.
+    pub fn open_blank(g: Geometry, depth: u8, window: u8) -> Outcome
+        ensures { λ r. ⌜ outcomeSaid r ≡ openBlankOf g depth window ⌝ }
+    {
+        Outcome::of(opening::open_blank(g, depth, window))
+    }
+
+    // Accepts a filemark.
+    pub fn accept_filemark(self) -> Outcome
+        ensures { λ r. ⌜ outcomeSaid r ≡ filemarkOf (self .state) ⌝ }
+    {
+        let s = self.state;
+        Outcome::of(accepting::accept_filemark(s))
+    }
+
+    // Accepts a block and stores it in the window, where it stays until it is known to be on tape.
+    pub fn accept_block(self, block: &[u8], window: &mut [u8]) -> Outcome
+        ensures { λ r. ⌜ blockSaid r (now (window .exit)) ≡ blockOf (self .state) (now (block .entry)) (now (window .entry)) ⌝ }
+    {
+        let s = self.state;
+        Outcome::of(accepting::accept_block(s, block, window))
+    }
+
+    // No element is accepted any more; EOD and the closing headers follow.
+    pub fn close(self) -> Outcome
+        ensures { λ r. ⌜ outcomeSaid r ≡ closeOf (self .state) ⌝ }
+    {
+        let s = self.state;
+        Outcome::of(accepting::close(s))
+    }
+
+    // The next command, or idle, or done. The window is lent as the accepts left it; the frame is written only for a WRITE, and then all of it.
+    pub fn fetch(self, window: &[u8], frame: &mut [u8]) -> Fetched
+        ensures { λ r. ⌜ fetched r (now (frame .exit)) ≡ fetch.fetchOf (self .state) (now (window .entry)) (now (frame .entry)) ⌝ }
+    {
+        let s = self.state;
+        Fetched::of(fetching::fetch(s, window, frame))
+    }
+
+    // Brings the reply to the last command.
+    pub fn reply(self, reply: Reply) -> Outcome
+        ensures { λ r. ⌜ outcomeSaid r ≡ replyOf (self .state) reply ⌝ }
+    {
+        let s = self.state;
+        Outcome::of(replying::reply(s, reply))
+    }
+}

@@ -1,0 +1,188 @@
+-- The meanings that the conduct lists for a command are those that a recording does not refuse with 8. Assumes nothing.
+use Prim.Native.Nat.{ℕ, _≤_, _<_}
+use mathlib.Core.Path.{_≡_, refl, ap}
+use mathlib.Core.Bool.{true, false}
+use mathlib.Core.Logic.{_⊎_, inl, inr, ⊎-elim}
+use native.Mathlib.Decide.{ℕ-discrete}
+use native.Mathlib.Omega.{arith}
+use lib.Dec.{eqb}
+use Rattle.geometry.proofs.PickLaws.{pick-by}
+use Rattle.geometry.specs.Cartridge.{isHeader}
+use Rattle.geometry.specs.declared.address.Address.{Address}
+use Rattle.geometry.proofs.Impossible.{never, clash}
+use Rattle.drive.specs.Command.{commandCode}
+use Rattle.drive.specs.Cases.{caseNumber, writeOverflow, positionGood}
+use Rattle.drive.specs.Listed as on
+use Rattle.drive.specs.Listed.{Listed}
+use Rattle.drive.specs.Senses.{meaningOf, good, busy, writeError, volumeOverflow}
+use Rattle.drive.specs.declared.command.Command.{Command}
+use Rattle.drive.specs.declared.command.Command.the-variants.{Read, Write}
+use Rattle.drive.specs.declared.reply.Reply.{Reply}
+use Rattle.drive.proofs.ListedCases.{at-write, at-locate, at-position}
+use Rattle.copies.specs.Copies as copies
+use Rattle.copies.specs.Copies.{oldestAddress, nextAddress}
+use Rattle.copies.proofs.AnswerView as copying
+use Rattle.elements.specs.Elements.{baseOf}
+use Rattle.elements.specs.Answer as answer
+use Rattle.elements.proofs.AnswerView as answers
+use Rattle.recording_state.specs.Session.{Result}
+use Rattle.recording_state.specs.Reply.{headerReplyBy, elementReplyBy, stageReply, caseOf, replyOf}
+use Rattle.recording_state.specs.declared.state.State.{State}
+use Rattle.recording_state.proofs.Stages.{HeaderStage, ElementStage, header-not-done, element-not-done}
+use Rattle.recording_state.proofs.Refusals.{onward-number}
+use Rattle.recording_state.proofs.ReplyView as view
+use Rattle.recording_state.proofs.ReplyView.{Busy, Failed, Foreseen, ReplyView, reply-view}
+
+-- a WRITE of an element or EOD goes to no header group, and one of a header to one
+abbrev pub OffHeaders : State → Type 0
+OffHeaders s = ElementStage s → (a : Address) → s .exchange .command ≡ Write a → isHeader (a .0) ≡ false
+
+abbrev pub OnHeaders : State → Type 0
+OnHeaders s = HeaderStage s → (a : Address) → s .exchange .command ≡ Write a → isHeader (a .0) ≡ true
+
+-- ---- a reply that is not refused with 8 is listed
+
+module _ (s : State) (r : Reply) where
+  abbrev meaning : ℕ
+  meaning = meaningOf (r .key) (r .asc) (r .ascq)
+
+  abbrev Here : Type 0
+  Here = Listed (s .exchange .command) meaning
+
+  busy-listed : Busy (caseOf s r) → Here
+  busy-listed (inl e) = at-write (s .exchange .command) r busy (omega arith) (λ _ _. on.write-busy) e
+  busy-listed (inr (inl e)) = at-locate (s .exchange .command) r busy (omega arith) (λ _. on.locate-busy) e
+  busy-listed (inr (inr e)) = at-position (s .exchange .command) r busy (omega arith) on.position-busy e
+
+  error-listed : Failed (caseOf s r) → Here
+  error-listed (inl e) = at-write (s .exchange .command) r writeError (omega arith) (λ _ _. on.write-error) e
+  error-listed (inr e) = at-position (s .exchange .command) r writeError (omega arith) on.position-error e
+
+  overflow-listed : {c : copies.ProgressSaid} {x : answer.Step} {y : Result} → caseOf s r ≡ writeOverflow → OffHeaders s → c ≡ copies.refused 8 → view.StageView s c x y → (y .number ≡ 8 → ⊥) → Here
+  overflow-listed e off q (view.in-headers _) h = absurd (h (ap (λ (p : copies.ProgressSaid). headerReplyBy p s .number) q))
+  overflow-listed e off q (view.in-elements st) h = at-write (s .exchange .command) r volumeOverflow (omega arith) (λ a w. on.write-overflow (off st a w)) e
+  overflow-listed e off q (view.in-done _) h = absurd (h refl)
+
+  pub taken-listed : s .ended ≡ false → s .exchange .awaiting ≡ true → OffHeaders s → (replyOf s r .number ≡ 8 → ⊥) → Here
+  taken-listed running awaited off = go (reply-view s r)
+    where
+      go : {x : Result} → ReplyView s r x → (x .number ≡ 8 → ⊥) → Here
+      go (view.unasked (inl e)) h = clash e running
+      go (view.unasked (inr e)) h = clash awaited e
+      go (view.busy b) h = busy-listed b
+      go (view.located e) h = at-locate (s .exchange .command) r good (omega arith) (λ _. on.locate-good) e
+      go (view.taken e) h = at-write (s .exchange .command) r good (omega arith) (λ _ _. on.write-good) e
+      go (view.counted e) h = at-position (s .exchange .command) r good (omega arith) on.position-good e
+      go (view.failed e) h = error-listed e
+      go (view.overflowed e) h = overflow-listed e off refl (view.stage-view s _ _) h
+      go (view.unlisted _) h = absurd (h refl)
+
+  -- so one that is not listed is refused with 8
+  pub unlisted-refused : s .ended ≡ false → s .exchange .awaiting ≡ true → OffHeaders s → (Here → ⊥) → replyOf s r .number ≡ 8
+  unlisted-refused running awaited off unlisted = go (ℕ-discrete (replyOf s r .number) 8)
+    where
+      go : Dec (replyOf s r .number ≡ 8) → replyOf s r .number ≡ 8
+      go (yes e) = e
+      go (no h) = absurd (unlisted (taken-listed running awaited off h))
+
+  -- ---- a listed reply whose numbers are possible is not
+
+  -- f is at most the frames outstanding, and p is outstanding
+  pub record Possible (outstanding oldest next : ℕ) : Type 0 where
+    pub counted : caseOf s r ≡ positionGood → r .buffered ≤ outstanding
+    pub from : Failed (caseOf s r) → oldest ≤ r .position .0
+    pub below : Failed (caseOf s r) → r .position .0 < next
+
+  listed-case : (c : Command) (m : ℕ) → Listed c m → ((a : Address) → c ≡ Read a → ⊥) → Foreseen (caseNumber (commandCode c) m)
+  listed-case c m on.locate-good h = view.located refl
+  listed-case c m on.locate-busy h = view.busy (inr (inl refl))
+  listed-case c m on.write-good h = view.taken refl
+  listed-case c m on.write-busy h = view.busy (inl refl)
+  listed-case c m on.write-error h = view.failed (inl refl)
+  listed-case c m (on.write-overflow off) h = view.overflowed refl
+  listed-case c m on.position-good h = view.counted refl
+  listed-case c m on.position-busy h = view.busy (inr (inr refl))
+  listed-case c m on.position-error h = view.failed (inr refl)
+  listed-case c m on.read-good h = absurd (h _ refl)
+  listed-case c m on.read-busy h = absurd (h _ refl)
+  listed-case c m on.read-recovered h = absurd (h _ refl)
+  listed-case c m on.read-unreadable h = absurd (h _ refl)
+  listed-case c m on.read-end-of-data h = absurd (h _ refl)
+  listed-case c m on.read-end-of-medium h = absurd (h _ refl)
+
+  -- 0D/00/02 is listed for no WRITE of a header
+  no-overflow : (c : Command) (m : ℕ) → Listed c m → ((a : Address) → c ≡ Write a → isHeader (a .0) ≡ true) → caseNumber (commandCode c) m ≡ writeOverflow → ⊥
+  no-overflow c m (on.write-overflow off) h e = clash (h _ refl) off
+  no-overflow c m on.locate-good h e = omega (arith, e)
+  no-overflow c m on.locate-busy h e = omega (arith, e)
+  no-overflow c m on.write-good h e = omega (arith, e)
+  no-overflow c m on.write-busy h e = omega (arith, e)
+  no-overflow c m on.write-error h e = omega (arith, e)
+  no-overflow c m on.position-good h e = omega (arith, e)
+  no-overflow c m on.position-busy h e = omega (arith, e)
+  no-overflow c m on.position-error h e = omega (arith, e)
+  no-overflow c m on.read-good h e = omega (arith, e)
+  no-overflow c m on.read-busy h e = omega (arith, e)
+  no-overflow c m on.read-recovered h e = omega (arith, e)
+  no-overflow c m on.read-unreadable h e = omega (arith, e)
+  no-overflow c m on.read-end-of-data h e = omega (arith, e)
+  no-overflow c m on.read-end-of-medium h e = omega (arith, e)
+
+  -- the numbers that a reply may bring, by stage
+  pub record Lawful : Type 0 where
+    pub in-headers : HeaderStage s → Possible (s .copies .outstanding) (oldestAddress (s .copies)) (nextAddress (s .copies))
+    pub in-elements : ElementStage s → Possible (s .elements .outstanding) (baseOf (s .elements)) (s .elements .next .0)
+
+  header-number : (x : copies.ProgressSaid) → (x ≡ copies.refused 8 → ⊥) → headerReplyBy x s .number ≡ 8 → ⊥
+  header-number (copies.more _) h q = omega arith
+  header-number copies.complete h q = omega arith
+  header-number (copies.refused n) h q = h (ap copies.refused q)
+
+  element-number : (x : answer.Step) → (x .number ≡ 8 → ⊥) → elementReplyBy x s .number ≡ 8 → ⊥
+  element-number x h = pick-by (λ (y : Result). y .number ≡ 8 → ⊥) (eqb (x .number) 0) (λ _ q. omega arith) (λ _ q. h q)
+
+  copies-counted : {x : copies.ProgressSaid} → r .buffered ≤ s .copies .outstanding → copying.CountedView (s .copies) (r .buffered) x → x ≡ copies.refused 8 → ⊥
+  copies-counted p (copying.tooMany l) e = omega (arith, p)
+  copies-counted p (copying.counted _) e = omega (arith, onward-number _ (copying.onward-view _) e)
+
+  copies-failed : {x : copies.ProgressSaid} → oldestAddress (s .copies) ≤ r .position .0 → r .position .0 < nextAddress (s .copies) → copying.FailedView (s .copies) (r .position .0) x → x ≡ copies.refused 8 → ⊥
+  copies-failed p l (copying.before h) e = omega (arith, p)
+  copies-failed p l (copying.behind h) e = omega (arith, l)
+  copies-failed p l (copying.failed _ _) e = omega (arith, onward-number _ (copying.onward-view _) e)
+
+  elements-counted : {x : answer.Step} → r .buffered ≤ s .elements .outstanding → answers.CountedView (s .elements) (r .buffered) x → x .number ≡ 8 → ⊥
+  elements-counted p (answers.tooMany l) q = omega (arith, p)
+  elements-counted p (answers.counted _) q = omega arith
+
+  elements-failed : {x : answer.Step} → baseOf (s .elements) ≤ r .position .0 → r .position .0 < s .elements .next .0 → answers.FailedView (s .elements) (r .position .0) (r .skip) x → x .number ≡ 8 → ⊥
+  elements-failed p l (answers.tooLow h) q = omega (arith, p)
+  elements-failed p l (answers.tooHigh h) q = omega (arith, l)
+  elements-failed p l (answers.failed _ _ _) q = omega arith
+  elements-failed p l (answers.full _ _ _) q = omega arith
+
+  module _ (stage : HeaderStage s ⊎ ElementStage s) (no-read : (a : Address) → s .exchange .command ≡ Read a → ⊥) (on-headers : OnHeaders s) (lawful : Lawful) (listed : Here) where
+    -- by stage, where neither machine refuses with 8
+    stage-number : (c : copies.ProgressSaid) (x : answer.Step) → (HeaderStage s → c ≡ copies.refused 8 → ⊥) → (ElementStage s → x .number ≡ 8 → ⊥) → stageReply s c x .number ≡ 8 → ⊥
+    stage-number c x h k = go (view.stage-view s c x)
+      where
+        go : {y : Result} → view.StageView s c x y → y .number ≡ 8 → ⊥
+        go (view.in-headers st) q = header-number c (h st) q
+        go (view.in-elements st) q = element-number x (k st) q
+        go (view.in-done e) q = ⊎-elim (λ st. header-not-done s st e) (λ st. element-not-done s st e) stage
+
+    pub listed-taken : replyOf s r .number ≡ 8 → ⊥
+    listed-taken = go (reply-view s r)
+      where
+        go : {x : Result} → ReplyView s r x → x .number ≡ 8 → ⊥
+        go (view.unasked _) q = omega arith
+        go (view.busy _) q = omega arith
+        go (view.located _) q = stage-number _ _ (λ _ e. never (cc)) (λ _ e. omega arith) q
+        go (view.taken _) q = stage-number _ _ (λ _ e. never (cc)) (λ _ e. omega arith) q
+        go (view.counted n) q =
+            stage-number _ _ (λ st. copies-counted (lawful .in-headers st .counted n) (copying.counted-view (s .copies) (r .buffered)))
+            (λ st. elements-counted (lawful .in-elements st .counted n) (answers.counted-view (s .elements) (r .buffered))) q
+        go (view.failed n) q =
+            stage-number _ _ (λ st. copies-failed (lawful .in-headers st .from n) (lawful .in-headers st .below n) (copying.failed-view (s .copies) (r .position .0)))
+            (λ st. elements-failed (lawful .in-elements st .from n) (lawful .in-elements st .below n) (answers.failed-view (s .elements) (r .position .0) (r .skip))) q
+        go (view.overflowed n) q = stage-number _ _ (λ st _. no-overflow (s .exchange .command) meaning listed (on-headers st) n) (λ _ e. omega arith) q
+        go (view.unlisted u) q = u (listed-case (s .exchange .command) meaning listed no-read)

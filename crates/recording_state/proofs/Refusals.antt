@@ -1,0 +1,167 @@
+-- A refusal of 8 or more ends a recording, and one of 1 to 7 leaves it as it is. Assumes nothing.
+use Prim.Native.Nat.{ℕ, _≤_}
+use mathlib.Core.Path.{_≡_, refl}
+use mathlib.Core.Bool.{_&&_}
+use mathlib.Core.List.{List}
+use native.Mathlib.Omega.{arith}
+use lib.Dec.{eqb}
+use borrow.Author.Tests.{eqb-false}
+use lib.ListN.{length}
+use Rattle.geometry.proofs.Impossible.{never}
+use Rattle.geometry.proofs.PickLaws.{pick-by}
+use Rattle.drive.specs.declared.reply.Reply.{Reply}
+use Rattle.drive.specs.Command.{commandFor}
+use Rattle.drive.specs.declared.command.Command.{Command}
+use Rattle.copies.specs.Copies as copies
+use Rattle.copies.specs.declared.state.Copies.{Copies}
+use Rattle.copies.proofs.AnswerView as copying
+use Rattle.elements.specs.Due as due
+use Rattle.elements.specs.declared.state.Elements.{Elements}
+use Rattle.elements.specs.Answer as answer
+use Rattle.elements.proofs.DueView as dues
+use Rattle.elements.proofs.AnswerView as answers
+use Rattle.recording_state.specs.declared.state.State.{State}
+use Rattle.recording_state.specs.Session.{windowLength, Result, endedOf}
+use Rattle.recording_state.specs.Accept.{acceptsNone, isFull, filemarkOf, Stored, blockOf, closeOf}
+use Rattle.recording_state.specs.Fetch.{refused, Fetching, sending, fetchOf}
+use Rattle.recording_state.specs.Reply.{headerReplyBy, elementReplyBy, stageReply, replyOf}
+use Rattle.recording_state.proofs.FetchView as fetching
+use Rattle.recording_state.proofs.ReplyView as replying
+
+-- what a call with this refusal leaves of a session
+pub record Leaves (n : ℕ) (before after : State) : Type 0 where
+  pub unchanged : 1 ≤ n → n ≤ 7 → after ≡ before
+  pub ended : 8 ≤ n → after ≡ endedOf before
+
+accepted-by : {s t : State} → Leaves 0 s t
+accepted-by = record { unchanged = λ k _. absurd (omega arith); ended = λ k. absurd (omega arith) }
+
+unchanged-by : (n : ℕ) {s : State} → n ≤ 7 → Leaves n s s
+unchanged-by n h = record { unchanged = λ _ _. refl; ended = λ k. absurd (omega arith) }
+
+ended-by : (n : ℕ) {s : State} → 8 ≤ n → Leaves n s (endedOf s)
+ended-by n h = record { unchanged = λ _ k. absurd (omega arith); ended = λ _. refl }
+
+-- ---- the numbers of header copies and of elements
+
+pub onward-number : (c : Copies) {x : copies.ProgressSaid} {m : ℕ} → copying.OnwardView c x → x ≡ copies.refused m → m ≡ 12
+onward-number c (copying.unfinished _) e = never (cc)
+onward-number c (copying.turning _ _ _) e = never (cc)
+onward-number c (copying.unwritten _ _ _ _) e = cc
+onward-number c (copying.through _ _ _ _) e = never (cc)
+
+counted-number : {c : Copies} {f m : ℕ} {x : copies.ProgressSaid} → copying.CountedView c f x → x ≡ copies.refused m → 8 ≤ m
+counted-number {m = m} (copying.tooMany _) e = let number : _≡_ {A = ℕ} 8 m = cc in omega arith
+counted-number (copying.counted _) e = omega (arith, onward-number _ (copying.onward-view _) e)
+
+failed-number : {c : Copies} {p m : ℕ} {x : copies.ProgressSaid} → copying.FailedView c p x → x ≡ copies.refused m → 8 ≤ m
+failed-number {m = m} (copying.before _) e = let number : _≡_ {A = ℕ} 8 m = cc in omega arith
+failed-number {m = m} (copying.behind _) e = let number : _≡_ {A = ℕ} 8 m = cc in omega arith
+failed-number (copying.failed _ _) e = omega (arith, onward-number _ (copying.onward-view _) e)
+
+due-number : {depth n : ℕ} {e : Elements} {x : due.DueSaid} → dues.DueView depth e x → x ≡ due.refused n → 8 ≤ n
+due-number (dues.relocating _) q = never (cc)
+due-number (dues.resting _ _ _) q = never (cc)
+due-number (dues.settling _ _ _) q = never (cc)
+due-number (dues.confirming _ _ _) q = never (cc)
+due-number {n = n} (dues.full _ _ _ _) q = let number : _≡_ {A = ℕ} 9 n = cc in omega arith
+due-number (dues.jumping _ _ _ _ _) q = never (cc)
+due-number (dues.writing _ _ _ _ _) q = never (cc)
+
+counted-step : {e : Elements} {f : ℕ} {x : answer.Step} → answers.CountedView e f x → (x .number ≡ 0 → ⊥) → 8 ≤ x .number
+counted-step (answers.tooMany _) h = omega arith
+counted-step (answers.counted _) h = absurd (h refl)
+
+failed-step : {e : Elements} {p skip : ℕ} {x : answer.Step} → answers.FailedView e p skip x → (x .number ≡ 0 → ⊥) → 8 ≤ x .number
+failed-step (answers.tooLow _) h = omega arith
+failed-step (answers.tooHigh _) h = omega arith
+failed-step (answers.failed _ _ _) h = absurd (h refl)
+failed-step (answers.full _ _ _) h = omega arith
+
+-- ---- the calls
+
+-- a fetch that gives a command is not refused
+sends : (s : State) (c : Command) (window frame : List ℕ) {n : ℕ} → sending s c window frame .said ≡ refused n → _≡_ {A = ℕ} 0 1
+unfolding sending
+sends s c window frame e = cc
+
+module _ (s : State) where
+  abbrev Left : Result → Type 0
+  Left r = Leaves (r .number) s (r .session)
+
+  pub refused-filemark : Left (filemarkOf s)
+  unfolding filemarkOf
+  refused-filemark =
+      pick-by Left (acceptsNone s) (λ _. unchanged-by 7 (omega arith))
+      (λ _. pick-by Left (isFull s) (λ _. unchanged-by 6 (omega arith)) (λ _. accepted-by))
+
+  abbrev LeftStored : Stored → Type 0
+  LeftStored r = Left (r .result)
+
+  pub refused-block : (block window : List ℕ) → LeftStored (blockOf s block window)
+  unfolding blockOf
+  refused-block block window =
+      pick-by LeftStored (acceptsNone s) (λ _. unchanged-by 7 (omega arith))
+      (λ _. pick-by LeftStored (eqb (length block) 32768 && eqb (length window) (windowLength s))
+      (λ _. pick-by LeftStored (isFull s) (λ _. unchanged-by 6 (omega arith)) (λ _. accepted-by))
+      (λ _. unchanged-by 1 (omega arith)))
+
+  -- and it leaves the window as it was lent
+  abbrev Untouched : List ℕ → Stored → Type 0
+  Untouched window r = 1 ≤ r .result .number → r .window ≡ window
+
+  pub refused-window : (block window : List ℕ) → Untouched window (blockOf s block window)
+  unfolding blockOf
+  refused-window block window =
+      pick-by (Untouched window) (acceptsNone s) (λ _ _. refl)
+      (λ _. pick-by (Untouched window) (eqb (length block) 32768 && eqb (length window) (windowLength s))
+      (λ _. pick-by (Untouched window) (isFull s) (λ _ _. refl) (λ _ h. absurd (omega arith)))
+      (λ _ _. refl))
+
+  pub refused-close : Left (closeOf s)
+  unfolding closeOf
+  refused-close = pick-by Left (acceptsNone s) (λ _. unchanged-by 7 (omega arith)) (λ _. accepted-by)
+
+  pub refused-fetch : (n : ℕ) (window frame : List ℕ) → fetchOf s window frame .said ≡ refused n → Leaves n s (fetchOf s window frame .session)
+  refused-fetch n window frame = go (fetching.fetch-view s window frame)
+    where
+      go : {f : Fetching} → fetching.FetchView s window frame f → f .said ≡ refused n → Leaves n s (f .session)
+      go (fetching.wrongPhase _) e = let number : 7 ≡ n = cc in unchanged-by n (omega arith)
+      go (fetching.wrongLength _ _ _) e = let number : 1 ≡ n = cc in unchanged-by n (omega arith)
+      go (fetching.repeating _ _) e = never (sends s _ window frame e)
+      go (fetching.copying _ _ _) e = never (sends s _ window frame e)
+      go (fetching.stepping _ _ _ x _) e = never (sends s (commandFor x) window frame e)
+      go (fetching.resting _ _ _ _) e = never (cc)
+      go (fetching.stopping _ _ _ m q) e = let number : m ≡ n = cc in ended-by n (omega (arith, due-number (dues.due-view (s .setup .depth) (s .elements)) q))
+      go (fetching.finished _ _ _) e = never (cc)
+
+  header-left : (x : copies.ProgressSaid) → ((m : ℕ) → x ≡ copies.refused m → 8 ≤ m) → Left (headerReplyBy x s)
+  header-left (copies.more _) h = accepted-by
+  header-left copies.complete h = accepted-by
+  header-left (copies.refused n) h = ended-by n (h n refl)
+
+  element-left : (x : answer.Step) → ((x .number ≡ 0 → ⊥) → 8 ≤ x .number) → Left (elementReplyBy x s)
+  element-left x h = pick-by Left (eqb (x .number) 0) (λ _. accepted-by) (λ e. ended-by _ (h (eqb-false _ _ e)))
+
+  -- by stage
+  stage-left : (c : copies.ProgressSaid) (x : answer.Step) → ((m : ℕ) → c ≡ copies.refused m → 8 ≤ m) → ((x .number ≡ 0 → ⊥) → 8 ≤ x .number) → Left (stageReply s c x)
+  stage-left c x h k = go (replying.stage-view s c x)
+    where
+      go : {y : Result} → replying.StageView s c x y → Left y
+      go (replying.in-headers _) = header-left c h
+      go (replying.in-elements _) = element-left x k
+      go (replying.in-done _) = ended-by 8 (omega arith)
+
+  pub refused-reply : (r : Reply) → Left (replyOf s r)
+  refused-reply r = go (replying.reply-view s r)
+    where
+      go : {x : Result} → replying.ReplyView s r x → Left x
+      go (replying.unasked _) = unchanged-by 7 (omega arith)
+      go (replying.busy _) = accepted-by
+      go (replying.located _) = stage-left _ _ (λ m e. never (cc)) (λ h. absurd (h refl))
+      go (replying.taken _) = stage-left _ _ (λ m e. never (cc)) (λ h. absurd (h refl))
+      go (replying.counted _) = stage-left _ _ (λ m e. counted-number (copying.counted-view (s .copies) (r .buffered)) e) (counted-step (answers.counted-view (s .elements) (r .buffered)))
+      go (replying.failed _) =
+          stage-left _ _ (λ m e. failed-number (copying.failed-view (s .copies) (r .position .0)) e) (failed-step (answers.failed-view (s .elements) (r .position .0) (r .skip)))
+      go (replying.overflowed _) = stage-left _ _ (λ m e. let number : _≡_ {A = ℕ} 8 m = cc in omega arith) (λ h. absurd (h refl))
+      go (replying.unlisted _) = ended-by 8 (omega arith)

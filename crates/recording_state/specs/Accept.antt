@@ -1,0 +1,53 @@
+-- 01, "A recording session": elements may be accepted from opening until close is called.
+use Prim.Native.Nat.{ℕ, _%_}
+use mathlib.Core.Bool.{Bool, true, false, _&&_, _||_}
+use mathlib.Core.List.{List}
+use lib.Dec.{eqb, ltb}
+use lib.ListN.{length}
+use Rattle.geometry.specs.Pick.{pick}
+use Rattle.elements.specs.Elements as elements
+use Rattle.recording_state.specs.declared.state.State.{State}
+use Rattle.recording_state.specs.declared.state.Outcome.{Outcome}
+use Rattle.recording_state.specs.Session.{windowOf, windowLength, Result, outcomeSaid, accepting, refusing, withElements, closedOf, settledOf}
+use Rattle.recording_state.specs.Window.{putBlock}
+
+-- refusal 7: the session has ended, or close was called
+abbrev pub acceptsNone : State → Bool
+acceptsNone s = s .ended || s .closed
+
+-- refusal 6: W elements not yet on tape
+abbrev pub isFull : State → Bool
+isFull s = ltb (s .setup .highest) (s .elements .pending)
+
+abbrev pub withElement : State → Bool → State
+withElement s mark = withElements s (elements.acceptedOf (s .elements) mark)
+
+-- a filemark writes nothing to the window
+unfoldable pub filemarkOf : State → Result
+filemarkOf s =
+    pick (acceptsNone s) (refusing s 7)
+    (pick (isFull s) (refusing s 6)
+    (accepting (withElement s true)))
+
+-- element i uses window block i mod W
+abbrev pub placeOf : State → ℕ
+placeOf s = elements.numberOf (s .elements) (s .elements .pending) % windowOf s
+
+-- a call's result, and the window that it leaves
+pub record Stored : Type 0 where
+  pub result : Result
+  pub window : List ℕ
+
+abbrev pub blockSaid : Outcome → List ℕ → Stored
+blockSaid r window = record { result = outcomeSaid r; window = window }
+
+unfoldable pub blockOf : State → List ℕ → List ℕ → Stored
+blockOf s block window =
+    pick (acceptsNone s) (record { result = refusing s 7; window = window })
+    (pick (eqb (length block) 32768 && eqb (length window) (windowLength s))
+    (pick (isFull s) (record { result = refusing s 6; window = window })
+    (record { result = accepting (withElement s false); window = putBlock window (placeOf s) block }))
+    (record { result = refusing s 1; window = window }))
+
+unfoldable pub closeOf : State → Result
+closeOf s = pick (acceptsNone s) (refusing s 7) (accepting (settledOf (closedOf s)))

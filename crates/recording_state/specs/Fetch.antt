@@ -1,0 +1,79 @@
+-- 01, "A recording session": fetching the next command.
+use Prim.Native.Nat.{ℕ}
+use mathlib.Core.Bool.{_&&_, _||_}
+use mathlib.Core.List.{List}
+use lib.Dec.{eqb}
+use lib.ListN.{length}
+use Rattle.geometry.specs.Pick.{pick}
+use Rattle.geometry.specs.Refused.{refusalNumber}
+use Rattle.geometry.specs.declared.refusal.Refusal.{Refusal}
+use Rattle.drive.specs.Command.{commandCode, commandAddress}
+use Rattle.drive.specs.Exchange.{sentOf}
+use Rattle.drive.specs.declared.command.Command.{Command}
+use Rattle.drive.specs.declared.command.Command.the-variants.{Read, Write, Locate, ReadPosition}
+use Rattle.recording_state.specs.declared.state.State.{State}
+use Rattle.recording_state.specs.declared.state.Fetched.{Fetched}
+use Rattle.recording_state.specs.declared.state.Answer.{Answer}
+use Rattle.recording_state.specs.declared.state.Answer.the-variants as A
+use Rattle.recording_state.specs.Session.{windowLength, endedOf, withExchange}
+use Rattle.recording_state.specs.Due as due
+use Rattle.recording_state.specs.Due.{decisionOf}
+use Rattle.recording_state.specs.Written.{writtenFrame}
+
+-- what a fetch answers: a command by its operation code and address, idle, done, or a refusal by its number
+pub data AnswerSaid : Type 0 where
+  command : ℕ → ℕ → AnswerSaid
+  idle : AnswerSaid
+  done : AnswerSaid
+  refused : ℕ → AnswerSaid
+
+abbrev pub answerSaid : Answer → AnswerSaid
+answerSaid (A.Command c) = command (commandCode c) (commandAddress c)
+answerSaid A.Idle = idle
+answerSaid A.Done = done
+answerSaid (A.Refused r) = refused (refusalNumber r)
+
+-- the session and the answer that a fetch returns, and the frame that it leaves
+pub record Fetching : Type 0 where
+  pub session : State
+  pub said : AnswerSaid
+  pub frame : List ℕ
+
+abbrev pub fetched : Fetched → List ℕ → Fetching
+fetched r frame = record { session = r .session; said = answerSaid (r .answer); frame = frame }
+
+-- the command goes out and its reply is awaited
+abbrev pub awaits : State → Command → State
+awaits s c = withExchange s (sentOf c)
+
+-- only a WRITE writes to the frame, and then all of it
+abbrev pub frameFor : Command → State → List ℕ → List ℕ → List ℕ
+frameFor (Read a) s window frame = frame
+frameFor (Write a) s window frame = writtenFrame s window
+frameFor (Locate a) s window frame = frame
+frameFor ReadPosition s window frame = frame
+
+unfoldable pub sending : State → Command → List ℕ → List ℕ → Fetching
+sending s c window frame = record {
+  session = awaits s c;
+  said = command (commandCode c) (commandAddress c);
+  frame = frameFor c s window frame;
+}
+
+abbrev pub fetchRefused : State → Refusal → Fetched
+fetchRefused s r = record { session = s; answer = A.Refused r }
+
+-- idle and done await no reply; a refusal here is 9 and ends the session
+abbrev pub answering : due.Decision → State → List ℕ → List ℕ → Fetching
+answering (due.send c) s window frame = sending s c window frame
+answering due.idle s window frame = record { session = s; said = idle; frame = frame }
+answering due.done s window frame = record { session = s; said = done; frame = frame }
+answering (due.refuse n) s window frame = record { session = endedOf s; said = refused n; frame = frame }
+
+-- refusal 7 where the session has ended or a reply is awaited; 1 where a length is wrong
+unfoldable pub fetchOf : State → List ℕ → List ℕ → Fetching
+fetchOf s window frame =
+    pick (s .ended || s .exchange .awaiting) (record { session = s; said = refused 7; frame = frame })
+    (pick (eqb (length window) (windowLength s) && eqb (length frame) 33280)
+    (answering (decisionOf s) s window frame)
+    (record { session = s; said = refused 1; frame = frame }))

@@ -1,0 +1,101 @@
+-- 01, "Replies": what a reply changes.
+use Prim.Native.Nat.{ℕ}
+use mathlib.Core.Bool.{_||_, not}
+use lib.Dec.{eqb}
+use Rattle.geometry.specs.Pick.{pick}
+use Rattle.geometry.specs.declared.address.Address.{Address}
+use Rattle.drive.specs.Command.{commandAddress}
+use Rattle.drive.specs.Cases as cases
+use Rattle.drive.specs.Cases.{locateGood, locateBusy, writeGood, writeBusy, writeFailed, writeOverflow, positionGood, positionBusy, positionFailed}
+use Rattle.drive.specs.Exchange as exchange
+use Rattle.drive.specs.declared.reply.Reply.{Reply}
+use Rattle.copies.specs.Copies as copies
+use Rattle.elements.specs.Elements as elements
+use Rattle.elements.specs.Answer as answer
+use Rattle.recording_state.specs.declared.state.State.{State}
+use Rattle.recording_state.specs.declared.state.Stage.{Stage}
+use Rattle.recording_state.specs.declared.state.Stage.the-variants as S
+use Rattle.recording_state.specs.Session.{Result, accepting, refusing, ending, withStage, withExchange, withCopies, withElements, settledOf}
+
+-- the reply is taken in
+abbrev pub answeredOf : State → State
+answeredOf s = withExchange s (exchange.answeredOf (s .exchange))
+
+-- busy: the next fetch gives the same command; nothing else changes
+abbrev pub repeatedOf : State → State
+repeatedOf s = withExchange s (exchange.repeatedOf (s .exchange))
+
+-- behind the opening headers the elements, behind the closing headers done
+abbrev pub completedBy : Stage → State → State
+completedBy S.OpeningHeaders s = withStage s S.Elements
+completedBy S.Elements s = s
+completedBy S.Eod s = s
+completedBy S.ClosingHeaders s = withStage s S.Done
+completedBy S.Done s = s
+
+abbrev pub completedOf : State → State
+completedOf s = completedBy (s .stage) s
+
+-- the session after a reply, given how far the header copies are
+abbrev pub headerReplyBy : copies.ProgressSaid → State → Result
+headerReplyBy (copies.more c) s = accepting (withCopies (answeredOf s) c)
+headerReplyBy copies.complete s = accepting (settledOf (completedOf (answeredOf s)))
+headerReplyBy (copies.refused n) s = ending s n
+
+-- given the elements
+abbrev pub elementReplyBy : answer.Step → State → Result
+elementReplyBy x s = pick (eqb (x .number) 0) (accepting (settledOf (withElements (answeredOf s) (x .elements)))) (ending s (x .number))
+
+-- by stage, what a reply is to the header copies, and what it is to the elements and EOD; when all is done no reply is awaited
+abbrev pub stageReplyBy : Stage → copies.ProgressSaid → answer.Step → State → Result
+stageReplyBy S.OpeningHeaders c e s = headerReplyBy c s
+stageReplyBy S.Elements c e s = elementReplyBy e s
+stageReplyBy S.Eod c e s = elementReplyBy e s
+stageReplyBy S.ClosingHeaders c e s = headerReplyBy c s
+stageReplyBy S.Done c e s = ending s 8
+
+abbrev pub stageReply : State → copies.ProgressSaid → answer.Step → Result
+stageReply s c e = stageReplyBy (s .stage) c e s
+
+-- the address of the command that is answered
+abbrev pub addressOf : State → Address
+addressOf s = elements.at (commandAddress (s .exchange .command))
+
+-- LOCATE, good
+abbrev pub locatedOf : State → Result
+locatedOf s = stageReply s (copies.more (copies.locatedOf (s .copies))) (answer.kept (answer.locatedOf (s .elements) (addressOf s)))
+
+-- WRITE, good
+abbrev pub takenOf : State → Result
+takenOf s = stageReply s (copies.more (copies.takenOf (s .copies))) (answer.kept (answer.takenOf (s .elements)))
+
+-- READ POSITION, good, with f frames still buffered
+abbrev pub countedOf : State → ℕ → Result
+countedOf s f = stageReply s (copies.countedOf (s .copies) f) (answer.countedOf (s .elements) f)
+
+-- 03/0C/00 with position p; headers ignore the skip
+abbrev pub failedOf : State → ℕ → ℕ → Result
+failedOf s p skip = stageReply s (copies.failedOf (s .copies) p) (answer.failedOf (s .elements) p skip)
+
+-- 0D/00/02 on a WRITE: listed for an element or EOD, not for a header
+abbrev pub overflowedOf : State → Result
+overflowedOf s = stageReply s (copies.refused 8) (answer.kept (answer.overflowedOf (s .elements) (addressOf s)))
+
+-- by the command and the meaning of its reply
+unfoldable pub answerOf : State → ℕ → Reply → Result
+answerOf s n r =
+    pick (eqb n writeBusy || (eqb n locateBusy || eqb n positionBusy)) (accepting (repeatedOf s))
+    (pick (eqb n locateGood) (locatedOf s)
+    (pick (eqb n writeGood) (takenOf s)
+    (pick (eqb n positionGood) (countedOf s (r .buffered))
+    (pick (eqb n writeFailed || eqb n positionFailed) (failedOf s (r .position .0) (r .skip))
+    (pick (eqb n writeOverflow) (overflowedOf s)
+    -- anything else, or a reply unlisted for its command
+    (ending s 8))))))
+
+abbrev pub caseOf : State → Reply → ℕ
+caseOf s r = cases.caseOf (s .exchange .command) r
+
+-- refusal 7 without a command
+unfoldable pub replyOf : State → Reply → Result
+replyOf s r = pick (s .ended || not (s .exchange .awaiting)) (refusing s 7) (answerOf s (caseOf s r) r)

@@ -1,0 +1,144 @@
+// The state of a session, what its calls return, and the steps that several of them take.
+ghost use mathlib.Core.Path.{_≡_};
+ghost use Rattle.geometry.specs.Refused.{refusalNumber};
+ghost use Rattle.recording_state.specs.Session.{windowOf, outcomeSaid, accepting, refusing, ending, eodDue, closingStarted, settledOf};
+use copies::Copies;
+use copies::closing_header;
+use drive::Command;
+use drive::Exchange;
+use elements::Elements;
+use geometry::Address;
+use geometry::Refusal;
+use geometry::Verdict;
+
+pub enum Stage {
+    OpeningHeaders,
+    // LOCATE 10 and the elements.
+    Elements,
+    Eod,
+    ClosingHeaders,
+    Done,
+}
+
+// The sizes that a session was opened with.
+pub struct Setup {
+    // D, the frames that the drive buffers.
+    pub depth: u8,
+    // W - 1, the highest block of the window: so every session's window has a block.
+    pub highest: u8,
+}
+
+pub struct State {
+    pub setup: Setup,
+    pub stage: Stage,
+    pub exchange: Exchange,
+    // Whether close was called.
+    pub closed: bool,
+    // Whether a refusal of 8 to 12 has ended the session.
+    pub ended: bool,
+    pub copies: Copies,
+    pub elements: Elements,
+}
+
+// What every call but a fetch returns.
+pub struct Outcome {
+    pub session: State,
+    pub verdict: Verdict,
+}
+
+// The answer to a fetch. The host sends a command once, a WRITE with the frame that the fetch filled, and brings its reply.
+pub enum Answer {
+    Command(Command),
+    Idle,
+    Done,
+    Refused(Refusal),
+}
+
+pub struct Fetched {
+    pub session: State,
+    pub answer: Answer,
+}
+
+impl State {
+    // W.
+    pub fn window(self) -> usize
+        ensures { λ r. ⌜ r ≡ windowOf self ⌝ }
+    {
+        let setup = self.setup;
+        (setup.highest as usize) + 1
+    }
+
+    pub fn accepted(self) -> Outcome
+        ensures { λ r. ⌜ outcomeSaid r ≡ accepting self ⌝ }
+    {
+        Outcome {
+            session: self,
+            verdict: Verdict::Accepted,
+        }
+    }
+
+    // Refusals 1 to 7 leave the session unchanged.
+    pub fn refuse(self, refusal: Refusal) -> Outcome
+        ensures { λ r. ⌜ outcomeSaid r ≡ refusing self (refusalNumber refusal) ⌝ }
+    {
+        Outcome {
+            session: self,
+            verdict: Verdict::Refused(refusal),
+        }
+    }
+
+    // Refusals 8 to 12 end the session.
+    pub fn end(mut self, refusal: Refusal) -> Outcome
+        ensures { λ r. ⌜ outcomeSaid r ≡ ending self (refusalNumber refusal) ⌝ }
+    {
+        self.ended = true;
+        Outcome {
+            session: self,
+            verdict: Verdict::Refused(refusal),
+        }
+    }
+
+    // EOD is due, behind the last element.
+    fn due_eod(self) -> State
+        ensures { λ r. ⌜ r ≡ eodDue self ⌝ }
+    {
+        let elements = self.elements;
+        State {
+            stage: Stage::Eod,
+            elements: elements.accept(false),
+            ..self
+        }
+    }
+
+    fn start_closing(self) -> State
+        ensures { λ r. ⌜ r ≡ closingStarted self ⌝ }
+    {
+        let copies = self.copies;
+        let elements = self.elements;
+        let header = copies.header;
+        let next = elements.next;
+        State {
+            stage: Stage::ClosingHeaders,
+            copies: Copies::start(closing_header(header, next)),
+            ..self
+        }
+    }
+
+    // EOD becomes due when close was called and every element is on tape; once EOD is on tape, the closing headers follow.
+    pub fn settle(self) -> State
+        ensures { λ r. ⌜ r ≡ settledOf self ⌝ }
+    {
+        let elements = self.elements;
+        if 0 < elements.pending {
+            return self;
+        }
+        let stage = self.stage;
+        match stage {
+            Stage::OpeningHeaders => self,
+            Stage::Elements => { if self.closed { self.due_eod() } else { self } }
+            Stage::Eod => self.start_closing(),
+            Stage::ClosingHeaders => self,
+            Stage::Done => self,
+        }
+    }
+}

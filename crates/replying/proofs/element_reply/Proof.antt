@@ -1,0 +1,71 @@
+-- `replying::element_reply` meets its contract: an accepted step has number 0, a refused one another. Assumes nothing.
+use mathlib.Core.Bool.{false}
+use mathlib.Core.Path.{_≡_, _∙_, refl, sym, ap}
+use lib.Dec.{eqb}
+use Rattle.geometry.proofs.PickLaws.{pick-f}
+use Rattle.geometry.specs.declared.refusal.Refusal.the-variants as R
+use Rattle.geometry.specs.declared.refusal.Refusal.{Refusal}
+use Rattle.geometry.specs.Refused.{refusalNumber}
+use Rattle.elements.specs.Answer.{steppedSaid}
+use Rattle.recording_state.specs.Reply.{elementReplyBy}
+use Rattle.recording_state.specs.Session.{accepting, settledOf}
+use Rattle.replying.proofs.element_reply.Statement.{statement}
+use Rattle.replying.proofs.element_reply.Tie as tie
+
+-- a refusal's number is none of acceptance
+refused : (r : Refusal) → eqb (refusalNumber r) 0 ≡ false
+refused R.Length = refl
+refused R.Geometry = refl
+refused R.Header = refl
+refused R.Capacity = refl
+refused R.Exhausted = refl
+refused R.WindowFull = refl
+refused R.Phase = refl
+refused R.Reply = refl
+refused R.TapeFull = refl
+refused R.Missing = refl
+refused R.Foreign = refl
+refused R.NotFound = refl
+
+enum-told : tie.Need-enum-told
+enum-told c = c .match .keys1
+
+answered-requires : tie.Need-answered-requires
+answered-requires c κs = tt
+
+settle-requires : tie.Need-settle-requires
+settle-requires c κs = tt
+
+accepted-requires : tie.Need-accepted-requires
+accepted-requires c κs = tt
+
+enum-known-verdict : tie.Need-enum-known-verdict
+enum-known-verdict c = c .match .keys2
+
+end-requires : tie.Need-end-requires
+end-requires c κs = tt
+
+returns : tie.Need-returns
+returns c =
+    c .accepted .ensures
+    ∙ ap accepting (c .before .settle .ensures ∙ ap settledOf (c .before .before .answered .ensures))
+    ∙ sym (ap (λ v. elementReplyBy (steppedSaid (record { elements = c .before .before .before .before .before .before .args .stepped .elements; verdict = v })) (c .before .before .before .before .before .before .args .s)) (c .before .before .before .enum-told .given .1))
+
+returns-2 : tie.Need-returns-2
+returns-2 c =
+    c .end .ensures
+    ∙ sym (pick-f _ (refused (c .before .before .verdict .given .0 .0)))
+    ∙ sym (ap (λ v. elementReplyBy (steppedSaid (record { elements = c .before .before .before .before .before .args .stepped .elements; verdict = v })) (c .before .before .before .before .before .args .s)) (c .before .before .verdict .given .1))
+
+pub element-reply-spec : {M : Type 1} → statement M
+element-reply-spec =
+    tie.close
+    (tie.spec
+    enum-told
+    answered-requires
+    settle-requires
+    accepted-requires
+    enum-known-verdict
+    end-requires
+    returns
+    returns-2)
