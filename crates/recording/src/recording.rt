@@ -3,7 +3,7 @@ ghost use mathlib.Core.Path.{_≡_};
 ghost use Rattle.recording_state.specs.Session as state;
 ghost use Rattle.recording_state.specs.Open.{openOf, openBlankOf};
 ghost use Rattle.recording_state.specs.Accept.{filemarkOf, blockOf, closeOf};
-ghost use Rattle.recording_state.specs.Fetch as fetch;
+ghost use Rattle.recording_state.specs.Fetch.{fetchOf};
 ghost use Rattle.recording_state.specs.Reply.{replyOf};
 ghost use Rattle.recording.specs.Session.{outcomeSaid, blockSaid, fetched};
 use drive::Reply;
@@ -28,6 +28,7 @@ pub struct Fetched {
 }
 
 impl Outcome {
+    // The outcome of a call on the state, for the session that holds it.
     fn of(o: recording_state::Outcome) -> Outcome
         ensures { λ r. ⌜ outcomeSaid r ≡ state.outcomeSaid o ⌝ }
     {
@@ -41,6 +42,7 @@ impl Outcome {
 }
 
 impl Fetched {
+    // The same for a fetch.
     fn of(f: recording_state::Fetched) -> Fetched
         ensures { λ r. ⌜ (r .session .state ≡ f .session) × (r .answer ≡ f .answer) ⌝ }
     {
@@ -94,7 +96,7 @@ impl Recording {
 
     // The next command, or idle, or done. The window is lent as the accepts left it; the frame is written only for a WRITE, and then all of it.
     pub fn fetch(self, window: &[u8], frame: &mut [u8]) -> Fetched
-        ensures { λ r. ⌜ fetched r (now (frame .exit)) ≡ fetch.fetchOf (self .state) (now (window .entry)) (now (frame .entry)) ⌝ }
+        ensures { λ r. ⌜ fetched r (now (frame .exit)) ≡ fetchOf (self .state) (now (window .entry)) (now (frame .entry)) ⌝ }
     {
         let s = self.state;
         Fetched::of(fetching::fetch(s, window, frame))
