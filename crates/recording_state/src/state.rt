@@ -7,7 +7,6 @@ use copies::closing_header;
 use drive::Command;
 use drive::Exchange;
 use elements::Elements;
-use geometry::Address;
 use geometry::Refusal;
 use geometry::Verdict;
 

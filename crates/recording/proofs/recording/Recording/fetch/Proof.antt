@@ -1,5 +1,4 @@
 -- `recording::recording::Recording::fetch` meets its contract: by what the call below promises. Assumes nothing.
-use mathlib.Core.Path.{_∙_}
 use borrow.Author.Needs.{needs}
 use Rattle.recording.proofs.recording.Recording.fetch.Statement.{statement}
 use Rattle.recording.proofs.recording.Recording.fetch.Tie as tie
