@@ -19,7 +19,7 @@ use Rattle.reading.proofs.Ended as reading-ended
 use Rattle.reading.proofs.Refusals as read
 use Rattle.archive.specs.Recordings as recordings
 use Rattle.archive.specs.Readings as readings
-use Rattle.archive.specs.Refusals.{lentBy, leftBy, RefusedCalls}
+use Rattle.archive.specs.Refusals.{lentBy, leftBy, endedFromCall, RefusedCalls}
 
 -- ---- a recording
 
@@ -41,13 +41,13 @@ left-as-lent s recordings.close h = refl
 left-as-lent s (recordings.fetch window frame) h = frame-left s window frame (view.fetch-view s window frame) h
 left-as-lent s (recordings.reply r) h = refl
 
-fetch-leaves : (s : State) (window frame : List ℕ) (x : fetch.AnswerSaid) → fetchOf s window frame .said ≡ x → 1 ≤ recordings.fetchNumber x → Leaves (recordings.fetchNumber x) s (fetchOf s window frame .session)
+fetch-leaves : (s : State) (window frame : List ℕ) (x : fetch.AnswerSaid) → fetchOf s window frame .said ≡ x → 1 ≤ recordings.fetchNumber x → Leaves (recordings.fetchNumber x) s s (fetchOf s window frame .session)
 fetch-leaves s window frame (fetch.command _ _) e h = absurd (omega arith)
 fetch-leaves s window frame fetch.idle e h = absurd (omega arith)
 fetch-leaves s window frame fetch.done e h = absurd (omega arith)
 fetch-leaves s window frame (fetch.refused n) e h = refused-fetch s n window frame e
 
-leaves : (s : State) (c : recordings.Call) → 1 ≤ recordings.refusal s c → Leaves (recordings.refusal s c) s (recordings.returned s c)
+leaves : (s : State) (c : recordings.Call) → 1 ≤ recordings.refusal s c → Leaves (recordings.refusal s c) s (endedFromCall s c) (recordings.returned s c)
 leaves s (recordings.accept-block b window) h = refused-block s b window
 leaves s recordings.accept-filemark h = refused-filemark s
 leaves s recordings.close h = refused-close s

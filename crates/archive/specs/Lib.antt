@@ -4,6 +4,7 @@ pub mod Headers
 pub mod Recordings
 pub mod Readings
 pub mod Demand
+pub mod EndOfData
 pub mod Fold
 pub mod Sample
 pub mod Refusals

@@ -6,6 +6,7 @@ use mathlib.Core.List.{List, []}
 use Rattle.recording_state.specs.Session as recording
 use Rattle.recording_state.specs.Accept.{blockOf}
 use Rattle.recording_state.specs.Fetch.{fetchOf}
+use Rattle.recording_state.specs.Reply.{endedFrom}
 use Rattle.recording_state.specs.declared.state.State.{State}
 use Rattle.reading.specs.Session as reading
 use Rattle.reading.specs.declared.session.Reading.{Reading}
@@ -28,13 +29,21 @@ leftBy s recordings.close = []
 leftBy s (recordings.fetch window frame) = fetchOf s window frame .frame
 leftBy s (recordings.reply r) = []
 
+-- the session that a call ends with 8 to 12: as it was, but that the write error behind a reply's 9 is noted
+abbrev pub endedFromCall : State → recordings.Call → State
+endedFromCall s (recordings.accept-block b window) = s
+endedFromCall s recordings.accept-filemark = s
+endedFromCall s recordings.close = s
+endedFromCall s (recordings.fetch window frame) = s
+endedFromCall s (recordings.reply r) = endedFrom s r (recordings.refusal s (recordings.reply r))
+
 pub record RecordingRefused (s : State) (c : recordings.Call) : Type 0 where
   -- buffers stay untouched
   pub untouched : 1 ≤ recordings.refusal s c → leftBy s c ≡ lentBy c
   -- 1 to 7: session unchanged
   pub unchanged : 1 ≤ recordings.refusal s c → recordings.refusal s c ≤ 7 → recordings.returned s c ≡ s
-  -- 8 to 12: session ended, and otherwise as it was
-  pub ended : 8 ≤ recordings.refusal s c → recordings.returned s c ≡ recording.endedOf s
+  -- 8 to 12: session ended
+  pub ended : 8 ≤ recordings.refusal s c → recordings.returned s c ≡ recording.endedOf (endedFromCall s c)
   -- and only 7 follows
   pub only-7 : s .ended ≡ true → recordings.refusal s c ≡ 7
 

@@ -12,8 +12,8 @@ use Rattle.elements.specs.Elements.{acceptedOf, baseOf, isMark}
 use Rattle.elements.specs.Trail.{trailOf, trailBefore}
 
 -- the fields that stay
-pub accepted-same : (e : Elements) (mark : Bool) → (acceptedOf e mark .first ≡ e .first) × (acceptedOf e mark .outstanding ≡ e .outstanding) × (acceptedOf e mark .next ≡ e .next) × (acceptedOf e mark .limit ≡ e .limit) × (acceptedOf e mark .relocate ≡ e .relocate) × (acceptedOf e mark .target ≡ e .target) × (acceptedOf e mark .trail ≡ e .trail)
-accepted-same e mark = (refl, refl, refl, refl, refl, refl, refl)
+pub accepted-same : (e : Elements) (mark : Bool) → (acceptedOf e mark .first ≡ e .first) × (acceptedOf e mark .outstanding ≡ e .outstanding) × (acceptedOf e mark .next ≡ e .next) × (acceptedOf e mark .limit ≡ e .limit) × (acceptedOf e mark .relocate ≡ e .relocate) × (acceptedOf e mark .target ≡ e .target) × (acceptedOf e mark .eod ≡ e .eod) × (acceptedOf e mark .trail ≡ e .trail)
+accepted-same e mark = (refl, refl, refl, refl, refl, refl, refl, refl)
 
 -- two elements less than 64 apart have places of their own
 pub places-apart : (first i j : ℕ) → i < j → j < i + 64 → (first + i) % 64 ≡ (first + j) % 64 → ⊥

@@ -5,11 +5,11 @@ use lib.Dec.{ltb, leb}
 use Rattle.geometry.specs.Pick.{pick}
 use Rattle.geometry.specs.Refused.{verdictNumber}
 use Rattle.geometry.specs.Place as place
-use Rattle.geometry.specs.WriteError.{targetOf}
+use Rattle.geometry.specs.WriteError.{targetAddress, targetOf}
 use Rattle.geometry.specs.declared.address.Address.{Address}
 use Rattle.elements.specs.declared.state.Elements.{Elements}
 use Rattle.elements.specs.declared.answer.Stepped.{Stepped}
-use Rattle.elements.specs.Elements.{at, numberOf, baseOf}
+use Rattle.elements.specs.Elements.{at, numberOf, baseOf, limitOf}
 use Rattle.elements.specs.Trail.{trailOf}
 
 -- the elements after a reply, and the number of its refusal, 0 if it is not refused
@@ -28,11 +28,11 @@ refusing e n = record { elements = e; number = n }
 
 -- a LOCATE answered good: writing goes on at its address
 abbrev pub locatedOf : Elements → Address → Elements
-locatedOf e a = record { first = e .first; pending = e .pending; outstanding = e .outstanding; next = a; limit = e .limit; relocate = false; target = e .target; trail = e .trail; marks = e .marks }
+locatedOf e a = record { first = e .first; pending = e .pending; outstanding = e .outstanding; next = a; limit = e .limit; relocate = false; target = e .target; eod = e .eod; trail = e .trail; marks = e .marks }
 
 -- a WRITE answered good: the frame is outstanding
 abbrev pub takenOf : Elements → Elements
-takenOf e = record { first = e .first; pending = e .pending; outstanding = (e .outstanding + 1) % 2 ^ 16; next = at ((e .next .0 + 1) % 2 ^ 32); limit = e .limit; relocate = e .relocate; target = e .target; trail = e .trail; marks = e .marks }
+takenOf e = record { first = e .first; pending = e .pending; outstanding = (e .outstanding + 1) % 2 ^ 16; next = at ((e .next .0 + 1) % 2 ^ 32); limit = e .limit; relocate = e .relocate; target = e .target; eod = e .eod; trail = e .trail; marks = e .marks }
 
 -- the oldest n are on tape
 unfoldable pub confirmedOf : Elements → ℕ → Elements
@@ -44,30 +44,35 @@ confirmedOf e n = record {
   limit = e .limit;
   relocate = e .relocate;
   target = e .target;
+  eod = e .eod;
   trail = trailOf (e .trail) (e .marks) (e .first .0) (baseOf e) n;
   marks = e .marks;
 }
 
 -- all that the drive had taken is due again, and a LOCATE of the target comes first
 abbrev pub relocatedOf : Elements → Address → Elements
-relocatedOf e t = record { first = e .first; pending = e .pending; outstanding = 0; next = e .next; limit = e .limit; relocate = true; target = t; trail = e .trail; marks = e .marks }
+relocatedOf e t = record { first = e .first; pending = e .pending; outstanding = 0; next = e .next; limit = e .limit; relocate = true; target = t; eod = e .eod; trail = e .trail; marks = e .marks }
 
 -- READ POSITION answered good, with f frames still buffered: outstanding becomes f, oldest confirmed first
 unfoldable pub countedOf : Elements → ℕ → Step
 countedOf e f = pick (ltb (e .outstanding) f) (refusing e 8) (kept (confirmedOf e (e .outstanding - f)))
 
--- a write error at p: frames before p are confirmed, from p on they are due again, at the target; no room there: refusal 9
-abbrev pub failedTo : Elements → ℕ → place.PlaceSaid → Step
-failedTo e p (place.address t) = kept (relocatedOf (confirmedOf e (p - baseOf e)) (at t))
-failedTo e p (place.refused n) = refusing e n
+-- a write error at p is noted: frames before p are confirmed, from p on they are due again, at the target
+abbrev pub notedOf : Elements → ℕ → ℕ → Elements
+notedOf e p skip = relocatedOf (confirmedOf e (p - baseOf e)) (at (targetAddress p skip % 2 ^ 32))
+
+-- no room at the target: refusal 9, the error noted all the same
+abbrev pub failedTo : Elements → place.PlaceSaid → Step
+failedTo e (place.address t) = kept e
+failedTo e (place.refused n) = refusing e n
 
 -- p must be outstanding
 unfoldable pub failedOf : Elements → ℕ → ℕ → Step
 failedOf e p skip =
     pick (ltb p (baseOf e)) (refusing e 8)
     (pick (leb (e .next .0) p) (refusing e 8)
-    (failedTo e p (targetOf p skip (e .limit .0))))
+    (failedTo (notedOf e p skip) (targetOf p skip (limitOf e))))
 
 -- volume overflow on a WRITE at a: END becomes a − 1
 abbrev pub overflowedOf : Elements → Address → Elements
-overflowedOf e a = record { first = e .first; pending = e .pending; outstanding = e .outstanding; next = e .next; limit = a; relocate = e .relocate; target = e .target; trail = e .trail; marks = e .marks }
+overflowedOf e a = record { first = e .first; pending = e .pending; outstanding = e .outstanding; next = e .next; limit = a; relocate = e .relocate; target = e .target; eod = e .eod; trail = e .trail; marks = e .marks }

@@ -6,6 +6,7 @@ use Rattle.geometry.specs.Pick.{pick}
 use Rattle.geometry.specs.Refused.{refusalNumber}
 use Rattle.drive.specs.Command.{Sent, commandSaid, write, locate, readPosition}
 use Rattle.elements.specs.declared.state.Elements.{Elements}
+use Rattle.elements.specs.Elements.{limitOf}
 use Rattle.elements.specs.declared.due.Due.{Due}
 use Rattle.elements.specs.declared.due.Due.the-variants as D
 
@@ -21,7 +22,7 @@ dueSaid (D.Refused r) = refused (refusalNumber r)
 
 -- the next address is above END
 abbrev pub aboveEnd : Elements → Bool
-aboveEnd e = leb (e .limit .0) (e .next .0)
+aboveEnd e = leb (limitOf e) (e .next .0)
 
 -- rule 3: outstanding is D, or some are outstanding and the next address is 2,990 or above END
 abbrev pub mustConfirm : ℕ → Elements → Bool

@@ -4,24 +4,29 @@
 use Prim.Native.Nat.{ℕ, _+_, _-_, _%_, _^_}
 use mathlib.Core.Bool.{Bool, true, false}
 use lib.ListN.{getD, set, replicate}
+use Rattle.geometry.specs.Pick.{pick}
 use Rattle.geometry.specs.declared.address.Address.{Address}
+use Rattle.frame.specs.declared.element.Kind.{Kind}
+use Rattle.frame.specs.declared.element.Kind.the-variants as K
+use Rattle.elements.specs.declared.trail.Trail.{Trail}
 use Rattle.elements.specs.declared.state.Elements.{Elements}
 
 abbrev pub at : ℕ → Address
 at n = record { 0 = n }
 
--- LOCATE 10 comes first, as rule 1's LOCATE of a target: nothing is outstanding, and 10 is the target.
+-- before the first element: its address, number and trail are given. The LOCATE of that address comes first, as rule 1's of a target.
 -- limit is END + 1, the address at which 0D/00/02 came; END starts as LAST
-abbrev pub startOf : ℕ → Elements
-startOf last = record {
-  first = record { 0 = 0 };
+abbrev pub startOf : ℕ → ℕ → ℕ → Trail → Elements
+startOf last a number trail = record {
+  first = record { 0 = number };
   pending = 0;
   outstanding = 0;
-  next = at 10;
+  next = at a;
   limit = at ((last + 1) % 2 ^ 32);
   relocate = true;
-  target = at 10;
-  trail = record { filemarks = 0; marker = at 0xFFFFFFFF };
+  target = at a;
+  eod = false;
+  trail = trail;
   marks = replicate 64 false;
 }
 
@@ -39,9 +44,29 @@ acceptedOf e mark = record {
   limit = e .limit;
   relocate = e .relocate;
   target = e .target;
+  eod = e .eod;
   trail = e .trail;
   marks = set (e .marks) ((e .first .0 + e .pending) % 64) mark;
 }
+
+-- the element due is EOD
+abbrev pub withEod : Elements → Elements
+withEod e = record {
+  first = e .first;
+  pending = e .pending;
+  outstanding = e .outstanding;
+  next = e .next;
+  limit = e .limit;
+  relocate = e .relocate;
+  target = e .target;
+  eod = true;
+  trail = e .trail;
+  marks = e .marks;
+}
+
+-- EOD becomes due: it carries the next number and is no filemark
+abbrev pub eodDue : Elements → Elements
+eodDue e = withEod (acceptedOf e false)
 
 -- the address of the oldest outstanding frame
 abbrev pub baseOf : Elements → ℕ
@@ -50,3 +75,11 @@ baseOf e = e .next .0 - e .outstanding
 -- whether the next element to be written is a filemark
 abbrev pub isMark : Elements → Bool
 isMark e = getD (e .marks) ((e .first .0 + e .outstanding) % 64) false
+
+-- the kind of the next element to be written; EOD is due once every other is on tape
+abbrev pub kindOf : Elements → Kind
+kindOf e = pick (e .eod) K.Eod (pick (isMark e) K.Marker K.Data)
+
+-- the limit of what is due, one past the last address it may have: rules 3 and 4 and a write error's target stop there
+abbrev pub limitOf : Elements → ℕ
+limitOf e = e .limit .0

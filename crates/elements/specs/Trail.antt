@@ -8,6 +8,10 @@ use Rattle.elements.specs.declared.trail.Trail.{Trail}
 use Rattle.elements.specs.declared.state.Elements.{Elements}
 use Rattle.elements.specs.Elements.{at, baseOf}
 
+-- before the first element of a fresh recording: no filemark
+abbrev pub noTrail : Trail
+noTrail = record { filemarks = 0; marker = at 0xFFFFFFFF }
+
 -- behind a marker at an address
 abbrev pub marked : Trail → ℕ → Trail
 marked t a = record { filemarks = (t .filemarks + 1) % 2 ^ 32; marker = at a }

@@ -1,8 +1,9 @@
 // What a reply to one of these commands changes, one function for each reply.
 ghost use mathlib.Core.Path.{_≡_};
-ghost use Prim.Native.Nat.{_-_, _≤_};
+ghost use Prim.Native.Nat.{_-_, _≤_, _<_};
 ghost use Rattle.geometry.specs.Refused.{refusalNumber};
-ghost use Rattle.elements.specs.Answer.{steppedSaid, kept, refusing, locatedOf, takenOf, confirmedOf, relocatedOf, countedOf, failedOf, overflowedOf};
+ghost use Rattle.elements.specs.Elements.{baseOf};
+ghost use Rattle.elements.specs.Answer.{steppedSaid, kept, refusing, locatedOf, takenOf, confirmedOf, relocatedOf, notedOf, countedOf, failedOf, overflowedOf};
 use crate::state::Elements;
 use crate::trail::trail_after;
 use geometry::Address;
@@ -10,8 +11,9 @@ use geometry::Place;
 use geometry::Refusal;
 use geometry::Verdict;
 use geometry::target;
+use geometry::target_address;
 
-// The elements after a reply. A refused reply leaves them as they were.
+// The elements after a reply. A reply refused with 8 leaves them as they were; one refused with 9 has noted its write error.
 pub struct Stepped {
     pub elements: Elements,
     pub verdict: Verdict,
@@ -101,23 +103,34 @@ impl Elements {
         self.confirmed(n).keep()
     }
 
+    // A write error at p: frames before p are on tape, the others are due again at its target.
+    fn noted(self, p: Address, skip: u8) -> Elements
+        requires { ⌜ baseOf self ≤ p .0 ⌝ }
+        requires { ⌜ p .0 < self .next .0 ⌝ }
+        ensures { λ r. ⌜ r ≡ notedOf self (p .0) skip ⌝ }
+    {
+        let base = self.base();
+        let t = target_address(p, skip);
+        self.confirmed((p.0 - base.0) as u16).relocated(t)
+    }
+
     // A write error at p, which must be outstanding.
     pub fn failed(self, p: Address, skip: u8) -> Stepped
         ensures { λ r. ⌜ steppedSaid r ≡ failedOf self (p .0) skip ⌝ }
     {
         let base = self.base();
         let next = self.next;
-        let limit = self.limit;
         if p.0 < base.0 {
             return self.refuse(Refusal::Reply);
         }
         if next.0 <= p.0 {
             return self.refuse(Refusal::Reply);
         }
-        let place = target(p, skip, limit);
+        let noted = self.noted(p, skip);
+        let place = target(p, skip, self.limit_due());
         match place {
-            Place::At(t) => self.confirmed((p.0 - base.0) as u16).relocated(t).keep(),
-            Place::Refused(r) => self.refuse(r),
+            Place::At(_) => noted.keep(),
+            Place::Refused(r) => noted.refuse(r),
         }
     }
 

@@ -18,7 +18,7 @@ impl Elements {
         ensures { λ r. ⌜ r ≡ mustConfirm depth self ⌝ }
     {
         let next = self.next;
-        let limit = self.limit;
+        let limit = self.limit_due();
         let full = (depth as u16) <= self.outstanding;
         let some = 0 < self.outstanding;
         full | (some & ((next.0 == 2990) | (limit.0 <= next.0)))
@@ -42,7 +42,8 @@ impl Elements {
         if self.must_confirm(depth) {
             return Due::Send(Command::ReadPosition);
         }
-        if self.limit.0 <= next.0 {
+        let limit = self.limit_due();
+        if limit.0 <= next.0 {
             return Due::Refused(Refusal::TapeFull);
         }
         if next.0 == 2990 {

@@ -8,3 +8,4 @@ pub use answer::Stepped;
 pub use due::Due;
 pub use state::Elements;
 pub use trail::Trail;
+pub use trail::no_trail;

@@ -1,9 +1,10 @@
 // What a recording knows of its elements.
 ghost use mathlib.Core.Path.{_≡_};
-ghost use Rattle.elements.specs.Elements.{startOf, numberOf, acceptedOf, baseOf, isMark};
+ghost use Rattle.elements.specs.Elements.{startOf, numberOf, acceptedOf, eodDue, baseOf, isMark, kindOf, limitOf};
 ghost use Rattle.elements.specs.Trail.{trailBefore};
 use crate::trail::Trail;
 use crate::trail::trail_after;
+use frame::Kind;
 use geometry::Address;
 use geometry::Seq;
 
@@ -19,6 +20,8 @@ pub struct Elements {
     // Whether a LOCATE of the target comes first.
     pub relocate: bool,
     pub target: Address,
+    // Whether the element due is EOD.
+    pub eod: bool,
     // The filemarks before the oldest element that is not known to be on tape.
     pub trail: Trail,
     // Whether element i is a filemark stands at i % 64.
@@ -26,22 +29,20 @@ pub struct Elements {
 }
 
 impl Elements {
-    // Before the first element, on a cartridge with this LAST.
-    pub fn start(last: Address) -> Elements
-        ensures { λ r. ⌜ r ≡ startOf (last .0) ⌝ }
+    // Before the first element, which goes to `at` with this number and this trail, on a cartridge with this LAST.
+    pub fn start(last: Address, at: Address, number: Seq, trail: Trail) -> Elements
+        ensures { λ r. ⌜ r ≡ startOf (last .0) (at .0) (number .0) trail ⌝ }
     {
         Elements {
-            first: Seq(0),
+            first: number,
             pending: 0,
             outstanding: 0,
-            next: Address(10),
+            next: at,
             limit: Address(std::num::wrapping_add_u32(last.0, 1)),
             relocate: true,
-            target: Address(10),
-            trail: Trail {
-                filemarks: 0,
-                marker: Address(0xFFFFFFFF),
-            },
+            target: at,
+            eod: false,
+            trail: trail,
             marks: [false; 64],
         }
     }
@@ -63,6 +64,22 @@ impl Elements {
         self
     }
 
+    // EOD is due, behind the last element.
+    pub fn due_eod(self) -> Elements
+        ensures { λ r. ⌜ r ≡ eodDue self ⌝ }
+    {
+        let mut elements = self.accept(false);
+        elements.eod = true;
+        elements
+    }
+
+    // One past the last address that what is due may have.
+    pub(crate) fn limit_due(self) -> Address
+        ensures { λ r. ⌜ r .0 ≡ limitOf self ⌝ }
+    {
+        self.limit
+    }
+
     // The address of the oldest outstanding frame.
     pub(crate) fn base(self) -> Address
         ensures { λ r. ⌜ r .0 ≡ baseOf self ⌝ }
@@ -72,12 +89,25 @@ impl Elements {
     }
 
     // Whether the next element to be written is a filemark.
-    pub fn is_mark(self) -> bool
+    fn is_mark(self) -> bool
         ensures { λ r. ⌜ r ≡ isMark self ⌝ }
     {
         let marks = self.marks;
         let at = ((self.first.0 % 64 + (self.outstanding as u32)) % 64) as usize;
         marks[at]
+    }
+
+    // What the next element to be written is.
+    pub fn kind(self) -> Kind
+        ensures { λ r. ⌜ r ≡ kindOf self ⌝ }
+    {
+        if self.eod {
+            return Kind::Eod;
+        }
+        if self.is_mark() {
+            return Kind::Marker;
+        }
+        Kind::Data
     }
 
     // The filemarks before the next element to be written, the outstanding ones at their present addresses.

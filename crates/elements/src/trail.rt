@@ -1,7 +1,7 @@
 // The filemarks before a frame.
 ghost use mathlib.Core.Path.{_≡_};
 ghost use Prim.Native.Nat.{_+_, _≤_, _^_};
-ghost use Rattle.elements.specs.Trail.{trailOf};
+ghost use Rattle.elements.specs.Trail.{noTrail, trailOf};
 use geometry::Address;
 use geometry::Seq;
 
@@ -9,6 +9,16 @@ use geometry::Seq;
 pub struct Trail {
     pub filemarks: u32,
     pub marker: Address,
+}
+
+// Before the first element of a fresh recording.
+pub fn no_trail() -> Trail
+    ensures { λ r. ⌜ r ≡ noTrail ⌝ }
+{
+    Trail {
+        filemarks: 0,
+        marker: Address(0xFFFFFFFF),
+    }
 }
 
 // What stands before element `first + n`, given what stands before element `first` and that the elements between lie from address `base` on.

@@ -50,7 +50,6 @@ fn decide(s: State) -> Answer
     match stage {
         Stage::OpeningHeaders => header_due(s),
         Stage::Elements => element_due(s),
-        Stage::Eod => element_due(s),
         Stage::ClosingHeaders => header_due(s),
         Stage::Done => Answer::Done,
     }

@@ -4,28 +4,13 @@ mod window;
 ghost use mathlib.Core.Path.{_≡_};
 ghost use lib.ListN.{length};
 ghost use Rattle.recording_state.specs.Session.{windowLength};
-ghost use Rattle.recording_state.specs.Written.{kindOf, elementOf, elementPlace, writtenElement, writtenHeader, writtenFrame};
+ghost use Rattle.recording_state.specs.Written.{elementOf, elementPlace, writtenElement, writtenHeader, writtenFrame};
 use crate::window::block_at;
 use frame::Element;
-use frame::Kind;
 use frame::build_element;
 use frame::build_header;
 use recording_state::Stage;
 use recording_state::State;
-
-fn kind(s: State) -> Kind
-    ensures { λ r. ⌜ r ≡ kindOf s ⌝ }
-{
-    let elements = s.elements;
-    let stage = s.stage;
-    if let Stage::Eod = stage {
-        return Kind::Eod;
-    }
-    if elements.is_mark() {
-        return Kind::Marker;
-    }
-    Kind::Data
-}
 
 // The next element to be written, or EOD, for its present address.
 fn element(s: State) -> Element
@@ -38,7 +23,7 @@ fn element(s: State) -> Element
     let trail = elements.trail();
     let marker = trail.marker;
     Element {
-        kind: kind(s),
+        kind: elements.kind(),
         pass: header.pass,
         last: last,
         seq: elements.number(elements.outstanding),
@@ -82,10 +67,7 @@ pub fn fill(s: State, window: &[u8], frame: &mut [u8])
 {
     let stage = s.stage;
     match stage {
-        Stage::OpeningHeaders => fill_header(s, frame),
         Stage::Elements => fill_element(s, window, frame),
-        Stage::Eod => fill_element(s, window, frame),
-        Stage::ClosingHeaders => fill_header(s, frame),
-        Stage::Done => fill_header(s, frame),
+        _ => fill_header(s, frame),
     }
 }

@@ -9,7 +9,10 @@ use Rattle.geometry.specs.Cartridge.{pastReserved}
 abbrev pub stepOf : ℕ → ℕ
 stepOf skip = pick (eqb skip 0) 1 skip
 
--- p + skip, moved out of 2,990 to 2,999; above END, that is from its limit on: refusal 9
+-- p + skip, moved out of 2,990 to 2,999
+abbrev pub targetAddress : ℕ → ℕ → ℕ
+targetAddress p skip = pastReserved (p + stepOf skip)
+
+-- above END, that is from its limit on: refusal 9
 abbrev pub targetOf : ℕ → ℕ → ℕ → PlaceSaid
-targetOf p skip limit =
-    pick (ltb (pastReserved (p + stepOf skip)) limit) (address (pastReserved (p + stepOf skip))) (refused 9)
+targetOf p skip limit = pick (ltb (targetAddress p skip) limit) (address (targetAddress p skip)) (refused 9)

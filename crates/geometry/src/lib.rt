@@ -19,3 +19,4 @@ pub use refusal::Verdict;
 pub use refusal::number;
 pub use write_error::past_reserved;
 pub use write_error::target;
+pub use write_error::target_address;

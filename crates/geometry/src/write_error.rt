@@ -1,8 +1,9 @@
 // The target of a write error: where writing goes on.
 ghost use mathlib.Core.Path.{_≡_};
+ghost use Prim.Native.Nat.{_%_, _^_};
 ghost use Rattle.geometry.specs.Place.{placeSaid};
 ghost use Rattle.geometry.specs.Cartridge.{pastReserved};
-ghost use Rattle.geometry.specs.WriteError.{stepOf, targetOf};
+ghost use Rattle.geometry.specs.WriteError.{stepOf, targetAddress, targetOf};
 use crate::address::Address;
 use crate::address::Place;
 use crate::cartridge::SECOND_GROUP;
@@ -30,11 +31,25 @@ fn step(skip: u8) -> u8
     if skip == 0 { 1 } else { skip }
 }
 
-// The target of a write error at p. `limit` is the address one past END.
+// The target of a write error at p, whether there is room or not.
+fn target_number(p: Address, skip: u8) -> u64
+    ensures { λ r. ⌜ r ≡ targetAddress (p .0) skip ⌝ }
+{
+    past_reserved((p.0 as u64) + (step(skip) as u64))
+}
+
+// The same as an address. No cartridge has so many frames that the remainder changes it.
+pub fn target_address(p: Address, skip: u8) -> Address
+    ensures { λ r. ⌜ r .0 ≡ targetAddress (p .0) skip % 2 ^ 32 ⌝ }
+{
+    Address((target_number(p, skip) % 0x100000000) as u32)
+}
+
+// The target of a write error at p, if there is room. `limit` is the address one past END.
 pub fn target(p: Address, skip: u8, limit: Address) -> Place
     ensures { λ r. ⌜ placeSaid r ≡ targetOf (p .0) skip (limit .0) ⌝ }
 {
-    let t = past_reserved((p.0 as u64) + (step(skip) as u64));
+    let t = target_number(p, skip);
     if t < (limit.0 as u64) {
         return Place::At(Address(t as u32));
     }

@@ -9,11 +9,13 @@ use copies::is_exhausted;
 use copies::renew;
 use drive::Exchange;
 use elements::Elements;
+use elements::no_trail;
 use frame::Header;
 use geometry::Address;
 use geometry::Geometry;
 use geometry::Place;
 use geometry::Refusal;
+use geometry::Seq;
 use header::Checked;
 use header::read_header;
 use recording_state::Outcome;
@@ -36,7 +38,7 @@ fn fresh_session(depth: u8, highest: u8, header: Header) -> State
         closed: false,
         ended: false,
         copies: Copies::start(header),
-        elements: Elements::start(last),
+        elements: Elements::start(last, Address(10), Seq(0), no_trail()),
     }
 }
 

@@ -69,8 +69,7 @@ module _ (s : State) (window frame : List ℕ) where
 
   stage-view : Ready s window frame → s .exchange .again ≡ false → (stage : Stage) → s .stage ≡ stage → FetchView s window frame (answering (decisionBy stage s) s window frame)
   stage-view r a S.OpeningHeaders e = copying r a (inl e)
-  stage-view r a S.Elements e = due-view r a (inl e) (due.dueOf (s .setup .depth) (s .elements)) refl
-  stage-view r a S.Eod e = due-view r a (inr e) (due.dueOf (s .setup .depth) (s .elements)) refl
+  stage-view r a S.Elements e = due-view r a e (due.dueOf (s .setup .depth) (s .elements)) refl
   stage-view r a S.ClosingHeaders e = copying r a (inr e)
   stage-view r a S.Done e = finished r a e
 

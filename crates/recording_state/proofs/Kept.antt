@@ -1,7 +1,7 @@
 -- Accepting and close leave alone the command in flight and what the drive has taken. Assumes nothing.
 use Prim.Native.Nat.{ℕ}
 use mathlib.Core.Path.{_≡_, refl}
-use mathlib.Core.Bool.{Bool, _&&_}
+use mathlib.Core.Bool.{Bool, true, _&&_}
 use mathlib.Core.List.{List}
 use mathlib.Core.Logic.{_⊎_, inl, inr, ⊎-elim}
 use native.Mathlib.Omega.{arith}
@@ -16,7 +16,7 @@ use Rattle.elements.specs.declared.trail.Trail.{Trail}
 use Rattle.recording_state.specs.declared.state.State.{State}
 use Rattle.recording_state.specs.declared.state.Setup.{Setup}
 use Rattle.recording_state.specs.declared.state.Stage.{Stage}
-use Rattle.recording_state.specs.declared.state.Stage.the-variants.{OpeningHeaders, Elements, Eod, ClosingHeaders, Done}
+use Rattle.recording_state.specs.declared.state.Stage.the-variants.{OpeningHeaders, Elements, ClosingHeaders, Done}
 use Rattle.recording_state.specs.Session.{windowLength, Result, closedOf, settledBy, settledOf}
 use Rattle.recording_state.specs.Accept.{acceptsNone, isFull, filemarkOf, Stored, blockOf, closeOf}
 
@@ -68,8 +68,8 @@ block-keeps s block window =
 
 settled-by-held : (stage : Stage) (s : State) → heldOf (settledBy stage s) ≡ heldOf s
 settled-by-held OpeningHeaders s = refl
-settled-by-held Elements s = pick-by (λ (t : State). heldOf t ≡ heldOf s) (s .closed) (λ _. refl) (λ _. refl)
-settled-by-held Eod s = refl
+settled-by-held Elements s =
+    pick-by (λ (t : State). heldOf t ≡ heldOf s) (s .elements .eod) (λ _. refl) (λ _. pick-by (λ (t : State). heldOf t ≡ heldOf s) (s .closed) (λ _. refl) (λ _. refl))
 settled-by-held ClosingHeaders s = refl
 settled-by-held Done s = refl
 
@@ -87,12 +87,12 @@ close-held s =
 
 -- the header copies stay, but where EOD is on tape
 abbrev pub Copied : State → State → Type 0
-Copied s t = (t .copies ≡ s .copies) ⊎ ((s .stage ≡ Eod) × (s .elements .pending ≡ 0))
+Copied s t = (t .copies ≡ s .copies) ⊎ ((s .elements .eod ≡ true) × (s .elements .pending ≡ 0))
 
-settled-by-copies : (stage : Stage) (s : State) → (settledBy stage s .copies ≡ s .copies) ⊎ (stage ≡ Eod)
+settled-by-copies : (stage : Stage) (s : State) → (settledBy stage s .copies ≡ s .copies) ⊎ (s .elements .eod ≡ true)
 settled-by-copies OpeningHeaders s = inl refl
-settled-by-copies Elements s = inl (pick-by (λ (t : State). t .copies ≡ s .copies) (s .closed) (λ _. refl) (λ _. refl))
-settled-by-copies Eod s = inr refl
+settled-by-copies Elements s =
+    pick-by (λ (t : State). (t .copies ≡ s .copies) ⊎ (s .elements .eod ≡ true)) (s .elements .eod) inr (λ _. inl (pick-by (λ (t : State). t .copies ≡ s .copies) (s .closed) (λ _. refl) (λ _. refl)))
 settled-by-copies ClosingHeaders s = inl refl
 settled-by-copies Done s = inl refl
 
@@ -102,7 +102,7 @@ settled-copies s =
     pick-by (λ (t : State). Copied s t) (ltb 0 (s .elements .pending)) (λ _. inl refl)
     (λ e.
     let none : s .elements .pending ≡ 0 = omega (arith, ltb-false 0 (s .elements .pending) e) in
-    ⊎-elim inl (λ stage. inr (stage, none)) (settled-by-copies (s .stage) s))
+    ⊎-elim inl (λ eod. inr (eod, none)) (settled-by-copies (s .stage) s))
 
 pub close-copies : (s : State) → Copied s (closeOf s .session)
 unfolding closeOf

@@ -1,14 +1,15 @@
 -- A refusal of 8 or more ends a recording, and one of 1 to 7 leaves it as it is. Assumes nothing.
 use Prim.Native.Nat.{ℕ, _≤_}
-use mathlib.Core.Path.{_≡_, refl}
-use mathlib.Core.Bool.{_&&_}
+use mathlib.Core.Path.{_≡_, refl, sym, subst}
+use mathlib.Core.Bool.{false, _&&_}
 use mathlib.Core.List.{List}
 use native.Mathlib.Omega.{arith}
 use lib.Dec.{eqb}
 use borrow.Author.Tests.{eqb-false}
 use lib.ListN.{length}
+use Rattle.geometry.specs.Pick.{pick}
 use Rattle.geometry.proofs.Impossible.{never}
-use Rattle.geometry.proofs.PickLaws.{pick-by}
+use Rattle.geometry.proofs.PickLaws.{pick-f, pick-by}
 use Rattle.drive.specs.declared.reply.Reply.{Reply}
 use Rattle.drive.specs.Command.{commandFor}
 use Rattle.drive.specs.declared.command.Command.{Command}
@@ -21,25 +22,25 @@ use Rattle.elements.specs.Answer as answer
 use Rattle.elements.proofs.DueView as dues
 use Rattle.elements.proofs.AnswerView as answers
 use Rattle.recording_state.specs.declared.state.State.{State}
-use Rattle.recording_state.specs.Session.{windowLength, Result, endedOf}
+use Rattle.recording_state.specs.Session.{windowLength, Result, ending, endedOf, withElements}
 use Rattle.recording_state.specs.Accept.{acceptsNone, isFull, filemarkOf, Stored, blockOf, closeOf}
 use Rattle.recording_state.specs.Fetch.{refused, Fetching, sending, fetchOf}
-use Rattle.recording_state.specs.Reply.{headerReplyBy, elementReplyBy, stageReply, replyOf}
+use Rattle.recording_state.specs.Reply.{headerReplyBy, elementReplyBy, stageReply, replyOf, endedFrom}
 use Rattle.recording_state.proofs.FetchView as fetching
 use Rattle.recording_state.proofs.ReplyView as replying
 
--- what a call with this refusal leaves of a session
-pub record Leaves (n : ℕ) (before after : State) : Type 0 where
+-- what a call with this refusal leaves of a session that it has brought so far
+pub record Leaves (n : ℕ) (before changed after : State) : Type 0 where
   pub unchanged : 1 ≤ n → n ≤ 7 → after ≡ before
-  pub ended : 8 ≤ n → after ≡ endedOf before
+  pub ended : 8 ≤ n → after ≡ endedOf changed
 
-accepted-by : {s t : State} → Leaves 0 s t
+accepted-by : {s u t : State} → Leaves 0 s u t
 accepted-by = record { unchanged = λ k _. absurd (omega arith); ended = λ k. absurd (omega arith) }
 
-unchanged-by : (n : ℕ) {s : State} → n ≤ 7 → Leaves n s s
+unchanged-by : (n : ℕ) {s u : State} → n ≤ 7 → Leaves n s u s
 unchanged-by n h = record { unchanged = λ _ _. refl; ended = λ k. absurd (omega arith) }
 
-ended-by : (n : ℕ) {s : State} → 8 ≤ n → Leaves n s (endedOf s)
+ended-by : (n : ℕ) {s u : State} → 8 ≤ n → Leaves n s u (endedOf u)
 ended-by n h = record { unchanged = λ _ k. absurd (omega arith); ended = λ _. refl }
 
 -- ---- the numbers of header copies and of elements
@@ -50,14 +51,24 @@ onward-number c (copying.turning _ _ _) e = never (cc)
 onward-number c (copying.unwritten _ _ _ _) e = cc
 onward-number c (copying.through _ _ _ _) e = never (cc)
 
-counted-number : {c : Copies} {f m : ℕ} {x : copies.ProgressSaid} → copying.CountedView c f x → x ≡ copies.refused m → 8 ≤ m
-counted-number {m = m} (copying.tooMany _) e = let number : _≡_ {A = ℕ} 8 m = cc in omega arith
-counted-number (copying.counted _) e = omega (arith, onward-number _ (copying.onward-view _) e)
+-- a refusal of a reply that has noted no write error
+abbrev Plain : ℕ → Type 0
+Plain m = (8 ≤ m) × (eqb m 9 ≡ false)
 
-failed-number : {c : Copies} {p m : ℕ} {x : copies.ProgressSaid} → copying.FailedView c p x → x ≡ copies.refused m → 8 ≤ m
-failed-number {m = m} (copying.before _) e = let number : _≡_ {A = ℕ} 8 m = cc in omega arith
-failed-number {m = m} (copying.behind _) e = let number : _≡_ {A = ℕ} 8 m = cc in omega arith
-failed-number (copying.failed _ _) e = omega (arith, onward-number _ (copying.onward-view _) e)
+plain-8 : {m : ℕ} → 8 ≡ m → Plain m
+plain-8 e = subst Plain e (omega arith, refl)
+
+plain-12 : {m : ℕ} → m ≡ 12 → Plain m
+plain-12 e = subst Plain (sym e) (omega arith, refl)
+
+counted-number : {c : Copies} {f m : ℕ} {x : copies.ProgressSaid} → copying.CountedView c f x → x ≡ copies.refused m → Plain m
+counted-number (copying.tooMany _) e = plain-8 (cc)
+counted-number (copying.counted _) e = plain-12 (onward-number _ (copying.onward-view _) e)
+
+failed-number : {c : Copies} {p m : ℕ} {x : copies.ProgressSaid} → copying.FailedView c p x → x ≡ copies.refused m → Plain m
+failed-number (copying.before _) e = plain-8 (cc)
+failed-number (copying.behind _) e = plain-8 (cc)
+failed-number (copying.failed _ _) e = plain-12 (onward-number _ (copying.onward-view _) e)
 
 due-number : {depth n : ℕ} {e : Elements} {x : due.DueSaid} → dues.DueView depth e x → x ≡ due.refused n → 8 ≤ n
 due-number (dues.relocating _) q = never (cc)
@@ -68,15 +79,19 @@ due-number {n = n} (dues.full _ _ _ _) q = let number : _≡_ {A = ℕ} 9 n = cc
 due-number (dues.jumping _ _ _ _ _) q = never (cc)
 due-number (dues.writing _ _ _ _ _) q = never (cc)
 
-counted-step : {e : Elements} {f : ℕ} {x : answer.Step} → answers.CountedView e f x → (x .number ≡ 0 → ⊥) → 8 ≤ x .number
-counted-step (answers.tooMany _) h = omega arith
-counted-step (answers.counted _) h = absurd (h refl)
+-- what a refused step has changed
+abbrev Stopped : Elements → Reply → answer.Step → Type 0
+Stopped e r x = (x .number ≡ 0 → ⊥) → (8 ≤ x .number) × (x .elements ≡ pick (eqb (x .number) 9) (answer.notedOf e (r .position .0) (r .skip)) e)
 
-failed-step : {e : Elements} {p skip : ℕ} {x : answer.Step} → answers.FailedView e p skip x → (x .number ≡ 0 → ⊥) → 8 ≤ x .number
-failed-step (answers.tooLow _) h = omega arith
-failed-step (answers.tooHigh _) h = omega arith
-failed-step (answers.failed _ _ _) h = absurd (h refl)
-failed-step (answers.full _ _ _) h = omega arith
+counted-step : {e : Elements} (r : Reply) {f : ℕ} {x : answer.Step} → answers.CountedView e f x → Stopped e r x
+counted-step r (answers.tooMany _) h = (omega arith, refl)
+counted-step r (answers.counted _) h = absurd (h refl)
+
+failed-step : {e : Elements} (r : Reply) {x : answer.Step} → answers.FailedView e (r .position .0) (r .skip) x → Stopped e r x
+failed-step r (answers.tooLow _) h = (omega arith, refl)
+failed-step r (answers.tooHigh _) h = (omega arith, refl)
+failed-step r (answers.failed _ _ _) h = absurd (h refl)
+failed-step r (answers.full _ _ _) h = (omega arith, refl)
 
 -- ---- the calls
 
@@ -87,7 +102,7 @@ sends s c window frame e = cc
 
 module _ (s : State) where
   abbrev Left : Result → Type 0
-  Left r = Leaves (r .number) s (r .session)
+  Left r = Leaves (r .number) s s (r .session)
 
   pub refused-filemark : Left (filemarkOf s)
   unfolding filemarkOf
@@ -122,10 +137,10 @@ module _ (s : State) where
   unfolding closeOf
   refused-close = pick-by Left (acceptsNone s) (λ _. unchanged-by 7 (omega arith)) (λ _. accepted-by)
 
-  pub refused-fetch : (n : ℕ) (window frame : List ℕ) → fetchOf s window frame .said ≡ refused n → Leaves n s (fetchOf s window frame .session)
+  pub refused-fetch : (n : ℕ) (window frame : List ℕ) → fetchOf s window frame .said ≡ refused n → Leaves n s s (fetchOf s window frame .session)
   refused-fetch n window frame = go (fetching.fetch-view s window frame)
     where
-      go : {f : Fetching} → fetching.FetchView s window frame f → f .said ≡ refused n → Leaves n s (f .session)
+      go : {f : Fetching} → fetching.FetchView s window frame f → f .said ≡ refused n → Leaves n s s (f .session)
       go (fetching.wrongPhase _) e = let number : 7 ≡ n = cc in unchanged-by n (omega arith)
       go (fetching.wrongLength _ _ _) e = let number : 1 ≡ n = cc in unchanged-by n (omega arith)
       go (fetching.repeating _ _) e = never (sends s _ window frame e)
@@ -135,33 +150,44 @@ module _ (s : State) where
       go (fetching.stopping _ _ _ m q) e = let number : m ≡ n = cc in ended-by n (omega (arith, due-number (dues.due-view (s .setup .depth) (s .elements)) q))
       go (fetching.finished _ _ _) e = never (cc)
 
-  header-left : (x : copies.ProgressSaid) → ((m : ℕ) → x ≡ copies.refused m → 8 ≤ m) → Left (headerReplyBy x s)
-  header-left (copies.more _) h = accepted-by
-  header-left copies.complete h = accepted-by
-  header-left (copies.refused n) h = ended-by n (h n refl)
+  module _ (r : Reply) where
+    abbrev LeftReply : Result → Type 0
+    LeftReply x = Leaves (x .number) s (endedFrom s r (x .number)) (x .session)
 
-  element-left : (x : answer.Step) → ((x .number ≡ 0 → ⊥) → 8 ≤ x .number) → Left (elementReplyBy x s)
-  element-left x h = pick-by Left (eqb (x .number) 0) (λ _. accepted-by) (λ e. ended-by _ (h (eqb-false _ _ e)))
+    plainly-ended : (n : ℕ) → Plain n → LeftReply (ending s n)
+    plainly-ended n h =
+        subst (λ (e : Elements). Leaves n s (withElements s e) (endedOf s)) (sym (pick-f _ (h .1))) (ended-by n (h .0))
 
-  -- by stage
-  stage-left : (c : copies.ProgressSaid) (x : answer.Step) → ((m : ℕ) → c ≡ copies.refused m → 8 ≤ m) → ((x .number ≡ 0 → ⊥) → 8 ≤ x .number) → Left (stageReply s c x)
-  stage-left c x h k = go (replying.stage-view s c x)
-    where
-      go : {y : Result} → replying.StageView s c x y → Left y
-      go (replying.in-headers _) = header-left c h
-      go (replying.in-elements _) = element-left x k
-      go (replying.in-done _) = ended-by 8 (omega arith)
+    header-left : (x : copies.ProgressSaid) → ((m : ℕ) → x ≡ copies.refused m → Plain m) → LeftReply (headerReplyBy x s)
+    header-left (copies.more _) h = accepted-by
+    header-left copies.complete h = accepted-by
+    header-left (copies.refused n) h = plainly-ended n (h n refl)
 
-  pub refused-reply : (r : Reply) → Left (replyOf s r)
-  refused-reply r = go (replying.reply-view s r)
-    where
-      go : {x : Result} → replying.ReplyView s r x → Left x
-      go (replying.unasked _) = unchanged-by 7 (omega arith)
-      go (replying.busy _) = accepted-by
-      go (replying.located _) = stage-left _ _ (λ m e. never (cc)) (λ h. absurd (h refl))
-      go (replying.taken _) = stage-left _ _ (λ m e. never (cc)) (λ h. absurd (h refl))
-      go (replying.counted _) = stage-left _ _ (λ m e. counted-number (copying.counted-view (s .copies) (r .buffered)) e) (counted-step (answers.counted-view (s .elements) (r .buffered)))
-      go (replying.failed _) =
-          stage-left _ _ (λ m e. failed-number (copying.failed-view (s .copies) (r .position .0)) e) (failed-step (answers.failed-view (s .elements) (r .position .0) (r .skip)))
-      go (replying.overflowed _) = stage-left _ _ (λ m e. let number : _≡_ {A = ℕ} 8 m = cc in omega arith) (λ h. absurd (h refl))
-      go (replying.unlisted _) = ended-by 8 (omega arith)
+    element-left : (x : answer.Step) → Stopped (s .elements) r x → LeftReply (elementReplyBy x s)
+    element-left x h =
+        pick-by LeftReply (eqb (x .number) 0) (λ _. accepted-by)
+        (λ e.
+        let stopped = h (eqb-false _ _ e) in
+        subst (λ (y : Elements). Leaves (x .number) s (withElements s y) (endedOf (withElements s (x .elements)))) (stopped .1) (ended-by _ (stopped .0)))
+
+    -- by stage
+    stage-left : (c : copies.ProgressSaid) (x : answer.Step) → ((m : ℕ) → c ≡ copies.refused m → Plain m) → Stopped (s .elements) r x → LeftReply (stageReply s c x)
+    stage-left c x h k = go (replying.stage-view s c x)
+      where
+        go : {y : Result} → replying.StageView s c x y → LeftReply y
+        go (replying.in-headers _) = header-left c h
+        go (replying.in-elements _) = element-left x k
+        go (replying.in-done _) = plainly-ended 8 (plain-8 refl)
+
+    pub refused-reply : LeftReply (replyOf s r)
+    refused-reply = go (replying.reply-view s r)
+      where
+        go : {x : Result} → replying.ReplyView s r x → LeftReply x
+        go (replying.unasked _) = unchanged-by 7 (omega arith)
+        go (replying.busy _) = accepted-by
+        go (replying.located _) = stage-left _ _ (λ m e. never (cc)) (λ h. absurd (h refl))
+        go (replying.taken _) = stage-left _ _ (λ m e. never (cc)) (λ h. absurd (h refl))
+        go (replying.counted _) = stage-left _ _ (λ m e. counted-number (copying.counted-view (s .copies) (r .buffered)) e) (counted-step r (answers.counted-view (s .elements) (r .buffered)))
+        go (replying.failed _) = stage-left _ _ (λ m e. failed-number (copying.failed-view (s .copies) (r .position .0)) e) (failed-step r (answers.failed-view (s .elements) (r .position .0) (r .skip)))
+        go (replying.overflowed _) = stage-left _ _ (λ m e. plain-8 (cc)) (λ h. absurd (h refl))
+        go (replying.unlisted _) = plainly-ended 8 (plain-8 refl)

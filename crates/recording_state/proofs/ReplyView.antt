@@ -31,8 +31,7 @@ module _ (s : State) (c : copies.ProgressSaid) (e : answer.Step) where
     where
       go : (k : Stage) → s .stage ≡ k → StageView (stageReplyBy k c e s)
       go S.OpeningHeaders q = in-headers (inl q)
-      go S.Elements q = in-elements (inl q)
-      go S.Eod q = in-elements (inr q)
+      go S.Elements q = in-elements q
       go S.ClosingHeaders q = in-headers (inr q)
       go S.Done q = in-done q
 
@@ -44,8 +43,7 @@ module _ (s : State) (c : copies.ProgressSaid) (e : answer.Step) where
   by-headers (inr q) = by q
 
   pub by-elements : ElementStage s → stageReply s c e ≡ elementReplyBy e s
-  by-elements (inl q) = by q
-  by-elements (inr q) = by q
+  by-elements q = by q
 
   pub by-done : s .stage ≡ S.Done → stageReply s c e ≡ ending s 8
   by-done q = by q

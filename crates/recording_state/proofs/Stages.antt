@@ -14,40 +14,33 @@ abbrev pub HeaderStage : State → Type 0
 HeaderStage s = (s .stage ≡ S.OpeningHeaders) ⊎ (s .stage ≡ S.ClosingHeaders)
 
 abbrev pub ElementStage : State → Type 0
-ElementStage s = (s .stage ≡ S.Elements) ⊎ (s .stage ≡ S.Eod)
+ElementStage s = s .stage ≡ S.Elements
 
 pub header-not-element : {X : Type 0} (s : State) → HeaderStage s → ElementStage s → X
-header-not-element s (inl a) (inl b) = never (cc)
-header-not-element s (inl a) (inr b) = never (cc)
-header-not-element s (inr a) (inl b) = never (cc)
-header-not-element s (inr a) (inr b) = never (cc)
+header-not-element s (inl a) b = never (cc)
+header-not-element s (inr a) b = never (cc)
 
 pub header-not-done : {X : Type 0} (s : State) → HeaderStage s → s .stage ≡ S.Done → X
 header-not-done s (inl a) b = never (cc)
 header-not-done s (inr a) b = never (cc)
 
 pub element-not-done : {X : Type 0} (s : State) → ElementStage s → s .stage ≡ S.Done → X
-element-not-done s (inl a) b = never (cc)
-element-not-done s (inr a) b = never (cc)
+element-not-done s a b = never (cc)
 
 -- ---- the stages of an arm of a match, by their numbers
 
-pub header-tags : (s : State) → OneOf (0 ∷ (3 ∷ [])) (tagOf the-type (s .stage)) → HeaderStage s
+pub header-tags : (s : State) → OneOf (0 ∷ (2 ∷ [])) (tagOf the-type (s .stage)) → HeaderStage s
 header-tags s = go (s .stage) refl
   where
-    go : (k : Stage) → s .stage ≡ k → OneOf (0 ∷ (3 ∷ [])) (tagOf the-type k) → HeaderStage s
+    go : (k : Stage) → s .stage ≡ k → OneOf (0 ∷ (2 ∷ [])) (tagOf the-type k) → HeaderStage s
     go S.OpeningHeaders e h = inl e
-    go S.Elements e h = absurd (miss (0 ∷ (3 ∷ [])) 1 tt h)
-    go S.Eod e h = absurd (miss (0 ∷ (3 ∷ [])) 2 tt h)
+    go S.Elements e h = absurd (miss (0 ∷ (2 ∷ [])) 1 tt h)
     go S.ClosingHeaders e h = inr e
-    go S.Done e h = absurd (miss (0 ∷ (3 ∷ [])) 4 tt h)
+    go S.Done e h = absurd (miss (0 ∷ (2 ∷ [])) 3 tt h)
 
-pub element-tags : (s : State) → OneOf (1 ∷ (2 ∷ [])) (tagOf the-type (s .stage)) → ElementStage s
-element-tags s = go (s .stage) refl
-  where
-    go : (k : Stage) → s .stage ≡ k → OneOf (1 ∷ (2 ∷ [])) (tagOf the-type k) → ElementStage s
-    go S.OpeningHeaders e h = absurd (miss (1 ∷ (2 ∷ [])) 0 tt h)
-    go S.Elements e h = inl e
-    go S.Eod e h = inr e
-    go S.ClosingHeaders e h = absurd (miss (1 ∷ (2 ∷ [])) 3 tt h)
-    go S.Done e h = absurd (miss (1 ∷ (2 ∷ [])) 4 tt h)
+-- all but the elements'
+pub outside : (P : Stage → Type 0) (k : Stage) → OneOf (0 ∷ (2 ∷ (3 ∷ []))) (tagOf the-type k) → P S.OpeningHeaders → P S.ClosingHeaders → P S.Done → P k
+outside P S.OpeningHeaders h o c d = o
+outside P S.Elements h o c d = absurd (miss (0 ∷ (2 ∷ (3 ∷ []))) 1 tt h)
+outside P S.ClosingHeaders h o c d = c
+outside P S.Done h o c d = d

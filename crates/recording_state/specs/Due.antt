@@ -36,11 +36,10 @@ elementDueBy (due.refused n) = refuse n
 abbrev pub elementDue : State → Decision
 elementDue s = elementDueBy (due.dueOf (s .setup .depth) (s .elements))
 
--- by stage: opening headers, LOCATE 10 and elements, EOD, closing headers, done
+-- by stage: opening headers, LOCATE 10 and elements and EOD, closing headers, done
 abbrev pub decisionBy : Stage → State → Decision
 decisionBy S.OpeningHeaders s = headerDue s
 decisionBy S.Elements s = elementDue s
-decisionBy S.Eod s = elementDue s
 decisionBy S.ClosingHeaders s = headerDue s
 decisionBy S.Done s = done
 

@@ -14,11 +14,12 @@ use Rattle.drive.specs.Exchange.{unsent}
 use Rattle.copies.specs.Carried.{openingHeader, isExhausted, renewed}
 use Rattle.copies.specs.Copies as copies
 use Rattle.elements.specs.Elements as elements
+use Rattle.elements.specs.Trail.{noTrail}
 use Rattle.recording_state.specs.declared.state.State.{State}
 use Rattle.recording_state.specs.declared.state.Stage.the-variants as S
 use Rattle.recording_state.specs.Session.{Result, accepting, ending}
 
--- a session whose opening headers are due; highest is W − 1
+-- a session whose opening headers are due, and behind them its elements, from address 10 and number 0 on; highest is W − 1
 abbrev pub fresh : ℕ → ℕ → Header → State
 fresh depth highest h = record {
   setup = record { depth = depth; highest = highest };
@@ -27,7 +28,7 @@ fresh depth highest h = record {
   closed = false;
   ended = false;
   copies = copies.startOf h;
-  elements = elements.startOf (h .last .0);
+  elements = elements.startOf (h .last .0) 10 0 noTrail;
 }
 
 -- a refused opening returns this session, which is ended

@@ -15,7 +15,7 @@ use Rattle.elements.specs.Answer as answer
 use Rattle.recording_state.specs.declared.state.State.{State}
 use Rattle.recording_state.specs.declared.state.Stage.{Stage}
 use Rattle.recording_state.specs.declared.state.Stage.the-variants as S
-use Rattle.recording_state.specs.Session.{Result, accepting, refusing, ending, withStage, withExchange, withCopies, withElements, settledOf}
+use Rattle.recording_state.specs.Session.{Result, accepting, refusing, ending, followingOf, withStage, withExchange, withCopies, withElements, settledOf}
 
 -- the reply is taken in
 abbrev pub answeredOf : State → State
@@ -25,16 +25,9 @@ answeredOf s = withExchange s (exchange.answeredOf (s .exchange))
 abbrev pub repeatedOf : State → State
 repeatedOf s = withExchange s (exchange.repeatedOf (s .exchange))
 
--- behind the opening headers the elements, behind the closing headers done
-abbrev pub completedBy : Stage → State → State
-completedBy S.OpeningHeaders s = withStage s S.Elements
-completedBy S.Elements s = s
-completedBy S.Eod s = s
-completedBy S.ClosingHeaders s = withStage s S.Done
-completedBy S.Done s = s
-
+-- the header copies of this stage are through
 abbrev pub completedOf : State → State
-completedOf s = completedBy (s .stage) s
+completedOf s = withStage s (followingOf (s .stage))
 
 -- the session after a reply, given how far the header copies are
 abbrev pub headerReplyBy : copies.ProgressSaid → State → Result
@@ -42,15 +35,15 @@ headerReplyBy (copies.more c) s = accepting (withCopies (answeredOf s) c)
 headerReplyBy copies.complete s = accepting (settledOf (completedOf (answeredOf s)))
 headerReplyBy (copies.refused n) s = ending s n
 
--- given the elements
+-- given the elements; a refusal too leaves what they are by then
 abbrev pub elementReplyBy : answer.Step → State → Result
-elementReplyBy x s = pick (eqb (x .number) 0) (accepting (settledOf (withElements (answeredOf s) (x .elements)))) (ending s (x .number))
+elementReplyBy x s =
+    pick (eqb (x .number) 0) (accepting (settledOf (withElements (answeredOf s) (x .elements)))) (ending (withElements s (x .elements)) (x .number))
 
 -- by stage, what a reply is to the header copies, and what it is to the elements and EOD; when all is done no reply is awaited
 abbrev pub stageReplyBy : Stage → copies.ProgressSaid → answer.Step → State → Result
 stageReplyBy S.OpeningHeaders c e s = headerReplyBy c s
 stageReplyBy S.Elements c e s = elementReplyBy e s
-stageReplyBy S.Eod c e s = elementReplyBy e s
 stageReplyBy S.ClosingHeaders c e s = headerReplyBy c s
 stageReplyBy S.Done c e s = ending s 8
 
@@ -99,3 +92,7 @@ caseOf s r = cases.caseOf (s .exchange .command) r
 -- refusal 7 without a command
 unfoldable pub replyOf : State → Reply → Result
 replyOf s r = pick (s .ended || not (s .exchange .awaiting)) (refusing s 7) (answerOf s (caseOf s r) r)
+
+-- 01, "Refused calls": the session that a refused reply ends. Behind a 9 the write error is noted; every other finds it as it was
+abbrev pub endedFrom : State → Reply → ℕ → State
+endedFrom s r n = withElements s (pick (eqb n 9) (answer.notedOf (s .elements) (r .position .0) (r .skip)) (s .elements))

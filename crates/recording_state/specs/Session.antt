@@ -1,6 +1,6 @@
 -- 01, "A recording session": the session's terms, and what a call's outcome is in 01's numbers.
 use Prim.Native.Nat.{ℕ, _+_, _*_}
-use mathlib.Core.Bool.{true, false}
+use mathlib.Core.Bool.{true}
 use lib.Dec.{ltb}
 use Rattle.geometry.specs.Pick.{pick}
 use Rattle.geometry.specs.Refused.{verdictNumber}
@@ -38,6 +38,13 @@ accepting s = record { session = s; number = 0 }
 abbrev pub refusing : State → ℕ → Result
 refusing s n = record { session = s; number = n }
 
+-- the stages in their order
+abbrev pub followingOf : Stage → Stage
+followingOf S.OpeningHeaders = S.Elements
+followingOf S.Elements = S.ClosingHeaders
+followingOf S.ClosingHeaders = S.Done
+followingOf S.Done = S.Done
+
 -- the session with one field set
 abbrev pub withStage : State → Stage → State
 withStage s stage = record { setup = s .setup; stage = stage; exchange = s .exchange; closed = s .closed; ended = s .ended; copies = s .copies; elements = s .elements }
@@ -62,9 +69,9 @@ endedOf s = record { setup = s .setup; stage = s .stage; exchange = s .exchange;
 abbrev pub ending : State → ℕ → Result
 ending s n = record { session = endedOf s; number = n }
 
--- EOD becomes due: it carries the next number and is no filemark
+-- EOD becomes due
 abbrev pub eodDue : State → State
-eodDue s = withStage (withElements s (elements.acceptedOf (s .elements) false)) S.Eod
+eodDue s = withElements s (elements.eodDue (s .elements))
 
 -- closing headers, behind EOD
 abbrev pub closingHeader : State → Header
@@ -73,13 +80,12 @@ closingHeader s = closingOf (s .copies .header) (s .elements .next)
 abbrev pub closingStarted : State → State
 closingStarted s = withStage (withCopies s (copies.startOf (closingHeader s))) S.ClosingHeaders
 
+-- every element that was due is on tape: behind EOD the closing headers, after close EOD
 abbrev pub settledBy : Stage → State → State
 settledBy S.OpeningHeaders s = s
-settledBy S.Elements s = pick (s .closed) (eodDue s) s
-settledBy S.Eod s = closingStarted s
+settledBy S.Elements s = pick (s .elements .eod) (closingStarted s) (pick (s .closed) (eodDue s) s)
 settledBy S.ClosingHeaders s = s
 settledBy S.Done s = s
 
--- EOD becomes due when close was called and every element is on tape; the closing headers when EOD is
 unfoldable pub settledOf : State → State
 settledOf s = pick (ltb 0 (s .elements .pending)) s (settledBy (s .stage) s)

@@ -7,3 +7,4 @@ pub use state::Outcome;
 pub use state::Setup;
 pub use state::Stage;
 pub use state::State;
+pub use state::following;

@@ -1,7 +1,7 @@
 // The state of a session, what its calls return, and the steps that several of them take.
 ghost use mathlib.Core.Path.{_≡_};
 ghost use Rattle.geometry.specs.Refused.{refusalNumber};
-ghost use Rattle.recording_state.specs.Session.{windowOf, outcomeSaid, accepting, refusing, ending, eodDue, closingStarted, settledOf};
+ghost use Rattle.recording_state.specs.Session.{followingOf, windowOf, outcomeSaid, accepting, refusing, ending, eodDue, closingStarted, settledOf};
 use copies::Copies;
 use copies::closing_header;
 use drive::Command;
@@ -12,11 +12,21 @@ use geometry::Verdict;
 
 pub enum Stage {
     OpeningHeaders,
-    // LOCATE 10 and the elements.
+    // LOCATE 10, the elements and EOD.
     Elements,
-    Eod,
     ClosingHeaders,
     Done,
+}
+
+// The stage behind this one.
+pub fn following(stage: Stage) -> Stage
+    ensures { λ r. ⌜ r ≡ followingOf stage ⌝ }
+{
+    match stage {
+        Stage::OpeningHeaders => Stage::Elements,
+        Stage::Elements => Stage::ClosingHeaders,
+        _ => Stage::Done,
+    }
 }
 
 // The sizes that a session was opened with.
@@ -98,15 +108,12 @@ impl State {
     }
 
     // EOD is due, behind the last element.
-    fn due_eod(self) -> State
+    fn due_eod(mut self) -> State
         ensures { λ r. ⌜ r ≡ eodDue self ⌝ }
     {
         let elements = self.elements;
-        State {
-            stage: Stage::Eod,
-            elements: elements.accept(false),
-            ..self
-        }
+        self.elements = elements.due_eod();
+        self
     }
 
     fn start_closing(self) -> State
@@ -133,11 +140,13 @@ impl State {
         }
         let stage = self.stage;
         match stage {
-            Stage::OpeningHeaders => self,
-            Stage::Elements => { if self.closed { self.due_eod() } else { self } }
-            Stage::Eod => self.start_closing(),
-            Stage::ClosingHeaders => self,
-            Stage::Done => self,
+            Stage::Elements => {
+                if elements.eod {
+                    return self.start_closing();
+                }
+                if self.closed { self.due_eod() } else { self }
+            }
+            _ => self,
         }
     }
 }

@@ -23,6 +23,7 @@ use geometry::Verdict;
 use recording_state::Outcome;
 use recording_state::Stage;
 use recording_state::State;
+use recording_state::following;
 
 fn answered(mut s: State) -> State
     ensures { λ r. ⌜ r ≡ answeredOf s ⌝ }
@@ -46,18 +47,9 @@ fn completed(s: State) -> State
     ensures { λ r. ⌜ r ≡ completedOf s ⌝ }
 {
     let stage = s.stage;
-    match stage {
-        Stage::OpeningHeaders => State {
-            stage: Stage::Elements,
-            ..s
-        },
-        Stage::Elements => s,
-        Stage::Eod => s,
-        Stage::ClosingHeaders => State {
-            stage: Stage::Done,
-            ..s
-        },
-        Stage::Done => s,
+    State {
+        stage: following(stage),
+        ..s
     }
 }
 
@@ -81,11 +73,9 @@ fn element_reply(mut s: State, stepped: Stepped) -> Outcome
 {
     let verdict = stepped.verdict;
     let next = stepped.elements;
+    s.elements = next;
     match verdict {
-        Verdict::Accepted => {
-            s.elements = next;
-            answered(s).settle().accepted()
-        }
+        Verdict::Accepted => answered(s).settle().accepted(),
         Verdict::Refused(r) => s.end(r),
     }
 }
@@ -106,7 +96,7 @@ fn stage_reply(s: State, progress: Progress, stepped: Stepped) -> Outcome
     let stage = s.stage;
     match stage {
         Stage::OpeningHeaders | Stage::ClosingHeaders => header_reply(s, progress),
-        Stage::Elements | Stage::Eod => element_reply(s, stepped),
+        Stage::Elements => element_reply(s, stepped),
         Stage::Done => s.end(Refusal::Reply),
     }
 }

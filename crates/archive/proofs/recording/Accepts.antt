@@ -124,19 +124,29 @@ queue-grow last pass xs ys k (f ∷ fs) l q =
 module _ {last pass : ℕ} {premises : Type 0} (w : World) (set : Setting last pass) (l : Live last pass premises w) (mark : Bool) (x : Element) (acc : Accepting (w .session)) where
   -- the stages in which elements are accepted
   data Early (k edge : ℕ) : Type 0 where
-    opening : w .session .stage ≡ S.OpeningHeaders → Course last w k edge → Early k edge
-    writing : w .session .stage ≡ S.Elements → Writing last (w .session) (w .drive) k edge (w .flight) → Early k edge
+    opening : w .session .stage ≡ S.OpeningHeaders → w .session .elements .eod ≡ false → Early k edge
+    writing : w .session .stage ≡ S.Elements → w .session .elements .eod ≡ false → Writing last (w .session) (w .drive) k edge (w .flight) → Early k edge
 
   early : {k edge : ℕ} → Course last w k edge → Early k edge
-  early (inv.opening st t c) = opening st (inv.opening st t c)
-  early (inv.writing st a) = writing st a
-  early (inv.ending st c p a) = clash c (acc .unclosed)
-  early (inv.closing st c a b g) = clash c (acc .unclosed)
-  early (inv.finished st c a b f g h r y) = clash c (acc .unclosed)
+  early (inv.opening st v t c) = opening st v
+  early (inv.writing st (inv.not-yet v) a) = writing st v a
+  early (inv.writing st (inv.alone v c p) a) = clash c (acc .unclosed)
+  early (inv.closing st v c a b g) = clash c (acc .unclosed)
+  early (inv.finished st v c a b f g h r y) = clash c (acc .unclosed)
 
-  total-plain : {k edge : ℕ} (n : ℕ) → Early k edge → totalOf (w .session .stage) n ≡ n
-  total-plain n (opening st _) = ap (λ (y : Stage). totalOf y n) st
-  total-plain n (writing st _) = ap (λ (y : Stage). totalOf y n) st
+  -- EOD is not due in these
+  early-unended : {k edge : ℕ} → Early k edge → w .session .elements .eod ≡ false
+  early-unended (opening _ v) = v
+  early-unended (writing _ v _) = v
+
+  early-unclosed : {k edge : ℕ} {X : Type 0} → Early k edge → (w .session .stage ≡ S.ClosingHeaders) ⊎ (w .session .stage ≡ S.Done) → X
+  early-unclosed (opening q _) (inl z) = never (cc)
+  early-unclosed (opening q _) (inr z) = never (cc)
+  early-unclosed (writing q _ _) (inl z) = never (cc)
+  early-unclosed (writing q _ _) (inr z) = never (cc)
+
+  total-plain : {k edge : ℕ} (n : ℕ) → Early k edge → totalOf (w .session .elements .eod) n ≡ n
+  total-plain n y = ap (λ (b : Bool). totalOf b n) (early-unended y)
 
   plain-pending : (w .session .elements .pending + 1) % 2 ^ 16 ≡ w .session .elements .pending + 1
   plain-pending = mod-eq-of-lt (omega (arith, acc .room, l .counted .wide))
@@ -162,18 +172,17 @@ module _ {last pass : ℕ} {premises : Type 0} (w : World) (set : Setting last p
   more-pending = omega (arith, plain-pending)
 
   course-more : (window : List ℕ) (unaltered : Bool) {k edge : ℕ} → Course last w k edge → Course last (acceptedWorld w (withElement (w .session) mark) window unaltered x) k edge
-  course-more window unaltered (inv.opening st t c) = inv.opening st t (agree-as (w .session) (withElement (w .session) mark) (w .drive) refl refl c)
-  course-more window unaltered {k} {edge} (inv.writing st a) = inv.writing st (writing-as last (w .session) (withElement (w .session) mark) (w .drive) k edge refl more-pending a)
-  course-more window unaltered (inv.ending st c p a) = clash c (acc .unclosed)
-  course-more window unaltered (inv.closing st c a b g) = clash c (acc .unclosed)
-  course-more window unaltered (inv.finished st c a b f g h r y) = clash c (acc .unclosed)
+  course-more window unaltered (inv.opening st v t c) = inv.opening st v t (agree-as (w .session) (withElement (w .session) mark) (w .drive) refl refl c)
+  course-more window unaltered {k} {edge} (inv.writing st (inv.not-yet v) a) = inv.writing st (inv.not-yet v) (writing-as last (w .session) (withElement (w .session) mark) (w .drive) k edge refl more-pending a)
+  course-more window unaltered (inv.writing st (inv.alone v c p) a) = clash c (acc .unclosed)
+  course-more window unaltered (inv.closing st v c a b g) = clash c (acc .unclosed)
+  course-more window unaltered (inv.finished st v c a b f g h r y) = clash c (acc .unclosed)
 
   first-small : {k edge : ℕ} → Course last w k edge → w .session .elements .first .0 + w .session .elements .pending < 2 ^ 32
-  first-small (inv.opening st t c) = omega (arith, t .first-is, t .spread, t .roof, acc .room, l .counted .wide, set .small)
-  first-small (inv.writing st a) = let n = writing-numbers (l .counted .held) a in omega (arith, n .low, acc .room, l .counted .wide, set .small)
-  first-small (inv.ending st c p a) = clash c (acc .unclosed)
-  first-small (inv.closing st c a b g) = clash c (acc .unclosed)
-  first-small (inv.finished st c a b f g h r y) = clash c (acc .unclosed)
+  first-small (inv.opening st v t c) = omega (arith, t .first-is, t .spread, t .roof, acc .room, l .counted .wide, set .small)
+  first-small (inv.writing st v a) = let n = writing-numbers (l .counted .held) a in omega (arith, n .low, acc .room, l .counted .wide, set .small)
+  first-small (inv.closing st v c a b g) = clash c (acc .unclosed)
+  first-small (inv.finished st v c a b f g h r y) = clash c (acc .unclosed)
 
   module _ (window : List ℕ) (c : Content last pass w (l .k) (l .edge)) (g : Gains (w .session) (w .window) window x (elements.acceptedOf (w .session .elements) mark .marks)) where
     count-is : w .session .elements .first .0 + w .session .elements .pending ≡ length (w .notes .accepted)
@@ -212,9 +221,8 @@ module _ {last pass : ℕ} {premises : Type 0} (w : World) (set : Setting last p
     writing-of st = go st (early (l .course))
       where
         go : ElementStage (w .session) → Early (l .k) (l .edge) → Writing last (w .session) (w .drive) (l .k) (l .edge) (w .flight)
-        go (inl q) (opening o _) = never (cc)
-        go (inr q) (opening o _) = never (cc)
-        go q (writing o a) = a
+        go q (opening o _) = never (cc)
+        go q (writing o _ a) = a
 
     content-more : (unaltered : Bool) → Content last pass (acceptedWorld w (withElement (w .session) mark) window unaltered x) (l .k) (l .edge)
     content-more unaltered =
@@ -229,6 +237,8 @@ module _ {last pass : ℕ} {premises : Type 0} (w : World) (set : Setting last p
           sent = λ a f st q.
               let due = sent-due (subst (Writing last (w .session) (w .drive) (l .k) (l .edge)) q (writing-of st)) in
               subst (λ (y : Item). Stands last pass y (w .session .elements .first .0 + w .session .elements .outstanding) f) (sym (item-more (w .notes .accepted) (x ∷ []) (w .session .elements .first .0 + w .session .elements .outstanding) (omega (arith, count-is)))) (c .sent a f st q);
+          eod-written = λ _ b _. clash b (early-unended y);
+          eod-named = λ q. early-unclosed y q;
         }
 
   live-more : (window : List ℕ) (unaltered : Bool) → (unaltered ≡ true → (w .notes .unaltered ≡ true) × Gains (w .session) (w .window) window x (elements.acceptedOf (w .session .elements) mark .marks))
@@ -253,7 +263,7 @@ rejecting-more w s window unaltered x d ended awaiting command stage = record {
   awaits = awaiting ∙ d .awaits;
   replied = d .replied;
   unlisted = λ y. d .unlisted (subst (λ c. Listed c (meaningOf (d .reply .key) (d .reply .asc) (d .reply .ascq))) command y);
-  off-headers = λ el a e. d .off-headers (⊎-elim (λ q. inl (sym stage ∙ q)) (λ q. inr (sym stage ∙ q)) el) a (sym command ∙ e);
+  off-headers = λ el a e. d .off-headers (sym stage ∙ el) a (sym command ∙ e);
   safe = d .safe;
   unreported = d .unreported;
 }
@@ -306,8 +316,8 @@ keeps-block {last} {pass} {premises} w b lent set i te =
 -- ---- close
 
 -- EOD becomes due, or the closing headers do, or neither
-pub settled-cases : (s : State) (P : State → Type 0) → ((0 < s .elements .pending) ⊎ (HeaderStage s ⊎ (s .stage ≡ S.Done)) ⊎ ((s .stage ≡ S.Elements) × (s .closed ≡ false)) → P s)
-    → (s .stage ≡ S.Elements → s .closed ≡ true → s .elements .pending ≡ 0 → P (eodDue s)) → (s .stage ≡ S.Eod → s .elements .pending ≡ 0 → P (closingStarted s)) → P (settledOf s)
+pub settled-cases : (s : State) (P : State → Type 0) → ((0 < s .elements .pending) ⊎ (HeaderStage s ⊎ (s .stage ≡ S.Done)) ⊎ ((s .elements .eod ≡ false) × (s .closed ≡ false)) → P s)
+    → (s .stage ≡ S.Elements → s .elements .eod ≡ false → s .closed ≡ true → s .elements .pending ≡ 0 → P (eodDue s)) → (s .stage ≡ S.Elements → s .elements .eod ≡ true → s .elements .pending ≡ 0 → P (closingStarted s)) → P (settledOf s)
 unfolding settledOf
 settled-cases s P same eod-due closing-due =
     pick-by P (ltb 0 (s .elements .pending)) (λ e. same (inl (ltb-true 0 (s .elements .pending) e)))
@@ -315,7 +325,7 @@ settled-cases s P same eod-due closing-due =
   where
     by : s .elements .pending ≡ 0 → (st : Stage) → s .stage ≡ st → P (settledBy st s)
     by none S.OpeningHeaders q = same (inr (inl (inl (inl q))))
-    by none S.Elements q = pick-by P (s .closed) (λ c. eod-due q c none) (λ c. same (inr (inr (q, c))))
-    by none S.Eod q = closing-due q none
+    by none S.Elements q =
+        pick-by P (s .elements .eod) (λ v. closing-due q v none) (λ v. pick-by P (s .closed) (λ c. eod-due q v c none) (λ c. same (inr (inr (v, c)))))
     by none S.ClosingHeaders q = same (inr (inl (inl (inr q))))
     by none S.Done q = same (inr (inl (inr q)))

@@ -3,7 +3,6 @@ use Prim.Native.Nat.{ℕ, _≤_}
 use mathlib.Core.List.{List}
 use mathlib.Core.Path.{_≡_, refl, sym, subst, _∙_, ap}
 use mathlib.Core.Bool.{true}
-use mathlib.Core.Logic.{inl, inr}
 use native.Mathlib.Omega.{arith}
 use Rattle.drive.specs.declared.reply.Reply.{Reply}
 use Rattle.recording_state.specs.Reply.{replyOf}
@@ -23,7 +22,7 @@ use Rattle.archive.proofs.recording.Accepts.{keeps-filemark, keeps-bloc
 use Rattle.archive.proofs.recording.Closes.{keeps-close}
 use Rattle.archive.proofs.recording.Fetches.{keeps-fetch}
 use Rattle.archive.proofs.recording.HeaderReplies.{opening-replies, closing-replies}
-use Rattle.archive.proofs.recording.ElementReplies.{writing, ending-one, elements-reply}
+use Rattle.archive.proofs.recording.ElementReplies.{elements-reply}
 use Rattle.archive.proofs.recording.Invariant as inv
 use Rattle.archive.proofs.recording.Invariant.{Course, Live, Rejecting, Inv, live, rejecting, over}
 use Rattle.archive.proofs.recording.Setting.{Setting}
@@ -41,11 +40,10 @@ rejecting-reply w r written d same =
 -- ---- a reply
 
 live-reply : {last pass : ℕ} {premises : Type 0} (w : World) (r : Reply) → Setting last pass → Within last (w .drive .written) → (l : Live last pass premises w) → w .flight ≡ recordings.answered r → Course last w (l .k) (l .edge) → Inv last pass premises (afterReply w r)
-live-reply w r set wr l q (inv.opening s t a) = opening-replies w r set wr l s t a (subst (Copying (w .session) (w .drive)) q (a .copying))
-live-reply {last} w r set wr l q (inv.writing s a) = elements-reply w r set wr l (inl s) (writing s) (subst (Writing last (w .session) (w .drive) (l .k) (l .edge)) q a)
-live-reply {last} w r set wr l q (inv.ending s c p a) = elements-reply w r set wr l (inr s) (ending-one s c p) (subst (Writing last (w .session) (w .drive) (l .k) (l .edge)) q a)
-live-reply w r set wr l q (inv.closing s c k e a) = closing-replies w r set wr l s c k e a (subst (Copying (w .session) (w .drive)) q (a .copying))
-live-reply w r set wr l q (inv.finished s c k e f a g rests y) = none-answered (sym f ∙ q)
+live-reply w r set wr l q (inv.opening s v t a) = opening-replies w r set wr l s v t a (subst (Copying (w .session) (w .drive)) q (a .copying))
+live-reply {last} w r set wr l q (inv.writing s v a) = elements-reply w r set wr l s v (subst (Writing last (w .session) (w .drive) (l .k) (l .edge)) q a)
+live-reply w r set wr l q (inv.closing s v c k e a) = closing-replies w r set wr l s v c k e a (subst (Copying (w .session) (w .drive)) q (a .copying))
+live-reply w r set wr l q (inv.finished s v c k e f a g rests y) = none-answered (sym f ∙ q)
 
 keeps-reply : {last pass : ℕ} {premises : Type 0} (w : World) (r : Reply) → Setting last pass → Inv last pass premises w → w .flight ≡ recordings.answered r → TakesEffect (replyOf (w .session) r .number) → Inv last pass premises (afterReply w r)
 keeps-reply w r set (live wr l) q te = live-reply w r set wr l q (l .course)

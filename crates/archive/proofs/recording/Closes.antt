@@ -3,7 +3,7 @@ use Prim.Native.Nat.{ℕ, _+_, _%_, _^_, _<_}
 use mathlib.Core.Path.{_≡_, refl, sym, ap, subst, _∙_}
 use mathlib.Core.Bool.{Bool, true, false}
 use mathlib.Core.List.{List}
-use mathlib.Core.Logic.{inl, inr}
+use mathlib.Core.Logic.{⊎-elim}
 use native.Mathlib.Omega.{arith}
 use lib.ListN.{length, length-set}
 use Rattle.drive.specs.Listed.{Listed}
@@ -12,7 +12,6 @@ use Rattle.elements.specs.Elements as elements
 use Rattle.recording_state.specs.Accept.{closeOf}
 use Rattle.recording_state.specs.Session.{closedOf, Result, windowOf, eodDue, closingStarted, settledOf}
 use Rattle.recording_state.specs.declared.state.State.{State}
-use Rattle.recording_state.specs.declared.state.Stage.{Stage}
 use Rattle.recording_state.specs.declared.state.Stage.the-variants as S
 use Rattle.recording_state.proofs.Stages.{ElementStage}
 use Rattle.archive.specs.Recordings.{World, TakesEffect, withSession}
@@ -20,28 +19,26 @@ use Rattle.archive.proofs.tape.Scan.{Seen}
 use Rattle.archive.proofs.tape.SeenLaws.{seen-eod}
 use Rattle.archive.proofs.tape.Stands.{Item, itemAt, StoredAs}
 use Rattle.archive.proofs.tape.StandsLaws.{item-past}
-use Rattle.archive.proofs.recording.HeaderCopies.{Carried}
 use Rattle.archive.proofs.recording.KeptAgreement.{agree-as, writing-as}
 use Rattle.archive.proofs.recording.Accepts.{close-view, settled-cases}
 use Rattle.archive.proofs.recording.Invariant as inv
-use Rattle.archive.proofs.recording.Invariant.{totalOf, spareOf, Course, Live, Rejecting, Inv, live, rejecting, over}
+use Rattle.archive.proofs.recording.Invariant.{totalOf, Course, Live, Rejecting, Inv, live, rejecting, over}
 use Rattle.geometry.proofs.Impossible.{never, clash}
 
 -- ---- EOD becomes due
 
-module _ {last pass : ℕ} {premises : Type 0} (w : World) (l : Live last pass premises w) (st : w .session .stage ≡ S.Elements) (closed : w .session .closed ≡ true) (none : w .session .elements .pending ≡ 0) where
+module _ {last pass : ℕ} {premises : Type 0} (w : World) (l : Live last pass premises w) (st : w .session .stage ≡ S.Elements) (v : w .session .elements .eod ≡ false) (closed : w .session .closed ≡ true) (none : w .session .elements .pending ≡ 0) where
   one : (w .session .elements .pending + 1) % 2 ^ 16 ≡ 1
   one = ap (λ (n : ℕ). (n + 1) % 2 ^ 16) none
 
   count : w .session .elements .first .0 ≡ length (w .notes .accepted)
-  count = let n = l .counted .numbered in let t = ap (λ (x : Stage). totalOf x (length (w .notes .accepted))) st in omega arith
+  count = let n = l .counted .numbered in let t = ap (λ (x : Bool). totalOf x (length (w .notes .accepted))) v in omega arith
 
   eod-course : Course last w (l .k) (l .edge) → Course last (withSession w (eodDue (w .session))) (l .k) (l .edge)
-  eod-course (inv.opening q t c) = never (cc)
-  eod-course (inv.writing q a) = inv.ending refl closed one (writing-as last (w .session) (eodDue (w .session)) (w .drive) (l .k) (l .edge) refl (omega (arith, one, none)) a)
-  eod-course (inv.ending q c p a) = never (cc)
-  eod-course (inv.closing q c a b g) = never (cc)
-  eod-course (inv.finished q c a b f g h r y) = never (cc)
+  eod-course (inv.opening q _ t c) = never (cc)
+  eod-course (inv.writing q _ a) = inv.writing q (inv.alone refl closed one) (writing-as last (w .session) (eodDue (w .session)) (w .drive) (l .k) (l .edge) refl (omega (arith, one, none)) a)
+  eod-course (inv.closing q _ c a b g) = never (cc)
+  eod-course (inv.finished q _ c a b f g h r y) = never (cc)
 
   eod-stored : (window : List ℕ) (marks : List Bool) (i : ℕ) → i < (w .session .elements .pending + 1) % 2 ^ 16 → StoredAs (itemAt (w .notes .accepted) (w .session .elements .first .0 + i)) window marks (windowOf (w .session)) (w .session .elements .first .0 + i)
   eod-stored window marks i h =
@@ -63,18 +60,20 @@ module _ {last pass : ℕ} {premises : Type 0} (w : World) (l : Live last pass p
           marks = length-set (w .session .elements .marks) _ false ∙ c .marks;
           room = c .room;
         };
-        carried = subst (λ (n : ℕ). Carried last pass n (w .session .copies .header)) (ap spareOf st) (l .carried);
+        carried = l .carried;
         course = eod-course (l .course);
-        reported = λ r. never (let q = l .reported r in cc);
+        reported = l .reported;
         content = λ p u.
             let x = l .content p u in
             record {
               tape = x .tape;
-              seen = seen-eod (subst (λ (n : ℕ). Seen last pass (w .notes .accepted) n (l .k) (l .edge) (w .drive .tape)) (ap (λ (y : Stage). totalOf y (length (w .notes .accepted))) st) (x .seen));
+              seen = seen-eod (subst (λ (n : ℕ). Seen last pass (w .notes .accepted) n (l .k) (l .edge) (w .drive .tape)) (ap (λ (y : Bool). totalOf y (length (w .notes .accepted))) v) (x .seen));
               below = x .below;
               stored = λ i h. eod-stored (w .window) (elements.acceptedOf (w .session .elements) false .marks) i h;
-              queue = λ _ free. x .queue (inl st) free;
-              sent = λ a f _ q. x .sent a f (inl st) q;
+              queue = x .queue;
+              sent = x .sent;
+              eod-written = λ _ _ k. let low = x .seen .low in let top = x .seen .top in absurd (omega (arith, ap (λ (y : Bool). totalOf y (length (w .notes .accepted))) v));
+              eod-named = λ q. ⊎-elim (λ z. never (cc)) (λ z. never (cc)) q;
             };
       }
 
@@ -82,12 +81,12 @@ module _ {last pass : ℕ} {premises : Type 0} (w : World) (l : Live last pass p
 
 module _ {last pass : ℕ} {premises : Type 0} (w : World) (l : Live last pass premises w) (unclosed : w .session .closed ≡ false) where
   closed-course : Course last w (l .k) (l .edge) → Course last (withSession w (closedOf (w .session))) (l .k) (l .edge)
-  closed-course (inv.opening q t c) =
-      inv.opening q t (agree-as (w .session) (closedOf (w .session)) (w .drive) refl refl c)
-  closed-course (inv.writing q a) = inv.writing q (writing-as last (w .session) (closedOf (w .session)) (w .drive) (l .k) (l .edge) refl (omega arith) a)
-  closed-course (inv.ending q c p a) = clash c unclosed
-  closed-course (inv.closing q c a b g) = clash c unclosed
-  closed-course (inv.finished q c a b f g h r y) = clash c unclosed
+  closed-course (inv.opening q v t c) =
+      inv.opening q v t (agree-as (w .session) (closedOf (w .session)) (w .drive) refl refl c)
+  closed-course (inv.writing q (inv.not-yet v) a) = inv.writing q (inv.not-yet v) (writing-as last (w .session) (closedOf (w .session)) (w .drive) (l .k) (l .edge) refl (omega arith) a)
+  closed-course (inv.writing q (inv.alone v c p) a) = clash c unclosed
+  closed-course (inv.closing q v c a b g) = clash c unclosed
+  closed-course (inv.finished q v c a b f g h r y) = clash c unclosed
 
   closed-live : Live last pass premises (withSession w (closedOf (w .session)))
   closed-live =
@@ -100,15 +99,15 @@ module _ {last pass : ℕ} {premises : Type 0} (w : World) (l : Live last pass p
         carried = l .carried;
         course = closed-course (l .course);
         reported = l .reported;
-        content = λ p u. let x = l .content p u in record { tape = x .tape; seen = x .seen; below = x .below; stored = x .stored; queue = x .queue; sent = x .sent };
+        content = λ p u. let x = l .content p u in record { tape = x .tape; seen = x .seen; below = x .below; stored = x .stored; queue = x .queue; sent = x .sent; eod-written = x .eod-written; eod-named = x .eod-named };
       }
 
-  not-eod : {X : Type 0} → w .session .stage ≡ S.Eod → Course last w (l .k) (l .edge) → X
-  not-eod e (inv.opening q t c) = never (cc)
-  not-eod e (inv.writing q a) = never (cc)
-  not-eod e (inv.ending q c p a) = clash c unclosed
-  not-eod e (inv.closing q c a b g) = clash c unclosed
-  not-eod e (inv.finished q c a b f g h r y) = clash c unclosed
+  not-eod : {X : Type 0} → w .session .elements .eod ≡ true → Course last w (l .k) (l .edge) → X
+  not-eod e (inv.opening q v t c) = clash e v
+  not-eod e (inv.writing q (inv.not-yet v) a) = clash e v
+  not-eod e (inv.writing q (inv.alone v c p) a) = clash c unclosed
+  not-eod e (inv.closing q v c a b g) = clash c unclosed
+  not-eod e (inv.finished q v c a b f g h r y) = clash c unclosed
 
 rejecting-close : {last : ℕ} (w : World) (s : State) → Rejecting last w → s .ended ≡ w .session .ended → s .exchange .awaiting ≡ w .session .exchange .awaiting → s .exchange .command ≡ w .session .exchange .command → (ElementStage s → ElementStage (w .session)) → Rejecting last (withSession w s)
 rejecting-close w s d ended awaiting command stage = record {
@@ -130,10 +129,10 @@ keeps-close {last} {pass} {premises} w i te =
     go : w .session .ended ≡ false → w .session .closed ≡ false → Inv last pass premises w → Inv last pass premises (withSession w (settledOf (closedOf (w .session))))
     go going unclosed (live wr l) =
         settled-cases (closedOf (w .session)) (λ (s : State). Inv last pass premises (withSession w s)) (λ _. live wr (closed-live w l unclosed))
-        (λ q c none. live wr (eod-live (withSession w (closedOf (w .session))) (closed-live w l unclosed) q c none))
-        (λ q none. not-eod w l unclosed q (l .course))
+        (λ q v c none. live wr (eod-live (withSession w (closedOf (w .session))) (closed-live w l unclosed) q v c none))
+        (λ q v none. not-eod w l unclosed v (l .course))
     go going unclosed (rejecting wr d) =
         settled-cases (closedOf (w .session)) (λ (s : State). Inv last pass premises (withSession w s)) (λ _. rejecting wr (rejecting-close w (closedOf (w .session)) d refl refl refl (λ h. h)))
-        (λ q c none. rejecting wr (rejecting-close w (eodDue (closedOf (w .session))) d refl refl refl (λ _. inl q)))
-        (λ q none. rejecting wr (rejecting-close w (closingStarted (closedOf (w .session))) d refl refl refl (λ _. inr q)))
+        (λ q v c none. rejecting wr (rejecting-close w (eodDue (closedOf (w .session))) d refl refl refl (λ h. h)))
+        (λ q v none. rejecting wr (rejecting-close w (closingStarted (closedOf (w .session))) d refl refl refl (λ _. q)))
     go going unclosed (over wr o) = clash (o .ended) going

@@ -1,7 +1,7 @@
 -- What a recording that reported done leaves, and that a reading opens on it. Assumes nothing.
 use Prim.Native.Nat.{ℕ, _+_, _^_, _≤_, _<_}
 use mathlib.Core.Path.{_≡_, sym, ap, subst, _∙_}
-use mathlib.Core.Bool.{true, false, true≢false, _||_}
+use mathlib.Core.Bool.{Bool, true, false, true≢false, _||_}
 use mathlib.Core.List.{List}
 use mathlib.Core.Logic.{_⊎_, inl, inr, ⊎-elim}
 use native.Mathlib.Omega.{arith}
@@ -22,7 +22,6 @@ use Rattle.header.proofs.ReadLaws.{valid-taken}
 use Rattle.header.proofs.AsRead.{read-valid, read-update, read-fields}
 use Rattle.header.proofs.Built.{built-valid, built-update, built-fields}
 use Rattle.archive.specs.Tape.{Tape, Cartridge}
-use Rattle.recording_state.specs.declared.state.Stage.{Stage}
 use Rattle.recording_state.specs.declared.state.Stage.the-variants as S
 use Rattle.reading.specs.Open as reading
 use Rattle.archive.specs.Headers.{HeaderAt, Newest}
@@ -31,8 +30,8 @@ use Rattle.archive.proofs.tape.Scan.{Seen}
 use Rattle.archive.proofs.tape.SeenLaws.{seen-recorded}
 use Rattle.archive.proofs.tape.UserPlaces.{User, user-ranges}
 use Rattle.archive.proofs.recording.HeaderCopies.{Carried, Copy, Below}
-use Rattle.archive.proofs.recording.Invariant.{totalOf, Course, opening, writing, ending, closing, finished, Content, Live, live, rejecting, over, Inv}
-use Rattle.archive.proofs.recording.Setting.{Setting, Leaves}
+use Rattle.archive.proofs.recording.Invariant.{totalOf, Course, opening, writing, closing, finished, Content, Live, live, rejecting, over, Inv}
+use Rattle.archive.proofs.recording.Setting.{Setting, EodAt, Leaves}
 
 -- ---- a copy of the header
 
@@ -67,9 +66,14 @@ module _ {last pass spare : ℕ} (set : Setting last pass) (h : Header) (c : Car
     pub copy-update : updateOf f ≡ h .update
     copy-update = read-update r ∙ built-update h update-small
 
+    copy-fields : headerOf f ≡ h
+    copy-fields = read-fields r ∙ built-fields h last-small (omega (arith, pass-low)) eod-small update-small
+
     pub copy-pass : headerOf f .pass ≡ pass
-    copy-pass =
-        ap (λ (x : Header). x .pass) (read-fields r ∙ built-fields h last-small (omega (arith, pass-low)) eod-small update-small) ∙ c .pass-is
+    copy-pass = ap (λ (x : Header). x .pass) copy-fields ∙ c .pass-is
+
+    pub copy-eod : headerOf f .eod .0 ≡ h .eod .0
+    copy-eod = ap (λ (x : Header). x .eod .0) copy-fields
 
   -- it is the newest, and so is every other newest one a copy
   module _ {t : Tape} {bound : ℕ} (y : Copy h t bound) (below : Below last h t) where
@@ -83,20 +87,25 @@ module _ {last pass spare : ℕ} (set : Setting last pass) (h : Header) (c : Car
       highest = λ a other at. ⊎-elim (λ l. omega (arith, copy-update (y .as-sent))) (λ r. omega (arith, copy-update (y .as-sent), copy-update r)) (below a other at);
     }
 
+    newest-copy : (f : List ℕ) → Newest last t f → ReadsAs (headerFrame h) f
+    newest-copy f n =
+        ⊎-elim (λ l. absurd (omega (arith, copy-update (y .as-sent), n .highest (y .address) (y .frame) here))) (λ r. r) (below (n .address) f (n .here))
+
     pub newest-pass : (f : List ℕ) → Newest last t f → headerOf f .pass ≡ pass
-    newest-pass f n =
-        ⊎-elim (λ l. absurd (omega (arith, copy-update (y .as-sent), n .highest (y .address) (y .frame) here))) (λ r. copy-pass r) (below (n .address) f (n .here))
+    newest-pass f n = copy-pass (newest-copy f n)
+
+    pub newest-eod : (f : List ℕ) → Newest last t f → headerOf f .eod .0 ≡ h .eod .0
+    newest-eod f n = copy-eod (newest-copy f n)
 
 -- ---- done
 
 module _ {last pass : ℕ} {premises : Type 0} {w : World} (set : Setting last pass) (l : Live last pass premises w) (content : Content last pass w (l .k) (l .edge)) (done : w .session .stage ≡ S.Done) where
   leaves : Course last w (l .k) (l .edge) → Leaves last pass (w .drive .tape) (w .notes .accepted)
-  leaves (opening s _ _) = never (cc)
-  leaves (writing s _) = never (cc)
-  leaves (ending s _ _ _) = never (cc)
-  leaves (closing s _ _ _ _) = never (cc)
-  leaves (finished s c k edge f a g rests copy) =
-      let all = subst (λ (n : ℕ). Seen last pass (w .notes .accepted) n (l .k) (l .edge) (w .drive .tape)) (ap (λ (x : Stage). totalOf x (length (w .notes .accepted))) s) (content .seen) in
+  leaves (opening s _ _ _) = never (cc)
+  leaves (writing s _ _) = never (cc)
+  leaves (closing s _ _ _ _ _) = never (cc)
+  leaves (finished s v c k edge f a g rests copy) =
+      let all = subst (λ (n : ℕ). Seen last pass (w .notes .accepted) n (l .k) (l .edge) (w .drive .tape)) (ap (λ (x : Bool). totalOf x (length (w .notes .accepted))) v) (content .seen) in
       let seen = subst (λ (n : ℕ). Seen last pass (w .notes .accepted) (length (w .notes .accepted) + 1) n (last + 1) (w .drive .tape)) k (subst (λ (n : ℕ). Seen last pass (w .notes .accepted) (length (w .notes .accepted) + 1) (l .k) n (w .drive .tape)) edge all) in
       record {
         cartridge = content .tape;
@@ -104,6 +113,7 @@ module _ {last pass : ℕ} {premises : Type 0} {w : World} (set : Setting last p
         header = copy .frame;
         newest = copy-newest set (w .session .copies .header) (l .carried) copy (content .below);
         passes = newest-pass set (w .session .copies .header) (l .carried) copy (content .below);
+        ends = λ h n. subst (EodAt last pass (length (w .notes .accepted)) (w .drive .tape)) (sym (newest-eod set (w .session .copies .header) (l .carried) copy (content .below) h n)) (content .eod-named (inr s));
       }
 
 pub completes : {last pass : ℕ} {premises : Type 0} (w : World) → Setting last pass → Inv last pass premises w → premises → w .notes .unaltered ≡ true → w .notes .reported ≡ true → Leaves last pass (w .drive .tape) (w .notes .accepted)

@@ -1,5 +1,5 @@
 -- What the drive's own writes and failures leave of tape and window. Assumes nothing.
-use Prim.Native.Nat.{ℕ, _+_, _≤_, _<_}
+use Prim.Native.Nat.{ℕ, _+_, _-_, _≤_, _<_}
 use mathlib.Core.Path.{_≡_, refl, sym, ap, subst, _∙_}
 use mathlib.Core.Bool.{Bool, true, false, true≢false}
 use mathlib.Core.List.{List, [], _∷_, _++_}
@@ -12,6 +12,7 @@ use lib.Dec.{leb}
 use lib.ListN.{length}
 use Rattle.geometry.specs.Cartridge.{isHeader, isUser}
 use Rattle.geometry.proofs.TestLaws.{and-true, or-true}
+use Rattle.geometry.proofs.Impossible.{never}
 use Rattle.frame.specs.Header.{headerFrame}
 use Rattle.frame.specs.Sent.{ReadsAs}
 use Rattle.frame.specs.declared.header.Header.{Header}
@@ -20,7 +21,6 @@ use Rattle.header.specs.Valid.{updateOf}
 use Rattle.archive.specs.Conduct as conduct
 use Rattle.archive.specs.Conduct.{Drive, Written, Left, as-before, as-new, not-at-all, wrote, failing}
 use Rattle.archive.specs.Tape.{Tape, Cartridge, put}
-use Rattle.recording_state.specs.declared.state.Stage.{Stage}
 use Rattle.recording_state.specs.declared.state.Stage.the-variants as S
 use Rattle.recording_state.proofs.Stages.{ElementStage}
 use Rattle.archive.specs.Recordings.{World, Element, withDrive}
@@ -29,10 +29,11 @@ use Rattle.archive.proofs.tape.Places.{header-not-user}
 use Rattle.archive.proofs.tape.Scan.{Seen}
 use Rattle.archive.proofs.tape.ScanLaws.{put-same, put-other}
 use Rattle.archive.proofs.tape.SeenLaws.{cartridge-put, seen-elsewhere, seen-writes, seen-fails}
-use Rattle.archive.proofs.tape.Stands.{itemAt, Stands, Queue}
-use Rattle.archive.proofs.tape.StandsLaws.{stands-read, stands-long}
+use Rattle.archive.proofs.tape.Stands.{Item, eod, itemAt, Stands, Queue}
+use Rattle.archive.proofs.tape.StandsLaws.{item-past, stands-read, stands-long}
 use Rattle.archive.proofs.tape.UserPlaces.{user-ranges}
 use Rattle.archive.proofs.recording.HeaderCopies.{Below}
+use Rattle.archive.proofs.recording.Setting.{EodAt}
 use Rattle.archive.proofs.recording.Invariant.{totalOf, Content}
 
 -- what a tried address reads as
@@ -65,11 +66,19 @@ module _ {last pass k edge : ℕ} (w : World) (large : 3000 ≤ last) (c : Conte
       let t = w .drive .tape in
       record {
         tape = subst (Cartridge last) (sym q) (cartridge-put last t a v (header-low a at) (λ f x. ⊎-elim (λ y. c .tape .long a f y) (λ r. r .long ∙ header-length (w .session .copies .header)) (left-reads left x)) (c .tape));
-        seen = subst (λ x. Seen last pass (w .notes .accepted) (totalOf (w .session .stage) (length (w .notes .accepted))) k edge x) (sym q) (seen-elsewhere a v (not-user a at (isUser last a) refl) (c .seen));
+        seen = subst (λ x. Seen last pass (w .notes .accepted) (totalOf (w .session .elements .eod) (length (w .notes .accepted))) k edge x) (sym q) (seen-elsewhere a v (not-user a at (isUser last a) refl) (c .seen));
         below = subst (Below last (w .session .copies .header)) (sym q) (below-put last (w .session .copies .header) t a v (λ f x. left-reads left x) (c .below));
         stored = c .stored;
         queue = λ st _. absurd (no-elements st);
         sent = λ _ _ st _. absurd (no-elements st);
+        eod-written = λ st _ _. absurd (no-elements st);
+        eod-named = λ s. let y = c .eod-named s in
+            record {
+              frame = y .frame;
+              user = y .user;
+              reads = ap (λ (u : Tape). u (w .session .copies .header .eod .0)) q ∙ put-other t a v (w .session .copies .header .eod .0) (λ z. header-not-user last a at (sym (ap (isUser last) z) ∙ y .user)) ∙ y .reads;
+              stands = y .stands;
+            };
       }
     where
       header-low : (a : ℕ) → isHeader a ≡ true → a ≤ last
@@ -82,20 +91,17 @@ module _ {last pass k edge : ℕ} (w : World) (large : 3000 ≤ last) (c : Conte
   -- ---- elements
 
   module _ (f : List ℕ) (rest : List (List ℕ)) (b : w .drive .buffer ≡ f ∷ rest) (free : w .drive .failed ≡ false) (st : ElementStage (w .session))
-      (here : isUser last (w .drive .at) ≡ true) (edge-here : edge ≡ w .drive .at) (room : k + 1 ≤ totalOf (w .session .stage) (length (w .notes .accepted))) where
-    most : (s : Stage) (n : ℕ) → totalOf s n ≤ n + 1
-    most S.OpeningHeaders n = omega arith
-    most S.Elements n = omega arith
-    most S.Eod n = omega arith
-    most S.ClosingHeaders n = omega arith
-    most S.Done n = omega arith
+      (here : isUser last (w .drive .at) ≡ true) (edge-here : edge ≡ w .drive .at) (room : k + 1 ≤ totalOf (w .session .elements .eod) (length (w .notes .accepted))) where
+    most : (b : Bool) (n : ℕ) → totalOf b n ≤ n + 1
+    most false n = omega arith
+    most true n = omega arith
 
     queued : Stands last pass (itemAt (w .notes .accepted) k) k f × Queue last pass (w .notes .accepted) (k + 1) rest
     unfolding Queue
     queued = subst (Queue last pass (w .notes .accepted) k) b (c .queue st free)
 
-    seen-here : Seen last pass (w .notes .accepted) (totalOf (w .session .stage) (length (w .notes .accepted))) k (w .drive .at) (w .drive .tape)
-    seen-here = subst (λ (x : ℕ). Seen last pass (w .notes .accepted) (totalOf (w .session .stage) (length (w .notes .accepted))) k x (w .drive .tape)) edge-here (c .seen)
+    seen-here : Seen last pass (w .notes .accepted) (totalOf (w .session .elements .eod) (length (w .notes .accepted))) k (w .drive .at) (w .drive .tape)
+    seen-here = subst (λ (x : ℕ). Seen last pass (w .notes .accepted) (totalOf (w .session .elements .eod) (length (w .notes .accepted))) k x (w .drive .tape)) edge-here (c .seen)
 
     -- no header is there
     below-user : (v : Option (List ℕ)) → Below last (w .session .copies .header) (put (w .drive .tape) (w .drive .at) v)
@@ -108,24 +114,44 @@ module _ {last pass k edge : ℕ} (w : World) (large : 3000 ≤ last) (c : Conte
     cartridge-left : {v : Option (List ℕ)} → Left (w .drive .tape (w .drive .at)) f v → Cartridge last (put (w .drive .tape) (w .drive .at) v)
     cartridge-left {v} left = cartridge-put last (w .drive .tape) (w .drive .at) v (user-low last (w .drive .at) large here) (long-left left) (c .tape)
 
+    -- the frame was EOD's
+    eod-stood : (read : List ℕ) → Stands last pass (itemAt (w .notes .accepted) k) k read → k ≡ length (w .notes .accepted) → EodAt last pass (length (w .notes .accepted)) (put (w .drive .tape) (w .drive .at) (some read)) (w .drive .at + 1 - 1)
+    eod-stood read s all =
+        let back : w .drive .at ≡ w .drive .at + 1 - 1 = omega arith in
+        let item : itemAt (w .notes .accepted) k ≡ eod = item-past (w .notes .accepted) k (omega arith) in
+        subst (EodAt last pass (length (w .notes .accepted)) (put (w .drive .tape) (w .drive .at) (some read))) back (record {
+          frame = read;
+          user = here;
+          reads = put-same (w .drive .tape) (w .drive .at) (some read);
+          stands = subst (λ (n : ℕ). Stands last pass eod n read) all (subst (λ (x : Item). Stands last pass x k read) item s);
+        })
+
+    unclosed : {X : Type 0} → (w .session .stage ≡ S.ClosingHeaders) ⊎ (w .session .stage ≡ S.Done) → X
+    unclosed (inl z) = never (cc)
+    unclosed (inr z) = never (cc)
+
     pub element-writes : (v : Option (List ℕ)) → Written f v → Content last pass (withDrive w (wrote (w .drive) rest v) (w .flight)) (k + 1) (w .drive .at + 1)
     element-writes v (conduct.reads read r) = record {
       tape = cartridge-left (as-new (some read) (conduct.reads read r));
-      seen = seen-writes (c .tape) (w .drive .at) here seen-here room (most (w .session .stage) (length (w .notes .accepted))) read (stands-read (queued .0) r);
+      seen = seen-writes (c .tape) (w .drive .at) here seen-here room (most (w .session .elements .eod) (length (w .notes .accepted))) read (stands-read (queued .0) r);
       below = below-user (some read);
       stored = c .stored;
       queue = λ _ _. queued .1;
       sent = c .sent;
+      eod-written = λ _ _ all. eod-stood read (stands-read (queued .0) r) (omega arith);
+      eod-named = unclosed;
     }
 
     pub element-fails : (v : Option (List ℕ)) → Left (w .drive .tape (w .drive .at)) f v → Content last pass (withDrive w (failing (w .drive) v) (w .flight)) k (w .drive .at + 1)
     element-fails v left = record {
       tape = cartridge-left left;
-      seen = seen-fails (c .tape) (w .drive .at) here seen-here room (most (w .session .stage) (length (w .notes .accepted))) f v (queued .0) left;
+      seen = seen-fails (c .tape) (w .drive .at) here seen-here room (most (w .session .elements .eod) (length (w .notes .accepted))) f v (queued .0) left;
       below = below-user v;
       stored = c .stored;
       queue = λ _ x. absurd (true≢false x);
       sent = c .sent;
+      eod-written = λ _ _ all. absurd (omega (arith, most (w .session .elements .eod) (length (w .notes .accepted))));
+      eod-named = unclosed;
     }
 
 -- one frame more

@@ -1,7 +1,7 @@
 -- Every move of the drive keeps the invariant. Assumes nothing.
-use Prim.Native.Nat.{ℕ, suc, _+_, _≤_}
+use Prim.Native.Nat.{ℕ, suc, _+_, _-_, _≤_}
 use mathlib.Core.Path.{_≡_, refl, sym, ap, subst, _∙_}
-use mathlib.Core.Bool.{true, false, _||_}
+use mathlib.Core.Bool.{Bool, true, false, _||_}
 use mathlib.Core.List.{List, _∷_}
 use mathlib.Core.Logic.{inl, inr}
 use mathlib.Core.Option.{Option}
@@ -26,7 +26,7 @@ use Rattle.archive.proofs.tape.Basics.{none-sent, answered-sent}
 use Rattle.archive.proofs.tape.Stands.{itemAt, Stands, Queue}
 use Rattle.drive.specs.Senses.{meaningOf}
 use Rattle.drive.specs.Listed.{Listed}
-use Rattle.archive.specs.Tape.{Cartridge}
+use Rattle.archive.specs.Tape.{Tape, Cartridge}
 use Rattle.archive.proofs.tape.Scan.{Seen}
 use Rattle.archive.proofs.recording.HeaderCopies.{Below}
 use Rattle.archive.proofs.recording.CopiesLink as copies
@@ -39,9 +39,9 @@ use Rattle.archive.proofs.recording.ElementsMoves as writing
 use Rattle.archive.proofs.recording.ElementsMoves.{Goes, writing-goes, Outcome, elements-answer, asks-off-header}
 use Rattle.archive.proofs.recording.ContentMoves.{header-content, element-writes, element-fails, queue-more}
 use Rattle.archive.proofs.recording.Invariant as inv
-use Rattle.archive.proofs.recording.Invariant.{totalOf, Course, Content, Live, Safe, halted, allowed, Inv, live, rejecting, over}
+use Rattle.archive.proofs.recording.Invariant.{totalOf, EodDue, Course, Content, Live, Safe, halted, allowed, Inv, live, rejecting, over}
 use Rattle.archive.proofs.recording.InvariantLaws.{unreported}
-use Rattle.archive.proofs.recording.Setting.{Setting}
+use Rattle.archive.proofs.recording.Setting.{Setting, EodAt}
 
 -- ---- a drive whose session has ended, or will
 
@@ -113,7 +113,7 @@ module _ {last pass : ℕ} {premises : Type 0} {w : World} (set : Setting last p
     on : Goes last (w .session .elements .first .0) (w .session .elements .pending) (w .drive) rest (l .k) (l .edge) (λ e k edge. Writing last (w .session) e k edge (w .flight))
     on = writing-goes f rest (l .counted .held) b free agree
 
-    room : l .k + 1 ≤ totalOf (w .session .stage) (length (w .notes .accepted))
+    room : l .k + 1 ≤ totalOf (w .session .elements .eod) (length (w .notes .accepted))
     room = omega (arith, on .room, l .counted .numbered)
 
     writes : (v : Option (List ℕ)) → Written f v → Inv last pass premises (withDrive w (wrote (w .drive) rest v) (w .flight))
@@ -129,16 +129,14 @@ module _ {last pass : ℕ} {premises : Type 0} {w : World} (set : Setting last p
         (λ p u. element-fails w (set .large) (l .content p u) f rest b free st (on .place) (on .edge-here) room v x))
 
   live-acts : Course last w (l .k) (l .edge) → (d : Drive) → Acts (w .drive) d → Inv last pass premises (withDrive w d (w .flight))
-  live-acts (inv.opening s t a) d (conduct.writes f rest v b free x) = header-writes f rest b free (inl s) a (λ _ y. inv.opening s t y) v x
-  live-acts (inv.opening s t a) d (conduct.fails f rest v b free x) = header-fails f rest b free (inl s) a (λ _ y. inv.opening s t y) v x
-  live-acts (inv.writing s a) d (conduct.writes f rest v b free x) = writes f rest b free (inl s) a (λ _ _ _ y. inv.writing s y) v x
-  live-acts (inv.writing s a) d (conduct.fails f rest v b free x) = fails f rest b free (inl s) a (λ _ _ _ y. inv.writing s y) v x
-  live-acts (inv.ending s c p a) d (conduct.writes f rest v b free x) = writes f rest b free (inr s) a (λ _ _ _ y. inv.ending s c p y) v x
-  live-acts (inv.ending s c p a) d (conduct.fails f rest v b free x) = fails f rest b free (inr s) a (λ _ _ _ y. inv.ending s c p y) v x
-  live-acts (inv.closing s c k e a) d (conduct.writes f rest v b free x) = header-writes f rest b free (inr s) a (λ _ y. inv.closing s c k e y) v x
-  live-acts (inv.closing s c k e a) d (conduct.fails f rest v b free x) = header-fails f rest b free (inr s) a (λ _ y. inv.closing s c k e y) v x
-  live-acts (inv.finished s c k e fl a g rests copy) d (conduct.writes f rest v b free x) = rests-still b free rests
-  live-acts (inv.finished s c k e fl a g rests copy) d (conduct.fails f rest v b free x) = rests-still b free rests
+  live-acts (inv.opening s u t a) d (conduct.writes f rest v b free x) = header-writes f rest b free (inl s) a (λ _ y. inv.opening s u t y) v x
+  live-acts (inv.opening s u t a) d (conduct.fails f rest v b free x) = header-fails f rest b free (inl s) a (λ _ y. inv.opening s u t y) v x
+  live-acts (inv.writing s u a) d (conduct.writes f rest v b free x) = writes f rest b free s a (λ _ _ _ y. inv.writing s u y) v x
+  live-acts (inv.writing s u a) d (conduct.fails f rest v b free x) = fails f rest b free s a (λ _ _ _ y. inv.writing s u y) v x
+  live-acts (inv.closing s u c k e a) d (conduct.writes f rest v b free x) = header-writes f rest b free (inr s) a (λ _ y. inv.closing s u c k e y) v x
+  live-acts (inv.closing s u c k e a) d (conduct.fails f rest v b free x) = header-fails f rest b free (inr s) a (λ _ y. inv.closing s u c k e y) v x
+  live-acts (inv.finished s u c k e fl a g rests copy) d (conduct.writes f rest v b free x) = rests-still b free rests
+  live-acts (inv.finished s u c k e fl a g rests copy) d (conduct.fails f rest v b free x) = rests-still b free rests
 
   -- ---- it answers
 
@@ -165,16 +163,21 @@ module _ {last pass : ℕ} {premises : Type 0} {w : World} (set : Setting last p
     lost n a h off safe = rejecting within (record { reply = r; going = l .going; awaits = a; replied = refl; unlisted = h; off-headers = off; safe = safe; unreported = unreported l n })
 
     -- the tape stays
-    same-content : {k edge : ℕ} → Content last pass w k edge → (ElementStage (w .session) → d .failed ≡ false → Queue last pass (w .notes .accepted) k (d .buffer)) → Content last pass (withDrive w d (recordings.answered r)) k edge
-    same-content {k} {edge} x queue =
+    same-content : {k edge : ℕ} → Content last pass w k edge → (ElementStage (w .session) → d .failed ≡ false → Queue last pass (w .notes .accepted) k (d .buffer))
+        → (ElementStage (w .session) → w .session .elements .eod ≡ true → k ≡ length (w .notes .accepted) + 1 → d .at ≡ w .drive .at) → Content last pass (withDrive w d (recordings.answered r)) k edge
+    same-content {k} {edge} x queue stays =
         let e = sym (same-tape an .0) in
         record {
           tape = subst (Cartridge last) e (x .tape);
-          seen = subst (λ t. Seen last pass (w .notes .accepted) (totalOf (w .session .stage) (length (w .notes .accepted))) k edge t) e (x .seen);
+          seen = subst (λ t. Seen last pass (w .notes .accepted) (totalOf (w .session .elements .eod) (length (w .notes .accepted))) k edge t) e (x .seen);
           below = subst (Below last (w .session .copies .header)) e (x .below);
           stored = x .stored;
           queue = queue;
           sent = λ _ _ _ z. answered-sent z;
+          eod-written = λ st b all.
+              subst (λ (t : Tape). EodAt last pass (length (w .notes .accepted)) t (d .at - 1)) e
+              (subst (λ (a : ℕ). EodAt last pass (length (w .notes .accepted)) (w .drive .tape) (a - 1)) (sym (stays st b all)) (x .eod-written st b all));
+          eod-named = λ s. subst (λ (t : Tape). EodAt last pass (length (w .notes .accepted)) t (w .session .copies .header .eod .0)) e (x .eod-named s);
         }
 
     module _ (st : HeaderStage (w .session)) (agree : CopiesAgree (w .session) (w .drive) (w .flight))
@@ -187,11 +190,28 @@ module _ {last pass : ℕ} {premises : Type 0} {w : World} (set : Setting last p
               live within
               (relive d (recordings.answered r) (l .k) (l .edge)
               (course d (record { counts = agree .counts; placed = agree .placed; copying = copies.replied r a g (subst (λ z. copies.CopyAnswered (w .session .copies) d r z) (sym e) y) }))
-              (λ p u. same-content (l .content p u) (λ el _. header-not-element (w .session) st el)))
+              (λ p u. same-content (l .content p u) (λ el _. header-not-element (w .session) st el) (λ el _ _. header-not-element (w .session) st el)))
           go (copying.reject m safe) = lost (header-not-done (w .session) st) a (λ z. m (subst (λ k. Listed k (meaningOf (r .key) (r .asc) (r .ascq))) e z)) (λ el. header-not-element (w .session) st el) safe
 
-    module _ (st : ElementStage (w .session)) (agree : Writing last (w .session) (w .drive) (l .k) (l .edge) (w .flight))
+    module _ (st : ElementStage (w .session)) (due : EodDue (w .session .elements) (w .session .closed)) (agree : Writing last (w .session) (w .drive) (l .k) (l .edge) (w .flight))
         (course : (e : Drive) → Writing last (w .session) e (l .k) (l .edge) (recordings.answered r) → Course last (withDrive w e (recordings.answered r)) (l .k) (l .edge)) where
+      -- EOD, due alone and on tape, is outstanding: no LOCATE
+      at-answers : {e : Drive} {k2 : Command} → EodDue (w .session .elements) (w .session .closed) → w .session .elements .eod ≡ true → l .k ≡ length (w .notes .accepted) + 1 → Asks last (heldOf (w .session)) (w .session .elements .pending) (w .drive) (l .k) (l .edge) k2 → Answers (w .drive) frame k2 r e → e .at ≡ w .drive .at
+      at-answers due b all (elements.writes a p _ off low li) (conduct.takes _ _ m) = refl
+      at-answers due b all (elements.writes a p _ off low li) (conduct.overflows _ _ _ m) = refl
+      at-answers due b all (elements.writes a p _ off low li) (conduct.write-fails _ _ m y z) = refl
+      at-answers due b all (elements.writes a p _ off low li) (conduct.waits _ _ m) = refl
+      at-answers due b all (elements.writes a p _ off low li) (conduct.rejects _ _ m) = refl
+      at-answers due b all (elements.asks li) (conduct.counts _ m z) = refl
+      at-answers due b all (elements.asks li) (conduct.position-fails _ m y z) = refl
+      at-answers due b all (elements.asks li) (conduct.waits _ _ m) = refl
+      at-answers due b all (elements.asks li) (conduct.rejects _ _ m) = refl
+      at-answers (inv.not-yet v) b all (elements.moves a mo) an = clash b v
+      at-answers (inv.alone v c one) b all (elements.moves a mo) an =
+          let n = l .counted .numbered in
+          let t = ap (λ (x : Bool). totalOf x (length (w .notes .accepted))) b in
+          absurd (omega (arith, mo .first-is))
+
       queue-answers : {e : Drive} {k2 : Command} → w .flight ≡ recordings.sent k2 frame → Content last pass w (l .k) (l .edge) → Asks last (heldOf (w .session)) (w .session .elements .pending) (w .drive) (l .k) (l .edge) k2 → Answers (w .drive) frame k2 r e → e .failed ≡ false → Queue last pass (w .notes .accepted) (l .k) (e .buffer)
       unfolding Queue
       queue-answers q2 x (elements.writes a p due off low li) (conduct.takes _ _ m) free =
@@ -220,15 +240,14 @@ module _ {last pass : ℕ} {premises : Type 0} {w : World} (set : Setting last p
               live within
               (relive d (recordings.answered r) (l .k) (l .edge)
               (course d (elements.replied r a g (subst (λ z. Answered last (heldOf (w .session)) (w .session .elements .pending) d (l .k) (l .edge) r z) (sym e) y)))
-              (λ p u. same-content (l .content p u) (λ el free. queue-answers q (l .content p u) x an free)))
+              (λ p u. same-content (l .content p u) (λ el free. queue-answers q (l .content p u) x an free) (λ _ b all. at-answers due b all x an)))
           go (writing.reject m safe) = lost (element-not-done (w .session) st) a (λ z. m (subst (λ k. Listed k (meaningOf (r .key) (r .asc) (r .ascq))) e z)) (λ _ b f. asks-off-header (subst (λ k. Asks last (heldOf (w .session)) (w .session .elements .pending) (w .drive) (l .k) (l .edge) k) (sym e ∙ f) x)) safe
 
     live-answers : Course last w (l .k) (l .edge) → Inv last pass premises (withDrive w d (recordings.answered r))
-    live-answers (inv.opening s t a) = header-answers (inl s) a (λ _ y. inv.opening s t y) (subst (Copying (w .session) (w .drive)) q (a .copying))
-    live-answers (inv.writing s a) = element-answers (inl s) a (λ _ y. inv.writing s y) (subst (Writing last (w .session) (w .drive) (l .k) (l .edge)) q a)
-    live-answers (inv.ending s cl p a) = element-answers (inr s) a (λ _ y. inv.ending s cl p y) (subst (Writing last (w .session) (w .drive) (l .k) (l .edge)) q a)
-    live-answers (inv.closing s cl k e a) = header-answers (inr s) a (λ _ y. inv.closing s cl k e y) (subst (Copying (w .session) (w .drive)) q (a .copying))
-    live-answers (inv.finished s cl k e fl a g rests copy) = none-sent (sym fl ∙ q)
+    live-answers (inv.opening s u t a) = header-answers (inl s) a (λ _ y. inv.opening s u t y) (subst (Copying (w .session) (w .drive)) q (a .copying))
+    live-answers (inv.writing s u a) = element-answers s u a (λ _ y. inv.writing s u y) (subst (Writing last (w .session) (w .drive) (l .k) (l .edge)) q a)
+    live-answers (inv.closing s u cl k e a) = header-answers (inr s) a (λ _ y. inv.closing s u cl k e y) (subst (Copying (w .session) (w .drive)) q (a .copying))
+    live-answers (inv.finished s u cl k e fl a g rests copy) = none-sent (sym fl ∙ q)
 
 -- ---- the whole
 

@@ -11,7 +11,7 @@ use lib.Dec.{eqb}
 use lib.ListN.{length}
 use Rattle.geometry.specs.Cartridge.{isUser}
 use Rattle.geometry.proofs.TestLaws.{either-right}
-use Rattle.geometry.proofs.Impossible.{never}
+use Rattle.geometry.proofs.Impossible.{never, clash}
 use Rattle.drive.specs.Command.{commandAddress}
 use Rattle.drive.specs.Cases.{locateGood, locateBusy, writeGood, writeBusy, writeFailed, writeOverflow, positionGood, positionBusy, positionFailed}
 use Rattle.drive.specs.Listed.{Means}
@@ -56,8 +56,8 @@ use Rattle.archive.proofs.recording.Accepts.{settled-cases}
 use Rattle.archive.proofs.recording.Closes.{eod-live}
 use Rattle.archive.proofs.recording.HeaderReplies.{case-is, asked-so, repliedWorld, ends-so}
 use Rattle.archive.proofs.recording.Invariant as inv
-use Rattle.archive.proofs.recording.Invariant.{totalOf, spareOf, Counted, Course, Content, Live, Safe, Inv, live}
-use Rattle.archive.proofs.recording.Setting.{Setting}
+use Rattle.archive.proofs.recording.Invariant.{totalOf, spareOf, Counted, EodDue, Course, Content, Live, Safe, Inv, live}
+use Rattle.archive.proofs.recording.Setting.{Setting, EodAt}
 
 -- nothing of the user's is above LAST
 seen-top : {last pass total k edge : ℕ} {xs : List Element} {t : Tape} → 3000 ≤ last → Cartridge last t → last + 1 ≤ edge → Seen last pass xs total k edge t → Seen last pass xs total k (last + 1) t
@@ -84,6 +84,9 @@ module _ {last pass : ℕ} {premises : Type 0} (w : World) (r : Reply) (set : Se
     abbrev stepped : State
     stepped = withElements (answeredOf (w .session)) e
 
+    total-so : totalOf (e .eod) (length (w .notes .accepted)) ≡ totalOf (w .session .elements .eod) (length (w .notes .accepted))
+    total-so = ap (λ (x : Bool). totalOf x (length (w .notes .accepted))) (s .eod-is)
+
     counted-so : Counted last (length (w .notes .accepted)) stepped
     counted-so =
         let c = l .counted in
@@ -93,7 +96,7 @@ module _ {last pass : ℕ} {premises : Type 0} (w : World) (r : Reply) (set : Se
         let n-low = s .confirmed in
         let pending-is = s .pending-is in
         let first-is = s .first-is in
-        record { wide = c .wide; held = s .held; windowed = omega arith; numbered = omega arith; marks = ap (λ (x : List Bool). length x) (s .marks-is) ∙ c .marks; room = s .room }
+        record { wide = c .wide; held = s .held; windowed = omega arith; numbered = omega (arith, total-so); marks = ap (λ (x : List Bool). length x) (s .marks-is) ∙ c .marks; room = s .room }
 
     stored-so : Content last pass w (l .k) (l .edge) → (i : ℕ) → i < e .pending → StoredAs (itemAt (w .notes .accepted) (e .first .0 + i)) (w .window) (e .marks) (windowOf (w .session)) (e .first .0 + i)
     stored-so c i h =
@@ -108,11 +111,13 @@ module _ {last pass : ℕ} {premises : Type 0} (w : World) (r : Reply) (set : Se
         let c = l .content p u in
         record {
           tape = c .tape;
-          seen = seen-moves (c .tape) (s .tried) (s .further) (c .seen);
+          seen = subst (λ (n : ℕ). Seen last pass (w .notes .accepted) n (l .k) (s .tried) (w .drive .tape)) (sym total-so) (seen-moves (c .tape) (s .tried) (s .further) (c .seen));
           below = c .below;
           stored = stored-so c;
           queue = c .queue;
           sent = λ _ _ _ z. none-sent z;
+          eod-written = λ q b n. c .eod-written q (sym (s .eod-is) ∙ b) n;
+          eod-named = λ q. ⊎-elim (λ z. never (cc)) (λ z. never (cc)) q;
         }
 
     stepped-live : Course last (repliedWorld w stepped) (l .k) (s .tried) → Live last pass premises (repliedWorld w stepped)
@@ -129,18 +134,18 @@ module _ {last pass : ℕ} {premises : Type 0} (w : World) (r : Reply) (set : Se
 
     -- ---- EOD is on tape
 
-    module _ (q : w .session .stage ≡ S.Eod) (closed : w .session .closed ≡ true) (some : 0 < w .session .elements .pending) (none : e .pending ≡ 0) where
-      on-tape : (l .k ≡ e .first .0) × AtRest (w .drive) × (isUser last (e .next .0 - 1) ≡ true)
+    module _ (v : w .session .elements .eod ≡ true) (closed : w .session .closed ≡ true) (some : 0 < w .session .elements .pending) (none : e .pending ≡ 0) where
+      on-tape : (l .k ≡ e .first .0) × AtRest (w .drive) × (isUser last (e .next .0 - 1) ≡ true) × (e .next .0 ≡ w .drive .at)
       on-tape = s .all some none
 
-      total : totalOf (w .session .stage) (length (w .notes .accepted)) ≡ length (w .notes .accepted) + 1
-      total = ap (λ (x : Stage). totalOf x (length (w .notes .accepted))) q
+      total : totalOf (w .session .elements .eod) (length (w .notes .accepted)) ≡ length (w .notes .accepted) + 1
+      total = ap (λ (x : Bool). totalOf x (length (w .notes .accepted))) v
 
       all-on : l .k ≡ length (w .notes .accepted) + 1
-      all-on = let n = counted-so .numbered in let k = on-tape .0 in omega (arith, total)
+      all-on = let n = counted-so .numbered in let k = on-tape .0 in omega (arith, total-so, total)
 
       count-up : (w .session .copies .header .update + 1) % 2 ^ 32 ≡ w .session .copies .header .update + 1
-      count-up = mod-eq-of-lt (let c = l .carried .count-fits in omega (arith, ap spareOf q))
+      count-up = mod-eq-of-lt (let c = l .carried .count-fits in omega (arith, ap spareOf st))
 
       below-so : Below last (w .session .copies .header) (w .drive .tape) → Below last (closingHeader stepped) (w .drive .tape)
       below-so b a f at =
@@ -163,14 +168,14 @@ module _ {last pass : ℕ} {premises : Type 0} (w : World) (r : Reply) (set : Se
             k = l .k;
             edge = last + 1;
             going = l .going;
-            counted = record { wide = c .wide; held = c .held; windowed = c .windowed; numbered = c .numbered ∙ total; marks = c .marks; room = c .room };
+            counted = record { wide = c .wide; held = c .held; windowed = c .windowed; numbered = c .numbered; marks = c .marks; room = c .room };
             carried = record {
               last-is = l .carried .last-is;
               pass-is = l .carried .pass-is;
               eod-fits = either-right (eqb (e .next .0 - 1) 0) (isUser last (e .next .0 - 1)) (on-tape .2);
-              count-fits = let h = l .carried .count-fits in omega (arith, count-up, ap spareOf q);
+              count-fits = let h = l .carried .count-fits in omega (arith, count-up, ap spareOf st);
             };
-            course = inv.closing refl closed all-on refl (record {
+            course = inv.closing refl (s .eod-is ∙ v) closed all-on refl (record {
               counts = start-counts (closingHeader stepped);
               placed = start-placed (closingHeader stepped);
               copying = copies.to-seek refl again (record { due = refl; rests = on-tape .1; kept = inl refl });
@@ -180,43 +185,41 @@ module _ {last pass : ℕ} {premises : Type 0} (w : World) (r : Reply) (set : Se
                 let x = l .content p u in
                 record {
                   tape = x .tape;
-                  seen = seen-all x;
+                  seen = subst (λ (n : ℕ). Seen last pass (w .notes .accepted) n (l .k) (last + 1) (w .drive .tape)) (sym (total-so ∙ total)) (seen-all x);
                   below = below-so (x .below);
                   stored = λ i h. absurd (omega arith);
-                  queue = λ el _. ⊎-elim (λ z. never (cc)) (λ z. never (cc)) el;
+                  queue = λ el _. never (cc);
                   sent = λ _ _ _ z. none-sent z;
+                  eod-written = λ el _ _. never (cc);
+                  eod-named = λ _. subst (λ (a : ℕ). EodAt last pass (length (w .notes .accepted)) (w .drive .tape) (a - 1)) (sym (on-tape .3)) (x .eod-written st v all-on);
                 };
           }
 
   -- ---- by stage
 
-  pub data Ends : Type 0 where
-    writing : w .session .stage ≡ S.Elements → Ends
-    ending-one : w .session .stage ≡ S.Eod → w .session .closed ≡ true → w .session .elements .pending ≡ 1 → Ends
-
-  settles : w .session .exchange .again ≡ false → Ends → (e : Elements) → Step last (w .session) (w .drive) (l .k) (l .edge) e → Inv last pass premises (repliedWorld w (settledOf (withElements (answeredOf (w .session)) e)))
-  settles again (writing q) e s =
-      let x = stepped-live e s (inv.writing q (s .writing)) in
-      settled-cases (withElements (answeredOf (w .session)) e) (λ (v : State). Inv last pass premises (repliedWorld w v)) (λ _. live wr x)
-      (λ a b c. live wr (eod-live (repliedWorld w (withElements (answeredOf (w .session)) e)) x a b c)) (λ a _. never (cc))
-  settles again (ending-one q c one) e s =
-      settled-cases (withElements (answeredOf (w .session)) e) (λ (v : State). Inv last pass premises (repliedWorld w v)) (λ why. live wr (stepped-live e s (inv.ending q c (still why) (s .writing))))
-      (λ a _ _. never (cc)) (λ a none. live wr (closing-live e s q c (omega arith) none again))
+  settles : w .session .exchange .again ≡ false → EodDue (w .session .elements) (w .session .closed) → (e : Elements) → Step last (w .session) (w .drive) (l .k) (l .edge) e → Inv last pass premises (repliedWorld w (settledOf (withElements (answeredOf (w .session)) e)))
+  settles again (inv.not-yet v) e s =
+      let x = stepped-live e s (inv.writing st (inv.not-yet (s .eod-is ∙ v)) (s .writing)) in
+      settled-cases (withElements (answeredOf (w .session)) e) (λ (u : State). Inv last pass premises (repliedWorld w u)) (λ _. live wr x)
+      (λ a b c z. live wr (eod-live (repliedWorld w (withElements (answeredOf (w .session)) e)) x a b c z)) (λ _ b _. clash b (s .eod-is ∙ v))
+  settles again (inv.alone v c one) e s =
+      settled-cases (withElements (answeredOf (w .session)) e) (λ (u : State). Inv last pass premises (repliedWorld w u)) (λ why. live wr (stepped-live e s (inv.writing st (inv.alone (s .eod-is ∙ v) c (still why)) (s .writing))))
+      (λ _ b _ _. clash (s .eod-is ∙ v) b) (λ _ _ none. live wr (closing-live e s v c (omega arith) none again))
     where
-      still : (0 < e .pending) ⊎ (HeaderStage (withElements (answeredOf (w .session)) e) ⊎ (w .session .stage ≡ S.Done)) ⊎ ((w .session .stage ≡ S.Elements) × (w .session .closed ≡ false)) → e .pending ≡ 1
+      still : (0 < e .pending) ⊎ (HeaderStage (withElements (answeredOf (w .session)) e) ⊎ (w .session .stage ≡ S.Done)) ⊎ ((e .eod ≡ false) × (w .session .closed ≡ false)) → e .pending ≡ 1
       still (inl h) = let p = s .pending-is in omega arith
       still (inr (inl (inl (inl h)))) = never (cc)
       still (inr (inl (inl (inr h)))) = never (cc)
       still (inr (inl (inr h))) = never (cc)
-      still (inr (inr h)) = let z = h .0 in never (cc)
+      still (inr (inr h)) = clash (s .eod-is ∙ v) (h .0)
 
   -- ---- by what the drive gave
 
-  module _ (again : w .session .exchange .again ≡ false) (asked : w .session .exchange .awaiting ≡ true) (which : Ends) where
+  module _ (again : w .session .exchange .again ≡ false) (asked : w .session .exchange .awaiting ≡ true) (which : EodDue (w .session .elements) (w .session .closed)) where
     reached-so : {x : answer.Step} → Reached last (w .session) (w .drive) (l .k) (l .edge) x → Safe last (w .drive) → After (elementReplyBy x (w .session))
     reached-so (steps.goes e s) safe = settles again which e s
-    reached-so (steps.unlawful e) safe = ends-so w r set wr l 8 (element-not-done (w .session) st) safe
-    reached-so (steps.full e) safe = ends-so w r set wr l 9 (element-not-done (w .session) st) safe
+    reached-so (steps.unlawful e) safe = ends-so w r set wr l (withElements (w .session) e) 8 (element-not-done (w .session) st) safe
+    reached-so (steps.full e) safe = ends-so w r set wr l (withElements (w .session) e) 9 (element-not-done (w .session) st) safe
 
     by : {x : answer.Step} (n : ℕ) → caseOf (w .session) r ≡ n → answerOf (w .session) n r ≡ elementReplyBy x (w .session) → Reached last (w .session) (w .drive) (l .k) (l .edge) x → Safe last (w .drive) → After (replyOf (w .session) r)
     by n e a x safe = subst After (sym (reply-so (w .session) r (asked-so (w .session) r (l .going) asked) e ∙ a)) (reached-so x safe)
@@ -233,17 +236,13 @@ module _ {last pass : ℕ} {premises : Type 0} (w : World) (r : Reply) (set : Se
           going = l .going;
           counted = let c = l .counted in record { wide = c .wide; held = c .held; windowed = c .windowed; numbered = c .numbered; marks = c .marks; room = c .room };
           carried = l .carried;
-          course = course which;
+          course = inv.writing st which (elements.again refl refl asks);
           reported = l .reported;
-          content = λ p u. let c = l .content p u in record { tape = c .tape; seen = c .seen; below = c .below; stored = c .stored; queue = c .queue; sent = λ _ _ _ z. none-sent z };
+          content = λ p u. let c = l .content p u in record { tape = c .tape; seen = c .seen; below = c .below; stored = c .stored; queue = c .queue; sent = λ _ _ _ z. none-sent z; eod-written = c .eod-written; eod-named = c .eod-named };
         }))
       where
         asks : Asks last (heldOf (repeatedOf (w .session))) (w .session .elements .pending) (w .drive) (l .k) (l .edge) (w .session .exchange .command)
         asks = reask (heldOf (w .session)) (heldOf (repeatedOf (w .session))) refl refl refl refl (subst (λ (i : Command). Asks last (heldOf (w .session)) (w .session .elements .pending) (w .drive) (l .k) (l .edge) i) (sym e) y)
-
-        course : Ends → Course last (repliedWorld w (repeatedOf (w .session))) (l .k) (l .edge)
-        course (writing q) = inv.writing q (elements.again refl refl asks)
-        course (ending-one q c one) = inv.ending q c one (elements.again refl refl asks)
 
     busy-by : {c : Command} → Means r busy → w .session .exchange .command ≡ c → Asks last (heldOf (w .session)) (w .session .elements .pending) (w .drive) (l .k) (l .edge) c → After (replyOf (w .session) r)
     unfolding answerOf
@@ -276,5 +275,5 @@ module _ {last pass : ℕ} {premises : Type 0} (w : World) (r : Reply) (set : Se
         kept-located y = answer.kept (answer.locatedOf (w .session .elements) (counting.at (commandAddress y)))
     element-replies c e (elements.waits k m x) = busy-by m e x
 
-  pub elements-reply : Ends → Writing last (w .session) (w .drive) (l .k) (l .edge) (recordings.answered r) → After (replyOf (w .session) r)
+  pub elements-reply : EodDue (w .session .elements) (w .session .closed) → Writing last (w .session) (w .drive) (l .k) (l .edge) (recordings.answered r) → After (replyOf (w .session) r)
   elements-reply which (elements.replied _ a g x) = element-replies g a which (w .session .exchange .command) refl x

@@ -9,16 +9,15 @@ use native.Mathlib.Omega.{arith}
 use borrow.Author.Tests.{ltb-true, ltb-false, leb-false, eqb-false}
 use lib.Dec.{eqb, ltb, leb}
 use lib.ListN.{length}
-use Rattle.geometry.specs.Cartridge.{isUser, pastReserved}
+use Rattle.geometry.specs.Cartridge.{isUser}
 use Rattle.geometry.specs.Place as place
-use Rattle.geometry.specs.WriteError.{stepOf}
+use Rattle.geometry.specs.WriteError.{stepOf, targetAddress}
 use Rattle.geometry.specs.declared.address.Address.{Address}
 use Rattle.geometry.proofs.PickLaws.{pick-by}
 use Rattle.archive.specs.Conduct.{Drive, AtRest, empty, stopped}
-use Rattle.elements.specs.Elements as counting
-use Rattle.elements.specs.Elements.{at, baseOf, numberOf}
+use Rattle.elements.specs.Elements.{baseOf, limitOf, numberOf}
 use Rattle.elements.specs.Answer as answer
-use Rattle.elements.specs.Answer.{kept, refusing, locatedOf, takenOf, confirmedOf, relocatedOf, overflowedOf, failedTo, countedOf, failedOf}
+use Rattle.elements.specs.Answer.{kept, refusing, locatedOf, takenOf, confirmedOf, overflowedOf, notedOf, failedTo, countedOf, failedOf}
 use Rattle.elements.specs.declared.state.Elements.{Elements}
 use Rattle.recording_state.specs.Session.{withElements}
 use Rattle.recording_state.specs.Reply.{answeredOf}
@@ -42,9 +41,10 @@ pub record Step (last : ℕ) (s : State) (d : Drive) (k edge : ℕ) (e : Element
   pub held : e .outstanding ≤ e .pending
   pub room : e .limit .0 ≤ last + 1
   pub marks-is : e .marks ≡ s .elements .marks
+  pub eod-is : e .eod ≡ s .elements .eod
   pub writing : Writing last (withElements (answeredOf s) e) d k tried recordings.no-command
-  -- where the last was confirmed, all are on tape, and it lies before the next address
-  pub all : 0 < s .elements .pending → e .pending ≡ 0 → (k ≡ e .first .0) × AtRest d × (isUser last (e .next .0 - 1) ≡ true)
+  -- where the last was confirmed, all are on tape, and it lies before the next address, where the drive is
+  pub all : 0 < s .elements .pending → e .pending ≡ 0 → (k ≡ e .first .0) × AtRest d × (isUser last (e .next .0 - 1) ≡ true) × (e .next .0 ≡ d .at)
 
 pub data Reached (last : ℕ) (s : State) (d : Drive) (k edge : ℕ) : answer.Step → Type 0 where
   goes : (e : Elements) → Step last s d k edge e → Reached last s d k edge (kept e)
@@ -70,6 +70,7 @@ module _ (last : ℕ) (s : State) (d : Drive) (k edge : ℕ) (small : last + 65 
         held = omega (arith, out);
         room = room;
         marks-is = refl;
+        eod-is = refl;
         writing = elements.at-place refl again (record {
           placed = l .placed;
           taken-is = omega (arith, out);
@@ -94,6 +95,7 @@ module _ (last : ℕ) (s : State) (d : Drive) (k edge : ℕ) (small : last + 65 
     held = held;
     room = omega arith;
     marks-is = refl;
+    eod-is = refl;
     writing = elements.at-place refl again (record { placed = l .placed; taken-is = l .taken-is; next-is = l .next-is; known = l .known; roof = l .roof; zone = l .zone; spread = l .spread; edge-is = l .edge-is });
     all = λ p z. absurd (omega arith);
   }
@@ -115,6 +117,7 @@ module _ (last : ℕ) (s : State) (d : Drive) (k edge : ℕ) (small : last + 65 
         held = held;
         room = room;
         marks-is = refl;
+        eod-is = refl;
         writing = elements.at-place refl again (record {
           placed = refl;
           taken-is = omega arith;
@@ -161,6 +164,7 @@ module _ (last : ℕ) (s : State) (d : Drive) (k edge : ℕ) (small : last + 65 
           held = omega arith;
           room = room;
           marks-is = refl;
+          eod-is = refl;
           writing = elements.at-place refl again (record {
             placed = l .placed;
             taken-is = omega arith;
@@ -172,7 +176,7 @@ module _ (last : ℕ) (s : State) (d : Drive) (k edge : ℕ) (small : last + 65 
             edge-is = l .edge-is;
           });
           all = λ p z.
-              (omega arith, empty (no-frames (d .buffer) (omega arith)), ranges-user last (s .elements .next .0 - 1) (⊎-elim (λ y. inl (omega arith, omega arith)) (λ y. inr (omega arith, omega arith)) (l .zone)));
+              (omega arith, empty (no-frames (d .buffer) (omega arith)), ranges-user last (s .elements .next .0 - 1) (⊎-elim (λ y. inl (omega arith, omega arith)) (λ y. inr (omega arith, omega arith)) (l .zone)), omega arith);
         }))
 
     step-least : (skip : ℕ) → 1 ≤ stepOf skip
@@ -186,12 +190,12 @@ module _ (last : ℕ) (s : State) (d : Drive) (k edge : ℕ) (small : last + 65 
         (λ y.
         let above = ltb-false p (baseOf (s .elements)) x in
         let below = leb-false (s .elements .next .0) p y in
-        pick-by (λ (z : place.PlaceSaid). Reached last s d k edge (failedTo (s .elements) p z)) (ltb (pastReserved (p + stepOf skip)) (s .elements .limit .0)) (λ fits. relocated above below (ltb-true _ _ fits)) (λ _. full (s .elements))))
+        pick-by (λ (z : place.PlaceSaid). Reached last s d k edge (failedTo (notedOf (s .elements) p skip) z)) (ltb (targetAddress p skip) (limitOf (s .elements))) (λ fits. relocated above below (ltb-true _ _ fits)) (λ _. full (notedOf (s .elements) p skip))))
       where
-        relocated : baseOf (s .elements) ≤ p → p < s .elements .next .0 → pastReserved (p + stepOf skip) < s .elements .limit .0
-            → Reached last s d k edge (kept (relocatedOf (confirmedOf (s .elements) (p - baseOf (s .elements))) (counting.at (pastReserved (p + stepOf skip)))))
+        relocated : baseOf (s .elements) ≤ p → p < s .elements .next .0 → targetAddress p skip < limitOf (s .elements) → Reached last s d k edge (kept (notedOf (s .elements) p skip))
         relocated above below fits =
-            let target = pastReserved (p + stepOf skip) in
+            let target = targetAddress p skip in
+            let exactly : target % 2 ^ 32 ≡ target = mod-eq-of-lt (omega (arith, small)) in
             let n = p - baseOf (s .elements) in
             let taken-is = l .taken-is in
             let next-is = l .next-is in
@@ -201,7 +205,7 @@ module _ (last : ℕ) (s : State) (d : Drive) (k edge : ℕ) (small : last + 65 
             let least = past-reserved-least (p + stepOf skip) in
             let one = step-least skip in
             let edge-is : edge ≡ d .at + 1 = l .edge-is ∙ ap (λ (b : Bool). edgeOf b (d .at)) f in
-            goes (relocatedOf (confirmedOf (s .elements) n) (counting.at target)) (record {
+            goes (notedOf (s .elements) p skip) (record {
               n = n;
               tried = target;
               further = omega arith;
@@ -211,19 +215,20 @@ module _ (last : ℕ) (s : State) (d : Drive) (k edge : ℕ) (small : last + 65 
               held = omega arith;
               room = room;
               marks-is = refl;
+              eod-is = refl;
               writing = elements.to-locate refl again refl (record {
                 none-out = refl;
                 first-is = omega arith;
                 rests = stopped f;
-                roof = omega arith;
-                zone = clear (landing (p + stepOf skip));
-                spread = omega arith;
-                edge-is = refl;
+                roof = omega (arith, exactly);
+                zone = clear exactly (landing (p + stepOf skip));
+                spread = omega (arith, exactly);
+                edge-is = sym exactly;
               });
               all = λ q z. absurd (omega arith);
             })
           where
-            clear : Landing (p + stepOf skip) (pastReserved (p + stepOf skip)) → (pastReserved (p + stepOf skip) ≤ 2990) ⊎ (3000 ≤ pastReserved (p + stepOf skip))
-            clear (before h e) = inl (omega arith)
-            clear (across h g e) = inr (omega arith)
-            clear (behind h e) = inr (omega arith)
+            clear : targetAddress p skip % 2 ^ 32 ≡ targetAddress p skip → Landing (p + stepOf skip) (targetAddress p skip) → (targetAddress p skip % 2 ^ 32 ≤ 2990) ⊎ (3000 ≤ targetAddress p skip % 2 ^ 32)
+            clear q (before h e) = inl (omega arith)
+            clear q (across h g e) = inr (omega arith)
+            clear q (behind h e) = inr (omega arith)

@@ -11,7 +11,7 @@ use Rattle.geometry.specs.declared.address.Address.{Address}
 use Rattle.geometry.specs.declared.address.Seq.{Seq}
 use Rattle.geometry.proofs.TestLaws.{and-true, either-left, either-right}
 use Rattle.geometry.proofs.Impossible.{never, clash}
-use Rattle.geometry.proofs.PickLaws.{pick-t}
+use Rattle.geometry.proofs.PickLaws.{pick-t, pick-f}
 use Rattle.buffer.specs.Bytes.{agree}
 use Rattle.buffer.proofs.Agreement.{agree-is}
 use Rattle.frame.specs.Header.{headerFrame}
@@ -28,10 +28,9 @@ use Rattle.elements.specs.Elements as counting
 use Rattle.elements.specs.Due as due
 use Rattle.elements.proofs.DueView as rule
 use Rattle.recording_state.specs.Session.{windowOf, windowLength}
-use Rattle.recording_state.specs.Written.{writtenBy, writtenFrame}
+use Rattle.recording_state.specs.Written.{amongElements, writtenFrame}
 use Rattle.recording_state.specs.Fetch.{Fetching, fetchOf, awaits, frameFor, sending}
 use Rattle.recording_state.specs.declared.state.State.{State}
-use Rattle.recording_state.specs.declared.state.Stage.{Stage}
 use Rattle.recording_state.specs.declared.state.Stage.the-variants as S
 use Rattle.recording_state.proofs.FetchView as view
 use Rattle.recording_state.proofs.FetchView.{FetchView, fetch-view}
@@ -53,7 +52,7 @@ use Rattle.archive.proofs.recording.ElementsMoves.{link-safe}
 use Rattle.archive.proofs.recording.KeptAgreement.{Numbers, writing-numbers}
 use Rattle.archive.proofs.recording.SentFrames.{sent-element, sent-eod}
 use Rattle.archive.proofs.recording.Invariant as inv
-use Rattle.archive.proofs.recording.Invariant.{totalOf, Course, Content, Live, Safe, Inv, live, rejecting, over}
+use Rattle.archive.proofs.recording.Invariant.{EodDue, totalOf, Course, Content, Live, Safe, Inv, live, rejecting, over}
 use Rattle.archive.proofs.recording.InvariantLaws.{unreported}
 use Rattle.archive.proofs.recording.Setting.{Setting}
 
@@ -127,15 +126,14 @@ module _ {last pass : ℕ} {premises : Type 0} (w : World) (lent frame : List �
     content = λ p u.
         let b = as-left u in
         let c = l .content p (b .0) in
-        record { tape = c .tape; seen = c .seen; below = c .below; stored = stored-lent (b .1) c; queue = c .queue; sent = c .sent };
+        record { tape = c .tape; seen = c .seen; below = c .below; stored = stored-lent (b .1) c; queue = c .queue; sent = c .sent; eod-written = c .eod-written; eod-named = c .eod-named };
   }
     where
       course : Course last w (l .k) (l .edge) → Course last (lentWorld w lent (w .session) (w .flight) reported) (l .k) (l .edge)
-      course (inv.opening q t c) = inv.opening q t c
-      course (inv.writing q a) = inv.writing q a
-      course (inv.ending q c p a) = inv.ending q c p a
-      course (inv.closing q c a b g) = inv.closing q c a b g
-      course (inv.finished q c a b f g h r y) = inv.finished q c a b f g h r y
+      course (inv.opening q u t c) = inv.opening q u t c
+      course (inv.writing q u a) = inv.writing q u a
+      course (inv.closing q u c a b g) = inv.closing q u c a b g
+      course (inv.finished q u c a b f g h r y) = inv.finished q u c a b f g h r y
 
   -- ---- a command goes out
 
@@ -157,20 +155,20 @@ module _ {last pass : ℕ} {premises : Type 0} (w : World) (lent frame : List �
 
     -- what is known of the frame, by the command
     content-out : {edge : ℕ} → premises → w .notes .unaltered ≡ true → lent ≡ w .window
-        → Seen last pass (w .notes .accepted) (totalOf (w .session .stage) (length (w .notes .accepted))) (l .k) edge (w .drive .tape)
+        → Seen last pass (w .notes .accepted) (totalOf (w .session .elements .eod) (length (w .notes .accepted))) (l .k) edge (w .drive .tape)
         → ((a : Address) (f : List ℕ) → ElementStage (w .session) → recordings.sent c (frameFor c (w .session) lent frame) ≡ recordings.sent (Write a) f
         → Stands last pass (itemAt (w .notes .accepted) (w .session .elements .first .0 + w .session .elements .outstanding)) (w .session .elements .first .0 + w .session .elements .outstanding) f)
         → Content last pass sentWorld (l .k) edge
     content-out p u same seen sent =
         let x = l .content p u in
-        record { tape = x .tape; seen = seen; below = x .below; stored = stored-lent same x; queue = x .queue; sent = sent }
+        record { tape = x .tape; seen = seen; below = x .below; stored = stored-lent same x; queue = x .queue; sent = sent; eod-written = x .eod-written; eod-named = x .eod-named }
 
   -- ---- from a header stage
 
   module _ (st : HeaderStage (w .session)) where
     header-written : writtenFrame (w .session) lent ≡ headerFrame (w .session .copies .header)
     unfolding writtenFrame
-    header-written = ⊎-elim (λ q. ap (λ (y : Stage). writtenBy y (w .session) lent) q) (λ q. ap (λ (y : Stage). writtenBy y (w .session) lent) q) st
+    header-written = pick-f _ (⊎-elim (ap amongElements) (ap amongElements) st)
 
     header-sent : (c : Command) → HeaderSent (w .session .copies) c (frameFor c (w .session) lent frame)
     header-sent (Read a) = tt
@@ -262,19 +260,21 @@ module _ {last pass : ℕ} {premises : Type 0} (w : World) (lent frame : List �
 
   -- the frame of a WRITE
   module _ (long : length lent ≡ windowLength (w .session)) (numbers : Numbers last (w .session .elements .first .0) (w .session .elements .outstanding) (w .session .elements .pending) (l .k) (w .drive))
-      (alone : w .session .stage ≡ S.Eod → w .session .elements .pending ≡ 1) where
+      (phase : EodDue (w .session .elements) (w .session .closed)) where
     stands-sent : premises → w .notes .unaltered ≡ true → lent ≡ w .window → ElementStage (w .session) → w .session .elements .outstanding < w .session .elements .pending
         → Stands last pass (itemAt (w .notes .accepted) (w .session .elements .first .0 + w .session .elements .outstanding)) (w .session .elements .first .0 + w .session .elements .outstanding) (writtenFrame (w .session) lent)
-    stands-sent p u same (inl st) d =
-        let n = l .counted .numbered in
-        let t = ap (λ (x : Stage). totalOf x (length (w .notes .accepted))) st in
-        sent-element last pass (w .session) lent (w .notes .accepted) (l .carried .last-is) (l .carried .pass-is) (set .low) long (omega (arith, numbers .low, l .counted .windowed, l .counted .wide, set .small)) st (omega arith)
-        (stored-lent same (l .content p u) (w .session .elements .outstanding) d)
-    stands-sent p u same (inr st) d =
-        let n = l .counted .numbered in
-        let t = ap (λ (x : Stage). totalOf x (length (w .notes .accepted))) st in
-        let one = alone st in
-        sent-eod last pass (w .session) lent (w .notes .accepted) (l .carried .last-is) (l .carried .pass-is) (set .low) long (omega (arith, numbers .low, l .counted .windowed, l .counted .wide, set .small)) st (omega arith)
+    stands-sent p u same st d = go phase
+      where
+        go : EodDue (w .session .elements) (w .session .closed) → Stands last pass (itemAt (w .notes .accepted) (w .session .elements .first .0 + w .session .elements .outstanding)) (w .session .elements .first .0 + w .session .elements .outstanding) (writtenFrame (w .session) lent)
+        go (inv.not-yet v) =
+            let n = l .counted .numbered in
+            let t = ap (λ (x : Bool). totalOf x (length (w .notes .accepted))) v in
+            sent-element last pass (w .session) lent (w .notes .accepted) (l .carried .last-is) (l .carried .pass-is) (set .low) long (omega (arith, numbers .low, l .counted .windowed, l .counted .wide, set .small)) st v (omega arith)
+            (stored-lent same (l .content p u) (w .session .elements .outstanding) d)
+        go (inv.alone v closed one) =
+            let n = l .counted .numbered in
+            let t = ap (λ (x : Bool). totalOf x (length (w .notes .accepted))) v in
+            sent-eod last pass (w .session) lent (w .notes .accepted) (l .carried .last-is) (l .carried .pass-is) (set .low) long (omega (arith, numbers .low, l .counted .windowed, l .counted .wide, set .small)) st v (omega arith)
 
     element-out : (c : Command) → Out c → ElementStage (w .session) → ((edge : ℕ) → Writing last (awaits (w .session) c) (w .drive) (l .k) edge (recordings.sent c (frameFor c (w .session) lent frame)) → Course last (sentWorld c) (l .k) edge)
         → Inv last pass premises (sentWorld c)
@@ -336,7 +336,7 @@ module _ {last pass : ℕ} {premises : Type 0} (w : World) (lent frame : List �
     fetch-header (view.finished r ag d) te = header-not-done (w .session) st d
 
   -- among the elements
-  module _ (st : ElementStage (w .session)) (agree : Writing last (w .session) (w .drive) (l .k) (l .edge) (w .flight)) (alone : w .session .stage ≡ S.Eod → w .session .elements .pending ≡ 1)
+  module _ (st : ElementStage (w .session)) (agree : Writing last (w .session) (w .drive) (l .k) (l .edge) (w .flight)) (phase : EodDue (w .session .elements) (w .session .closed))
       (course : (c : Command) (edge : ℕ) → Writing last (awaits (w .session) c) (w .drive) (l .k) edge (recordings.sent c (frameFor c (w .session) lent frame)) → Course last (sentWorld w lent frame set wr l c) (l .k) edge) where
     numbers : Numbers last (w .session .elements .first .0) (w .session .elements .outstanding) (w .session .elements .pending) (l .k) (w .drive)
     numbers = writing-numbers (l .counted .held) agree
@@ -345,11 +345,11 @@ module _ {last pass : ℕ} {premises : Type 0} (w : World) (lent frame : List �
     fetch-elements (view.wrongPhase _) te = no-effect (omega arith) (omega arith) te
     fetch-elements (view.wrongLength _ _ _) te = no-effect (omega arith) (omega arith) te
     fetch-elements (view.repeating r ag) te =
-        as-named (w .session .exchange .command) (element-out w lent frame set wr l (r .windowRight) numbers alone (w .session .exchange .command) (again-element w lent frame set wr l ag (writing-idle (r .free) agree .0)) st (course (w .session .exchange .command)))
+        as-named (w .session .exchange .command) (element-out w lent frame set wr l (r .windowRight) numbers phase (w .session .exchange .command) (again-element w lent frame set wr l ag (writing-idle (r .free) agree .0)) st (course (w .session .exchange .command)))
     fetch-elements (view.copying r ag h) te = header-not-element (w .session) h st
     fetch-elements (view.stepping r ag el x d) te =
         let c = commandFor x in
-        as-named c (element-out w lent frame set wr l (r .windowRight) numbers alone c (out-element w lent frame set wr l (subst (rule.DueView (w .session .setup .depth) (w .session .elements)) d (rule.due-view (w .session .setup .depth) (w .session .elements))) ag (writing-idle (r .free) agree .0)) st (course c))
+        as-named c (element-out w lent frame set wr l (r .windowRight) numbers phase c (out-element w lent frame set wr l (subst (rule.DueView (w .session .setup .depth) (w .session .elements)) d (rule.due-view (w .session .setup .depth) (w .session .elements))) ag (writing-idle (r .free) agree .0)) st (course c))
     fetch-elements (view.resting r ag el d) te = live wr (quiet w lent frame set wr l (w .notes .reported) (l .reported))
     fetch-elements (view.stopping r ag el n d) te =
         let i = writing-idle (r .free) agree in
@@ -367,11 +367,10 @@ module _ {last pass : ℕ} {premises : Type 0} (w : World) (lent frame : List �
   fetch-done st ag (view.finished r _ d) te = live wr (quiet w lent frame set wr l true (λ _. st))
 
   live-fetch : Course last w (l .k) (l .edge) → {x : Fetching} → FetchView (w .session) lent frame x → TakesEffect (fetchNumber (x .said)) → After x
-  live-fetch (inv.opening q t c) v te = fetch-header (inl q) c (λ _ y. inv.opening q t y) v te
-  live-fetch (inv.writing q a) v te = fetch-elements (inl q) a (λ e. never (cc)) (λ _ _ y. inv.writing q y) v te
-  live-fetch (inv.ending q c p a) v te = fetch-elements (inr q) a (λ _. p) (λ _ _ y. inv.ending q c p y) v te
-  live-fetch (inv.closing q c a b g) v te = fetch-header (inr q) g (λ _ y. inv.closing q c a b y) v te
-  live-fetch (inv.finished q c a b f g h r y) v te = fetch-done q h v te
+  live-fetch (inv.opening q u t c) v te = fetch-header (inl q) c (λ _ y. inv.opening q u t y) v te
+  live-fetch (inv.writing q u a) v te = fetch-elements q a u (λ _ _ y. inv.writing q u y) v te
+  live-fetch (inv.closing q u c a b g) v te = fetch-header (inr q) g (λ _ y. inv.closing q u c a b y) v te
+  live-fetch (inv.finished q u c a b f g h r y) v te = fetch-done q h v te
 
 -- refused with 7
 wrong-phase : {X : Type 0} (s : State) (lent frame : List ℕ) → s .ended || s .exchange .awaiting ≡ true → TakesEffect (fetchNumber (fetchOf s lent frame .said)) → X

@@ -17,8 +17,8 @@ use Rattle.drive.specs.declared.command.Command.{Command}
 use Rattle.drive.specs.declared.reply.Reply.{Reply}
 use Rattle.copies.specs.Copies as copying
 use Rattle.elements.specs.declared.state.Elements.{Elements}
-use Rattle.recording_state.specs.Session.{Result, accepting, ending, withStage, withCopies, settledOf}
-use Rattle.recording_state.specs.Reply.{caseOf, answeredOf, repeatedOf, completedBy, headerReplyBy, answerOf, replyOf}
+use Rattle.recording_state.specs.Session.{Result, accepting, ending, followingOf, withStage, withCopies, settledOf}
+use Rattle.recording_state.specs.Reply.{caseOf, answeredOf, repeatedOf, headerReplyBy, answerOf, replyOf}
 use Rattle.recording_state.specs.declared.state.State.{State}
 use Rattle.recording_state.specs.declared.state.Stage.{Stage}
 use Rattle.recording_state.specs.declared.state.Stage.the-variants as S
@@ -42,7 +42,7 @@ use Rattle.archive.proofs.recording.Closes.{eod-live}
 use Rattle.archive.proofs.recording.Invariant as inv
 use Rattle.archive.proofs.recording.Invariant.{totalOf, spareOf, Course, Live, Safe, Inv, live, over}
 use Rattle.archive.proofs.recording.InvariantLaws.{unreported}
-use Rattle.archive.proofs.recording.Setting.{Setting}
+use Rattle.archive.proofs.recording.Setting.{Setting, EodAt}
 
 -- ---- which case a reply is
 
@@ -65,8 +65,8 @@ module _ {last pass : ℕ} {premises : Type 0} (w : World) (r : Reply) (set : Se
   abbrev After : Result → Type 0
   After x = Inv last pass premises (repliedWorld w (x .session))
 
-  pub ends-so : (n : ℕ) → (w .session .stage ≡ S.Done → ⊥) → Safe last (w .drive) → After (ending (w .session) n)
-  ends-so n d safe = over wr (record { ended = refl; none = refl; safe = safe; unreported = unreported l d })
+  pub ends-so : (s : State) (n : ℕ) → (w .session .stage ≡ S.Done → ⊥) → Safe last (w .drive) → After (ending s n)
+  ends-so s n d safe = over wr (record { ended = refl; none = refl; safe = safe; unreported = unreported l d })
 
   module _ (st : HeaderStage (w .session)) (again : w .session .exchange .again ≡ false) (asked : w .session .exchange .awaiting ≡ true) where
     sized-same : (v : State) → v .setup .highest ≡ w .session .setup .highest → v .elements ≡ w .session .elements → _≡_ {A = Sized} (record { top = v .setup .highest; els = v .elements }) (record { top = w .session .setup .highest; els = w .session .elements })
@@ -89,7 +89,7 @@ module _ {last pass : ℕ} {premises : Type 0} (w : World) (r : Reply) (set : Se
             wide = subst (λ (n : ℕ). n ≤ 63) (sym high) (c .wide);
             held = let h = c .held in omega arith;
             windowed = let h = c .windowed in omega (arith, high);
-            numbered = ap (λ (x : Elements). x .first .0 + x .pending) els ∙ c .numbered ∙ ap (λ (x : Stage). totalOf x (length (w .notes .accepted))) (sym stage);
+            numbered = ap (λ (x : Elements). x .first .0 + x .pending) els ∙ c .numbered ∙ ap (λ (x : Elements). totalOf (x .eod) (length (w .notes .accepted))) (sym els);
             marks = ap (λ (x : Elements). length (x .marks)) els ∙ c .marks;
             room = let h = c .room in omega arith;
           };
@@ -100,17 +100,19 @@ module _ {last pass : ℕ} {premises : Type 0} (w : World) (r : Reply) (set : Se
           let c = l .content p u in
           record {
             tape = c .tape;
-            seen = subst (λ (x : Stage). Seen last pass (w .notes .accepted) (totalOf x (length (w .notes .accepted))) (l .k) (l .edge) (w .drive .tape)) (sym stage) (c .seen);
+            seen = subst (λ (x : Elements). Seen last pass (w .notes .accepted) (totalOf (x .eod) (length (w .notes .accepted))) (l .k) (l .edge) (w .drive .tape)) (sym els) (c .seen);
             below = subst (λ (x : Header). Below last x (w .drive .tape)) (sym head) (c .below);
             stored = subst (λ (p : Sized). (i : ℕ) → i < p .els .pending → StoredAs (itemAt (w .notes .accepted) (p .els .first .0 + i)) (w .window) (p .els .marks) (p .top + 1) (p .els .first .0 + i)) (sym (sized-same v high els)) (c .stored);
-            queue = λ el _. header-not-element (w .session) st (⊎-elim (λ q. inl (sym stage ∙ q)) (λ q. inr (sym stage ∙ q)) el);
+            queue = λ el _. header-not-element (w .session) st (sym stage ∙ el);
             sent = λ _ _ _ z. none-sent z;
+            eod-written = λ el _ _. header-not-element (w .session) st (sym stage ∙ el);
+            eod-named = λ q. subst (λ (x : Header). EodAt last pass (length (w .notes .accepted)) (w .drive .tape) (x .eod .0)) (sym head) (c .eod-named (⊎-elim (λ z. inl (sym stage ∙ z)) (λ z. inr (sym stage ∙ z)) q));
           };
     }
 
   -- ---- the opening headers
 
-  module _ (q : w .session .stage ≡ S.OpeningHeaders) (t : inv.Unstarted last (w .session .elements) (l .k) (l .edge)) (again : w .session .exchange .again ≡ false) (asked : w .session .exchange .awaiting ≡ true) where
+  module _ (q : w .session .stage ≡ S.OpeningHeaders) (v : w .session .elements .eod ≡ false) (t : inv.Unstarted last (w .session .elements) (l .k) (l .edge)) (again : w .session .exchange .again ≡ false) (asked : w .session .exchange .awaiting ≡ true) where
     abbrev opened : State
     opened = withStage (answeredOf (w .session)) S.Elements
 
@@ -122,15 +124,14 @@ module _ {last pass : ℕ} {premises : Type 0} (w : World) (r : Reply) (set : Se
     opened-live : AtRest (w .drive) → Live last pass premises (repliedWorld w opened)
     opened-live rests =
         let c = l .counted in
-        let same = ap (λ (x : Stage). totalOf x (length (w .notes .accepted))) q in
         let target = t .target-is in
         record {
           k = l .k;
           edge = l .edge;
           going = l .going;
-          counted = record { wide = c .wide; held = c .held; windowed = c .windowed; numbered = c .numbered ∙ same; marks = c .marks; room = c .room };
+          counted = record { wide = c .wide; held = c .held; windowed = c .windowed; numbered = c .numbered; marks = c .marks; room = c .room };
           carried = subst (λ (n : ℕ). Carried last pass n (w .session .copies .header)) (ap spareOf q) (l .carried);
-          course = inv.writing refl (elements.to-locate refl again (t .relocates) (record {
+          course = inv.writing refl (inv.not-yet v) (elements.to-locate refl again (t .relocates) (record {
             none-out = t .none-out;
             first-is = t .first-is;
             rests = rests;
@@ -144,63 +145,66 @@ module _ {last pass : ℕ} {premises : Type 0} (w : World) (r : Reply) (set : Se
               let x = l .content p u in
               record {
                 tape = x .tape;
-                seen = subst (λ (n : ℕ). Seen last pass (w .notes .accepted) n (l .k) (l .edge) (w .drive .tape)) same (x .seen);
+                seen = x .seen;
                 below = x .below;
                 stored = x .stored;
                 queue = λ _ free. nothing-queued rests free;
                 sent = λ _ _ _ z. none-sent z;
+                eod-written = λ _ b _. clash b v;
+                eod-named = λ z. ⊎-elim (λ y. never (cc)) (λ y. never (cc)) z;
               };
         }
 
     opening-next : {s : copying.ProgressSaid} → Next (w .session .copies .header) (w .drive) s → Safe last (w .drive) → After (headerReplyBy s (w .session))
     opening-next (next.at-place c e n p x) safe =
-        live wr (more-live (inl q) again asked (withCopies (answeredOf (w .session)) c) (l .going) refl refl refl e (inv.opening q t (record { counts = n; placed = p; copying = copies.at-place refl again x })))
+        live wr (more-live (inl q) again asked (withCopies (answeredOf (w .session)) c) (l .going) refl refl refl e (inv.opening q v t (record { counts = n; placed = p; copying = copies.at-place refl again x })))
     opening-next (next.to-seek c e n p x) safe =
-        live wr (more-live (inl q) again asked (withCopies (answeredOf (w .session)) c) (l .going) refl refl refl e (inv.opening q t (record { counts = n; placed = p; copying = copies.to-seek refl again x })))
+        live wr (more-live (inl q) again asked (withCopies (answeredOf (w .session)) c) (l .going) refl refl refl e (inv.opening q v t (record { counts = n; placed = p; copying = copies.to-seek refl again x })))
     opening-next (next.through rests copy) safe =
-        subst (λ (x : Stage). Inv last pass premises (repliedWorld w (settledOf (completedBy x (answeredOf (w .session)))))) (sym q)
-        (settled-cases opened (λ (v : State). Inv last pass premises (repliedWorld w v)) (λ _. live wr (opened-live rests)) (λ a b c. live wr (eod-live (repliedWorld w opened) (opened-live rests) a b c)) (λ a _. never (cc)))
-    opening-next (next.ends n) safe = ends-so n (λ z. never (cc)) safe
+        subst (λ (x : Stage). Inv last pass premises (repliedWorld w (settledOf (withStage (answeredOf (w .session)) (followingOf x))))) (sym q)
+        (settled-cases opened (λ (v : State). Inv last pass premises (repliedWorld w v)) (λ _. live wr (opened-live rests)) (λ a b c z. live wr (eod-live (repliedWorld w opened) (opened-live rests) a b c z)) (λ _ b _. clash b v))
+    opening-next (next.ends n) safe = ends-so (w .session) n (λ z. never (cc)) safe
 
   -- ---- the closing headers
 
-  module _ (q : w .session .stage ≡ S.ClosingHeaders) (closed : w .session .closed ≡ true) (k0 : l .k ≡ length (w .notes .accepted) + 1) (e0 : l .edge ≡ last + 1) (again : w .session .exchange .again ≡ false) (asked : w .session .exchange .awaiting ≡ true) where
+  module _ (q : w .session .stage ≡ S.ClosingHeaders) (v : w .session .elements .eod ≡ true) (closed : w .session .closed ≡ true) (k0 : l .k ≡ length (w .notes .accepted) + 1) (e0 : l .edge ≡ last + 1) (again : w .session .exchange .again ≡ false) (asked : w .session .exchange .awaiting ≡ true) where
     abbrev done : State
     done = withStage (answeredOf (w .session)) S.Done
 
     done-live : AtRest (w .drive) → Copy (w .session .copies .header) (w .drive .tape) 2995 → Live last pass premises (repliedWorld w done)
     done-live rests copy =
         let c = l .counted in
-        let same = ap (λ (x : Stage). totalOf x (length (w .notes .accepted))) q in
         record {
           k = l .k;
           edge = l .edge;
           going = l .going;
-          counted = record { wide = c .wide; held = c .held; windowed = c .windowed; numbered = c .numbered ∙ same; marks = c .marks; room = c .room };
+          counted = record { wide = c .wide; held = c .held; windowed = c .windowed; numbered = c .numbered; marks = c .marks; room = c .room };
           carried = subst (λ (n : ℕ). Carried last pass n (w .session .copies .header)) (ap spareOf q) (l .carried);
-          course = inv.finished refl closed k0 e0 refl refl again rests (copy-higher (omega (arith, set .large)) copy);
+          course = inv.finished refl v closed k0 e0 refl refl again rests (copy-higher (omega (arith, set .large)) copy);
           reported = λ _. refl;
           content = λ p u.
               let x = l .content p u in
               record {
                 tape = x .tape;
-                seen = subst (λ (n : ℕ). Seen last pass (w .notes .accepted) n (l .k) (l .edge) (w .drive .tape)) same (x .seen);
+                seen = x .seen;
                 below = x .below;
                 stored = x .stored;
-                queue = λ el _. ⊎-elim (λ z. never (cc)) (λ z. never (cc)) el;
+                queue = λ el _. never (cc);
                 sent = λ _ _ _ z. none-sent z;
+                eod-written = λ el _ _. never (cc);
+                eod-named = λ _. x .eod-named (inl q);
               };
         }
 
     closing-next : {s : copying.ProgressSaid} → Next (w .session .copies .header) (w .drive) s → Safe last (w .drive) → After (headerReplyBy s (w .session))
     closing-next (next.at-place c e n p x) safe =
-        live wr (more-live (inr q) again asked (withCopies (answeredOf (w .session)) c) (l .going) refl refl refl e (inv.closing q closed k0 e0 (record { counts = n; placed = p; copying = copies.at-place refl again x })))
+        live wr (more-live (inr q) again asked (withCopies (answeredOf (w .session)) c) (l .going) refl refl refl e (inv.closing q v closed k0 e0 (record { counts = n; placed = p; copying = copies.at-place refl again x })))
     closing-next (next.to-seek c e n p x) safe =
-        live wr (more-live (inr q) again asked (withCopies (answeredOf (w .session)) c) (l .going) refl refl refl e (inv.closing q closed k0 e0 (record { counts = n; placed = p; copying = copies.to-seek refl again x })))
+        live wr (more-live (inr q) again asked (withCopies (answeredOf (w .session)) c) (l .going) refl refl refl e (inv.closing q v closed k0 e0 (record { counts = n; placed = p; copying = copies.to-seek refl again x })))
     closing-next (next.through rests copy) safe =
-        subst (λ (x : Stage). Inv last pass premises (repliedWorld w (settledOf (completedBy x (answeredOf (w .session)))))) (sym q)
-        (settled-cases done (λ (v : State). Inv last pass premises (repliedWorld w v)) (λ _. live wr (done-live rests copy)) (λ a _ _. never (cc)) (λ a _. never (cc)))
-    closing-next (next.ends n) safe = ends-so n (λ z. never (cc)) safe
+        subst (λ (x : Stage). Inv last pass premises (repliedWorld w (settledOf (withStage (answeredOf (w .session)) (followingOf x))))) (sym q)
+        (settled-cases done (λ (v : State). Inv last pass premises (repliedWorld w v)) (λ _. live wr (done-live rests copy)) (λ a _ _ _. never (cc)) (λ a _ _. never (cc)))
+    closing-next (next.ends n) safe = ends-so (w .session) n (λ z. never (cc)) safe
 
   -- ---- by what the drive gave
 
@@ -229,14 +233,14 @@ module _ {last pass : ℕ} {premises : Type 0} (w : World) (r : Reply) (set : Se
         by locateGood (case-is (w .session) r (l .going) asked e m) (by-headers (w .session) _ _ st) (located-next (w .session .copies) (w .drive) (agree .counts) (agree .placed) x none-left (at ∙ p)) (answered-safe {r = r} (agree .counts) (copies.moved a m p none-left f at x))
     header-replies c e (copies.waits k m x) = busy-by m e x
 
-  pub opening-replies : (q : w .session .stage ≡ S.OpeningHeaders) → inv.Unstarted last (w .session .elements) (l .k) (l .edge) → CopiesAgree (w .session) (w .drive) (w .flight) → Copying (w .session) (w .drive) (recordings.answered r) → After (replyOf (w .session) r)
-  opening-replies q t agree (copies.replied _ a g x) =
-      header-replies (inl q) g a agree (λ _ y safe. opening-next q t g a y safe)
-      (λ y. live wr (more-live (inl q) g a (repeatedOf (w .session)) (l .going) refl refl refl refl (inv.opening q t (record { counts = agree .counts; placed = agree .placed; copying = copies.again refl refl y }))))
+  pub opening-replies : (q : w .session .stage ≡ S.OpeningHeaders) → w .session .elements .eod ≡ false → inv.Unstarted last (w .session .elements) (l .k) (l .edge) → CopiesAgree (w .session) (w .drive) (w .flight) → Copying (w .session) (w .drive) (recordings.answered r) → After (replyOf (w .session) r)
+  opening-replies q v t agree (copies.replied _ a g x) =
+      header-replies (inl q) g a agree (λ _ y safe. opening-next q v t g a y safe)
+      (λ y. live wr (more-live (inl q) g a (repeatedOf (w .session)) (l .going) refl refl refl refl (inv.opening q v t (record { counts = agree .counts; placed = agree .placed; copying = copies.again refl refl y }))))
       (w .session .exchange .command) refl x
 
-  pub closing-replies : (q : w .session .stage ≡ S.ClosingHeaders) → w .session .closed ≡ true → l .k ≡ length (w .notes .accepted) + 1 → l .edge ≡ last + 1 → CopiesAgree (w .session) (w .drive) (w .flight) → Copying (w .session) (w .drive) (recordings.answered r) → After (replyOf (w .session) r)
-  closing-replies q c k0 e0 agree (copies.replied _ a g x) =
-      header-replies (inr q) g a agree (λ _ y safe. closing-next q c k0 e0 g a y safe)
-      (λ y. live wr (more-live (inr q) g a (repeatedOf (w .session)) (l .going) refl refl refl refl (inv.closing q c k0 e0 (record { counts = agree .counts; placed = agree .placed; copying = copies.again refl refl y }))))
+  pub closing-replies : (q : w .session .stage ≡ S.ClosingHeaders) → w .session .elements .eod ≡ true → w .session .closed ≡ true → l .k ≡ length (w .notes .accepted) + 1 → l .edge ≡ last + 1 → CopiesAgree (w .session) (w .drive) (w .flight) → Copying (w .session) (w .drive) (recordings.answered r) → After (replyOf (w .session) r)
+  closing-replies q v c k0 e0 agree (copies.replied _ a g x) =
+      header-replies (inr q) g a agree (λ _ y safe. closing-next q v c k0 e0 g a y safe)
+      (λ y. live wr (more-live (inr q) g a (repeatedOf (w .session)) (l .going) refl refl refl refl (inv.closing q v c k0 e0 (record { counts = agree .counts; placed = agree .placed; copying = copies.again refl refl y }))))
       (w .session .exchange .command) refl x

@@ -1,5 +1,5 @@
 -- What holds at every point of a recording's list. Assumes nothing.
-use Prim.Native.Nat.{ℕ, _+_, _≤_, _<_}
+use Prim.Native.Nat.{ℕ, _+_, _-_, _≤_, _<_}
 use mathlib.Core.Path.{_≡_}
 use mathlib.Core.Bool.{Bool, true, false, _||_}
 use mathlib.Core.List.{List}
@@ -28,20 +28,17 @@ use Rattle.archive.proofs.tape.Stands.{itemAt, Stands, Queue, StoredAs}
 use Rattle.archive.proofs.recording.HeaderCopies.{Carried, Copy, Below}
 use Rattle.archive.proofs.recording.CopiesLink.{CopiesAgree}
 use Rattle.archive.proofs.recording.ElementsLink.{Writing}
+use Rattle.archive.proofs.recording.Setting.{EodAt}
 
 -- what there is to write: the elements, and EOD once it is due
-abbrev pub totalOf : Stage → ℕ → ℕ
-totalOf S.OpeningHeaders n = n
-totalOf S.Elements n = n
-totalOf S.Eod n = n + 1
-totalOf S.ClosingHeaders n = n + 1
-totalOf S.Done n = n + 1
+abbrev pub totalOf : Bool → ℕ → ℕ
+totalOf false n = n
+totalOf true n = n + 1
 
 -- the closing headers count one higher
 abbrev pub spareOf : Stage → ℕ
 spareOf S.OpeningHeaders = 1
 spareOf S.Elements = 1
-spareOf S.Eod = 1
 spareOf S.ClosingHeaders = 0
 spareOf S.Done = 0
 
@@ -51,7 +48,7 @@ pub record Counted (last n : ℕ) (s : State) : Type 0 where
   pub wide : s .setup .highest ≤ 63
   pub held : s .elements .outstanding ≤ s .elements .pending
   pub windowed : s .elements .pending ≤ s .setup .highest + 1
-  pub numbered : s .elements .first .0 + s .elements .pending ≡ totalOf (s .stage) n
+  pub numbered : s .elements .first .0 + s .elements .pending ≡ totalOf (s .elements .eod) n
   pub marks : length (s .elements .marks) ≡ 64
   pub room : s .elements .limit .0 ≤ last + 1
 
@@ -68,17 +65,20 @@ pub record StartsFrom (last : ℕ) (first outstanding : ℕ) (relocate : Bool) (
 abbrev pub Unstarted : ℕ → Elements → ℕ → ℕ → Type 0
 Unstarted last e k edge = StartsFrom last (e .first .0) (e .outstanding) (e .relocate) (e .target .0) k edge
 
+-- EOD is not due yet, or it is due alone
+pub data EodDue (e : Elements) (closed : Bool) : Type 0 where
+  not-yet : e .eod ≡ false → EodDue e closed
+  alone : e .eod ≡ true → closed ≡ true → e .pending ≡ 1 → EodDue e closed
+
 -- ---- the session and the drive, by stage
 
 pub data Course (last : ℕ) (w : World) (k edge : ℕ) : Type 0 where
-  opening : w .session .stage ≡ S.OpeningHeaders → Unstarted last (w .session .elements) k edge
+  opening : w .session .stage ≡ S.OpeningHeaders → w .session .elements .eod ≡ false → Unstarted last (w .session .elements) k edge
       → CopiesAgree (w .session) (w .drive) (w .flight) → Course last w k edge
-  writing : w .session .stage ≡ S.Elements → Writing last (w .session) (w .drive) k edge (w .flight) → Course last w k edge
-  ending : w .session .stage ≡ S.Eod → w .session .closed ≡ true → w .session .elements .pending ≡ 1
-      → Writing last (w .session) (w .drive) k edge (w .flight) → Course last w k edge
-  closing : w .session .stage ≡ S.ClosingHeaders → w .session .closed ≡ true → k ≡ length (w .notes .accepted) + 1 → edge ≡ last + 1
+  writing : w .session .stage ≡ S.Elements → EodDue (w .session .elements) (w .session .closed) → Writing last (w .session) (w .drive) k edge (w .flight) → Course last w k edge
+  closing : w .session .stage ≡ S.ClosingHeaders → w .session .elements .eod ≡ true → w .session .closed ≡ true → k ≡ length (w .notes .accepted) + 1 → edge ≡ last + 1
       → CopiesAgree (w .session) (w .drive) (w .flight) → Course last w k edge
-  finished : w .session .stage ≡ S.Done → w .session .closed ≡ true → k ≡ length (w .notes .accepted) + 1 → edge ≡ last + 1
+  finished : w .session .stage ≡ S.Done → w .session .elements .eod ≡ true → w .session .closed ≡ true → k ≡ length (w .notes .accepted) + 1 → edge ≡ last + 1
       → w .flight ≡ recordings.no-command → w .session .exchange .awaiting ≡ false → w .session .exchange .again ≡ false → AtRest (w .drive)
       → Copy (w .session .copies .header) (w .drive .tape) (last + 1) → Course last w k edge
 
@@ -86,7 +86,7 @@ pub data Course (last : ℕ) (w : World) (k edge : ℕ) : Type 0 where
 
 pub record Content (last pass : ℕ) (w : World) (k edge : ℕ) : Type 0 where
   pub tape : Cartridge last (w .drive .tape)
-  pub seen : Seen last pass (w .notes .accepted) (totalOf (w .session .stage) (length (w .notes .accepted))) k edge (w .drive .tape)
+  pub seen : Seen last pass (w .notes .accepted) (totalOf (w .session .elements .eod) (length (w .notes .accepted))) k edge (w .drive .tape)
   pub below : Below last (w .session .copies .header) (w .drive .tape)
   pub stored : (i : ℕ) → i < w .session .elements .pending
       → StoredAs (itemAt (w .notes .accepted) (w .session .elements .first .0 + i)) (w .window) (w .session .elements .marks) (windowOf (w .session)) (w .session .elements .first .0 + i)
@@ -94,6 +94,9 @@ pub record Content (last pass : ℕ) (w : World) (k edge : ℕ) : Type 0 where
   pub queue : ElementStage (w .session) → w .drive .failed ≡ false → Queue last pass (w .notes .accepted) k (w .drive .buffer)
   pub sent : (a : Address) (f : List ℕ) → ElementStage (w .session) → w .flight ≡ recordings.sent (Write a) f
       → Stands last pass (itemAt (w .notes .accepted) (w .session .elements .first .0 + w .session .elements .outstanding)) (w .session .elements .first .0 + w .session .elements .outstanding) f
+  -- EOD, once it is on tape, stands behind the drive's place, and then where the closing headers say
+  pub eod-written : ElementStage (w .session) → w .session .elements .eod ≡ true → k ≡ length (w .notes .accepted) + 1 → EodAt last pass (length (w .notes .accepted)) (w .drive .tape) (w .drive .at - 1)
+  pub eod-named : (w .session .stage ≡ S.ClosingHeaders) ⊎ (w .session .stage ≡ S.Done) → EodAt last pass (length (w .notes .accepted)) (w .drive .tape) (w .session .copies .header .eod .0)
 
 -- ---- the whole
 

@@ -42,11 +42,10 @@ writing-awaits (elements.under-way _ _ a _ _ _) h = a
 writing-awaits (elements.replied _ a _ _) h = a
 
 course-awaits : {last : ℕ} {w : World} {k edge : ℕ} → Course last w k edge → (w .flight ≡ recordings.no-command → ⊥) → w .session .exchange .awaiting ≡ true
-course-awaits (invariant.opening _ _ a) h = copying-awaits (a .copying) h
-course-awaits (invariant.writing _ a) h = writing-awaits a h
-course-awaits (invariant.ending _ _ _ a) h = writing-awaits a h
-course-awaits (invariant.closing _ _ _ _ a) h = copying-awaits (a .copying) h
-course-awaits (invariant.finished _ _ _ _ none _ _ _ _) h = absurd (h none)
+course-awaits (invariant.opening _ _ _ a) h = copying-awaits (a .copying) h
+course-awaits (invariant.writing _ _ a) h = writing-awaits a h
+course-awaits (invariant.closing _ _ _ _ _ a) h = copying-awaits (a .copying) h
+course-awaits (invariant.finished _ _ _ _ _ none _ _ _ _) h = absurd (h none)
 
 pub flight-awaits : {last pass : ℕ} {premises : Type 0} {w : World} → Inv last pass premises w → (w .flight ≡ recordings.no-command → ⊥) → w .session .exchange .awaiting ≡ true
 flight-awaits (live _ l) h = course-awaits (l .course) h

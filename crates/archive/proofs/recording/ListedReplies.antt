@@ -81,11 +81,10 @@ module _ (w : World) (c : Command) (f : List ℕ) where
 
 module _ {last pass : ℕ} {premises : Type 0} (w : World) (c : Command) (f : List ℕ) (q : w .flight ≡ recordings.sent c f) where
   live-issued : (l : Live last pass premises w) → Course last w (l .k) (l .edge) → Issued (w .session) c
-  live-issued l (invariant.opening st _ agree) = header-issued w c f (l .going) (inl st) (subst (Copying (w .session) (w .drive)) q (agree .copying))
-  live-issued l (invariant.writing st a) = element-issued w c f (l .going) (inl st) (subst (Writing last (w .session) (w .drive) (l .k) (l .edge)) q a)
-  live-issued l (invariant.ending st _ _ a) = element-issued w c f (l .going) (inr st) (subst (Writing last (w .session) (w .drive) (l .k) (l .edge)) q a)
-  live-issued l (invariant.closing st _ _ _ agree) = header-issued w c f (l .going) (inr st) (subst (Copying (w .session) (w .drive)) q (agree .copying))
-  live-issued l (invariant.finished _ _ _ _ none _ _ _ _) = none-sent (sym none ∙ q)
+  live-issued l (invariant.opening st _ _ agree) = header-issued w c f (l .going) (inl st) (subst (Copying (w .session) (w .drive)) q (agree .copying))
+  live-issued l (invariant.writing st _ a) = element-issued w c f (l .going) st (subst (Writing last (w .session) (w .drive) (l .k) (l .edge)) q a)
+  live-issued l (invariant.closing st _ _ _ _ agree) = header-issued w c f (l .going) (inr st) (subst (Copying (w .session) (w .drive)) q (agree .copying))
+  live-issued l (invariant.finished _ _ _ _ _ none _ _ _ _) = none-sent (sym none ∙ q)
 
   pub issued : Inv last pass premises w → Issued (w .session) c
   issued (live _ l) = live-issued l (l .course)

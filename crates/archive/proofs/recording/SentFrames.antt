@@ -1,23 +1,23 @@
 -- The frame that a fetch builds stands for the element that is due. Assumes nothing.
 use Prim.Native.Nat.{ℕ, _+_, _%_, _^_, _≤_, _<_}
 use mathlib.Core.Path.{_≡_, sym, ap, subst, _∙_}
-use mathlib.Core.Bool.{Bool}
+use mathlib.Core.Bool.{Bool, true, false}
 use mathlib.Core.List.{List}
-use mathlib.Core.Logic.{_⊎_, inl, inr}
 use native.Mathlib.Nat.{mod-eq-of-lt}
 use native.Mathlib.Omega.{arith}
 use lib.ListN.{length, getD, take}
 use Rattle.geometry.specs.Pick.{pick}
+use Rattle.geometry.proofs.PickLaws.{pick-t, pick-f}
 use Rattle.frame.specs.Frame.{dataBytes}
 use Rattle.frame.specs.declared.element.Kind.{Kind}
 use Rattle.frame.specs.declared.element.Kind.the-variants.{Data, Marker, Eod}
 use Rattle.judgement.specs.Judgement.{judgeFrame, foundSaid}
 use Rattle.elements.specs.Elements as elements
+use Rattle.elements.specs.Elements.{kindOf}
 use Rattle.recording_state.specs.Session.{windowOf, windowLength}
 use Rattle.recording_state.specs.Window.{blockAt}
-use Rattle.recording_state.specs.Written.{kindBy, kindOf, elementPlace, writtenElement, writtenBy, writtenFrame}
+use Rattle.recording_state.specs.Written.{elementPlace, writtenElement, amongElements, writtenFrame}
 use Rattle.recording_state.specs.declared.state.State.{State}
-use Rattle.recording_state.specs.declared.state.Stage.{Stage}
 use Rattle.recording_state.specs.declared.state.Stage.the-variants as S
 use Rattle.archive.specs.Recordings.{Element, block, filemark}
 use Rattle.archive.proofs.tape.Basics.{reads-itself}
@@ -33,7 +33,7 @@ module _ (last pass : ℕ) (s : State) (window : List ℕ) (xs : List Element) (
   exact : elements.numberOf (s .elements) (s .elements .outstanding) ≡ s .elements .first .0 + s .elements .outstanding
   exact = mod-eq-of-lt small
 
-  found : judgeFrame (telling last pass) (record { 0 = s .elements .first .0 + s .elements .outstanding }) (writtenElement s window) ≡ foundSaid (kindOf s)
+  found : judgeFrame (telling last pass) (record { 0 = s .elements .first .0 + s .elements .outstanding }) (writtenElement s window) ≡ foundSaid (kindOf (s .elements))
   found =
       sym (ap (λ (n : ℕ). judgeFrame (telling n pass) (record { 0 = s .elements .first .0 + s .elements .outstanding }) (writtenElement s window)) last-is)
       ∙ sym (ap (λ (n : ℕ). judgeFrame (telling (s .copies .header .last .0) n) (record { 0 = s .elements .first .0 + s .elements .outstanding }) (writtenElement s window)) pass-is)
@@ -43,43 +43,42 @@ module _ (last pass : ℕ) (s : State) (window : List ℕ) (xs : List Element) (
   place-is : elementPlace s ≡ (s .elements .first .0 + s .elements .outstanding) % windowOf s
   place-is = ap (λ (n : ℕ). n % windowOf s) exact
 
-  data-is : {k : Kind} → kindOf s ≡ k → take 32768 (writtenElement s window) ≡ dataBytes k (blockAt window ((s .elements .first .0 + s .elements .outstanding) % windowOf s))
+  data-is : {k : Kind} → kindOf (s .elements) ≡ k → take 32768 (writtenElement s window) ≡ dataBytes k (blockAt window ((s .elements .first .0 + s .elements .outstanding) % windowOf s))
   data-is {k} e = written-data s window long ∙ ap (λ (x : Kind). dataBytes x (blockAt window (elementPlace s))) e ∙ ap (λ (n : ℕ). dataBytes k (blockAt window n)) place-is
 
-  stands-as : (x : Item) → kindOf s ≡ kindFor x → Carries x (writtenElement s window) → Stands last pass x (s .elements .first .0 + s .elements .outstanding) (writtenElement s window)
+  stands-as : (x : Item) → kindOf (s .elements) ≡ kindFor x → Carries x (writtenElement s window) → Stands last pass x (s .elements .first .0 + s .elements .outstanding) (writtenElement s window)
   stands-as x kind carries = record { found = found ∙ ap foundSaid kind; carries = carries }
 
   -- an element, as the window and the marks have it
-  element-stands : (x : Element) → s .stage ≡ S.Elements → StoredAs (element x) window (s .elements .marks) (windowOf s) (s .elements .first .0 + s .elements .outstanding)
+  element-stands : (x : Element) → s .elements .eod ≡ false → StoredAs (element x) window (s .elements .marks) (windowOf s) (s .elements .first .0 + s .elements .outstanding)
       → Stands last pass (element x) (s .elements .first .0 + s .elements .outstanding) (writtenElement s window)
-  element-stands (block b) st stored =
-      let kind : kindOf s ≡ Data = ap (λ (y : Stage). kindBy y (elements.isMark (s .elements))) st ∙ ap (λ (m : Bool). pick m Marker Data) (stored .1) in
+  element-stands (block b) v stored =
+      let kind : kindOf (s .elements) ≡ Data = pick-f _ v ∙ ap (λ (m : Bool). pick m Marker Data) (stored .1) in
       stands-as (element (block b)) kind (data-is kind ∙ stored .0)
-  element-stands filemark st stored =
-      let kind : kindOf s ≡ Marker = ap (λ (y : Stage). kindBy y (elements.isMark (s .elements))) st ∙ ap (λ (m : Bool). pick m Marker Data) stored in
+  element-stands filemark v stored =
+      let kind : kindOf (s .elements) ≡ Marker = pick-f _ v ∙ ap (λ (m : Bool). pick m Marker Data) stored in
       stands-as (element filemark) kind tt
 
-  eod-stands : s .stage ≡ S.Eod → Stands last pass eod (s .elements .first .0 + s .elements .outstanding) (writtenElement s window)
-  eod-stands st = stands-as eod (ap (λ (y : Stage). kindBy y (elements.isMark (s .elements))) st) tt
+  eod-stands : s .elements .eod ≡ true → Stands last pass eod (s .elements .first .0 + s .elements .outstanding) (writtenElement s window)
+  eod-stands v = stands-as eod (pick-t _ v) tt
 
-  written-is : (s .stage ≡ S.Elements) ⊎ (s .stage ≡ S.Eod) → writtenFrame s window ≡ writtenElement s window
+  written-is : s .stage ≡ S.Elements → writtenFrame s window ≡ writtenElement s window
   unfolding writtenFrame
-  written-is (inl st) = ap (λ (y : Stage). writtenBy y s window) st
-  written-is (inr st) = ap (λ (y : Stage). writtenBy y s window) st
+  written-is st = pick-t _ (ap amongElements st)
 
-  pub sent-element : s .stage ≡ S.Elements → s .elements .first .0 + s .elements .outstanding < length xs
+  pub sent-element : s .stage ≡ S.Elements → s .elements .eod ≡ false → s .elements .first .0 + s .elements .outstanding < length xs
       → StoredAs (itemAt xs (s .elements .first .0 + s .elements .outstanding)) window (s .elements .marks) (windowOf s) (s .elements .first .0 + s .elements .outstanding)
       → Stands last pass (itemAt xs (s .elements .first .0 + s .elements .outstanding)) (s .elements .first .0 + s .elements .outstanding) (writtenFrame s window)
-  sent-element st inside stored =
+  sent-element st v inside stored =
       let n = s .elements .first .0 + s .elements .outstanding in
       let is = item-in xs n inside in
-      subst (λ (f : List ℕ). Stands last pass (itemAt xs n) n f) (sym (written-is (inl st)))
+      subst (λ (f : List ℕ). Stands last pass (itemAt xs n) n f) (sym (written-is st))
       (subst (λ (x : Item). Stands last pass x n (writtenElement s window)) (sym is)
-      (element-stands (getD xs n filemark) st (subst (λ (x : Item). StoredAs x window (s .elements .marks) (windowOf s) n) is stored)))
+      (element-stands (getD xs n filemark) v (subst (λ (x : Item). StoredAs x window (s .elements .marks) (windowOf s) n) is stored)))
 
-  pub sent-eod : s .stage ≡ S.Eod → s .elements .first .0 + s .elements .outstanding ≡ length xs
+  pub sent-eod : s .stage ≡ S.Elements → s .elements .eod ≡ true → s .elements .first .0 + s .elements .outstanding ≡ length xs
       → Stands last pass (itemAt xs (s .elements .first .0 + s .elements .outstanding)) (s .elements .first .0 + s .elements .outstanding) (writtenFrame s window)
-  sent-eod st all =
+  sent-eod st v all =
       let n = s .elements .first .0 + s .elements .outstanding in
-      subst (λ (f : List ℕ). Stands last pass (itemAt xs n) n f) (sym (written-is (inr st)))
-      (subst (λ (x : Item). Stands last pass x n (writtenElement s window)) (sym (item-past xs n (omega (arith, all)))) (eod-stands st))
+      subst (λ (f : List ℕ). Stands last pass (itemAt xs n) n f) (sym (written-is st))
+      (subst (λ (x : Item). Stands last pass x n (writtenElement s window)) (sym (item-past xs n (omega (arith, all)))) (eod-stands v))

@@ -1,13 +1,18 @@
 -- What a recording's opening fixes, and what one that reported done leaves. Assumes nothing.
 use Prim.Native.Nat.{ℕ, _+_, _^_, _≤_, _<_}
 use mathlib.Core.Path.{_≡_}
+use mathlib.Core.Bool.{true}
 use mathlib.Core.List.{List}
+use mathlib.Core.Option.{some}
+use lib.ListN.{length}
+use Rattle.geometry.specs.Cartridge.{isUser}
 use Rattle.header.specs.Valid.{headerOf}
 use Rattle.archive.specs.Tape.{Tape, Cartridge}
 use Rattle.archive.specs.Headers.{Newest}
 use Rattle.archive.specs.Recordings.{Element}
 use Rattle.archive.specs.Demand.{Opening, OnNewest, NoneBears}
 use Rattle.archive.proofs.tape.Scan.{Recorded}
+use Rattle.archive.proofs.tape.Stands.{eod, Stands}
 
 -- the numbers that the geometry and the opening fix
 pub record Setting (last pass : ℕ) : Type 0 where
@@ -19,6 +24,13 @@ pub record Setting (last pass : ℕ) : Type 0 where
 abbrev pub Premises : ℕ → ℕ → Tape → Opening → Type 0
 Premises last pass t o = OnNewest last t o × NoneBears last t pass
 
+-- an address at which the tape reads as EOD with this number
+pub record EodAt (last pass n : ℕ) (t : Tape) (a : ℕ) : Type 0 where
+  pub frame : List ℕ
+  pub user : isUser last a ≡ true
+  pub reads : t a ≡ some frame
+  pub stands : Stands last pass eod n frame
+
 -- what a recording that reported done leaves
 pub record Leaves (last pass : ℕ) (t : Tape) (xs : List Element) : Type 0 where
   pub cartridge : Cartridge last t
@@ -26,3 +38,4 @@ pub record Leaves (last pass : ℕ) (t : Tape) (xs : List Element) : Type 0 wher
   pub header : List ℕ
   pub newest : Newest last t header
   pub passes : (h : List ℕ) → Newest last t h → headerOf h .pass ≡ pass
+  pub ends : (h : List ℕ) → Newest last t h → EodAt last pass (length xs) t (headerOf h .eod .0)

@@ -178,10 +178,6 @@ nothing-seen last pass t cart none = record {
     low c u (inl h) = let x = h .0 in omega arith
     low c u (inr h) = let x = h .0 in omega arith
 
-not-element : (S.OpeningHeaders ≡ S.Elements) ⊎ (S.OpeningHeaders ≡ S.Eod) → ⊥
-not-element (inl a) = never (cc)
-not-element (inr a) = never (cc)
-
 begins-fresh : (last : ℕ) (d : Drive) (window : List ℕ) (s : State) (x : Started last s) (premises : Type 0) → Setting last (s .copies .header .pass) → d .written ≡ [] → AtRest d
     → (premises → Cartridge last (d .tape) × NoneBears last (d .tape) (s .copies .header .pass) × Below last (s .copies .header) (d .tape)) → Inv last (s .copies .header .pass) premises (recordings.started s window d)
 begins-fresh last d window s x premises set unwritten rest pre =
@@ -204,7 +200,7 @@ begins-fresh last d window s x premises set unwritten rest pre =
         count-fits = x .count-fits;
       });
       course = subst (λ (r : State). inv.Course last (recordings.started r window d) 0 10) (x .is)
-          (inv.opening refl (record { first-is = refl; none-out = refl; relocates = refl; target-is = refl; roof = omega (arith, set .large); zone = inl (omega arith); spread = le-refl 10 }) (record {
+          (inv.opening refl refl (record { first-is = refl; none-out = refl; relocates = refl; target-is = refl; roof = omega (arith, set .large); zone = inl (omega arith); spread = le-refl 10 }) (record {
             counts = start-counts (x .header);
             placed = start-placed (x .header);
             copying = to-seek refl refl (record { due = refl; rests = rest; kept = inl refl });
@@ -214,11 +210,13 @@ begins-fresh last d window s x premises set unwritten rest pre =
           let c = pre p in
           record {
             tape = c .0;
-            seen = subst (λ (n : ℕ). Seen last (s .copies .header .pass) [] n 0 10 (d .tape)) (ap (λ (r : State). inv.totalOf (r .stage) 0) (x .is)) (nothing-seen last (s .copies .header .pass) (d .tape) (c .0) (c .1));
+            seen = subst (λ (n : ℕ). Seen last (s .copies .header .pass) [] n 0 10 (d .tape)) (ap (λ (r : State). inv.totalOf (r .elements .eod) 0) (x .is)) (nothing-seen last (s .copies .header .pass) (d .tape) (c .0) (c .1));
             below = c .2;
             stored = λ i h. absurd (none-pending i h);
             queue = λ st _. absurd (opening-stage st);
             sent = λ _ _ st _. absurd (opening-stage st);
+            eod-written = λ st _ _. absurd (opening-stage st);
+            eod-named = λ st. absurd (⊎-elim closing-stage done-stage st);
           };
     })
   where
@@ -228,10 +226,17 @@ begins-fresh last d window s x premises set unwritten rest pre =
     none-pending : (i : ℕ) → i < s .elements .pending → ⊥
     none-pending i h = let e : 0 ≡ s .elements .pending = ap (λ (r : State). r .elements .pending) (x .is) in omega arith
 
-    opening-stage : (s .stage ≡ S.Elements) ⊎ (s .stage ≡ S.Eod) → ⊥
-    opening-stage st =
-        let e : S.OpeningHeaders ≡ s .stage = ap (λ (r : State). r .stage) (x .is) in
-        not-element (⊎-elim (λ q. inl (e ∙ q)) (λ q. inr (e ∙ q)) st)
+    stage-is : S.OpeningHeaders ≡ s .stage
+    stage-is = ap (λ (r : State). r .stage) (x .is)
+
+    opening-stage : s .stage ≡ S.Elements → ⊥
+    opening-stage st = never (let e = stage-is in cc)
+
+    closing-stage : s .stage ≡ S.ClosingHeaders → ⊥
+    closing-stage st = never (let e = stage-is in cc)
+
+    done-stage : s .stage ≡ S.Done → ⊥
+    done-stage st = never (let e = stage-is in cc)
 
 pub begins : (g : Geometry) (last depth blocks : ℕ) (d : Drive) (o : Opening) (s : State) (window : List ℕ) → lastOf g ≡ address last
     → Setting last (s .copies .header .pass) → Cartridge last (d .tape) → d .written ≡ [] → AtRest d → opened g depth blocks o ≡ accepting s

@@ -10,6 +10,7 @@ use Rattle.drive.specs.Senses.{meaningIn}
 use Rattle.archive.specs.Tape.{Tape, put}
 use Rattle.drive.specs.declared.command.Command.the-variants.{Write, Locate, ReadPosition}
 use Rattle.elements.specs.Elements as elements
+use Rattle.elements.specs.Trail.{noTrail}
 use Rattle.elements.specs.declared.state.Elements.{Elements}
 use Rattle.recording_state.specs.Written.{writtenFrame}
 use Rattle.recording_state.specs.declared.state.State.{State}
@@ -22,7 +23,7 @@ use Rattle.archive.proofs.sample.Headers.{at}
 
 -- no element yet: LOCATE 10 comes first
 abbrev pub noneAccepted : Elements
-noneAccepted = elements.startOf 11999
+noneAccepted = elements.startOf 11999 10 0 noTrail
 
 module _ (window : List ℕ) (long : length window ≡ 32768) (accepted : List Element) (t : Tape) (past : List ℕ) {cs : List Call} {u : World} where
   -- WRITE, the drive writes the frame as sent, READ POSITION finds nothing buffered

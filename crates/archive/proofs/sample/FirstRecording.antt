@@ -12,7 +12,7 @@ use Rattle.frame.specs.Frame.{blank, elementFrame, elementFits}
 use Rattle.frame.specs.Header.{headerFrame}
 use Rattle.frame.specs.declared.element.Kind.the-variants.{Data, Eod}
 use Rattle.frame.proofs.Frames.{data-length}
-use Rattle.header.specs.Valid.{validHeader}
+use Rattle.header.specs.Valid.{validHeader, headerOf}
 use Rattle.header.proofs.Built.{built-valid}
 use Rattle.archive.specs.Conduct as conduct
 use Rattle.archive.specs.Conduct.{Drive, locates, waits}
@@ -35,6 +35,7 @@ use Rattle.recording_state.specs.declared.state.State.{State}
 use Rattle.archive.specs.Headers.{Newest, NoHeader}
 use Rattle.archive.specs.Recordings.{block, World, Call, accept-block, accept-filemark, close, fetch, reply, Runs, started}
 use Rattle.archive.specs.Demand.{NoneBears, newPass, on-none, Promised, Readable, Demand3}
+use Rattle.archive.specs.EndOfData.{EndsAt, EndNamed}
 use Rattle.archive.specs.Sample.{geometry, depth, blocks, good, busy, older, tape, stopped, firstOpening, window, frame, firstElements, windowWith, firstError, firstBlock, firstFilemark, firstEod, firstClosing, exchanges, firstCalls}
 use Rattle.archive.proofs.sample.Exchange.{Step, between, reported, exchange, block-accepted, filemark-accepted, close-accepted, filemark-refused, close-refused}
 use Rattle.archive.proofs.sample.Flush.{buffered}
@@ -43,7 +44,7 @@ use Rattle.archive.proofs.sample.Headers.{at, writing, ending, closing,
 use Rattle.archive.proofs.tape.WrittenFrames.{block-fits}
 use Rattle.archive.proofs.sample.Tapes.{empty, empty-cartridge, empty-bears-none, frame-on-none, frame-cartridge, frame-bears-none, headers-newest}
 use Rattle.archive.proofs.sample.Elements.{noneAccepted, element-written, element-failed}
-use Rattle.archive.proofs.Demand.{demand-3}
+use Rattle.archive.proofs.Demand.{demand-3, end-named}
 
 -- ---- the opening
 
@@ -87,7 +88,7 @@ abbrev filemarkOnTape : Elements
 filemarkOnTape = answer.confirmedOf filemarkTaken 1
 
 abbrev eodDue : Elements
-eodDue = elements.acceptedOf filemarkOnTape false
+eodDue = elements.eodDue filemarkOnTape
 
 abbrev eodTaken : Elements
 eodTaken = answer.takenOf eodDue
@@ -294,3 +295,10 @@ first-valid = built-valid firstClosing (lit< tt) (lit≤ tt) (lit< tt) refl
 
 pub first-newest : (b : List ℕ) → Newest 11999 (firstLeft b .tape) (headerFrame firstClosing)
 first-newest b = headers-newest firstClosing (firstWritten b) 11999 first-valid
+
+-- and that it names where EOD stands, at 46 and numbered 2
+pub first-ends : (b : List ℕ) → length b ≡ 32768 → EndsAt (headerOf (headerFrame firstClosing)) 2 (firstLeft b .tape)
+unfolding EndNamed
+first-ends b full =
+    end-named geometry 11999 depth blocks stopped on-none (fresh depth 0 firstOpening) window (firstCalls b) (firstEnd b) (lit< tt) (lit< tt) refl first-cartridge refl (conduct.stopped refl) first-opened (first-runs b full)
+    first-on-none first-bears-none refl refl (headerFrame firstClosing) (first-newest b)

@@ -21,6 +21,7 @@ use Rattle.drive.specs.declared.command.Command.the-variants.{Write, Locate, Re
 use Rattle.copies.specs.Copies as copies
 use Rattle.copies.specs.declared.state.Copies.{Copies}
 use Rattle.elements.specs.Elements as elements
+use Rattle.elements.specs.Trail.{noTrail}
 use Rattle.elements.specs.declared.state.Elements.{Elements}
 use Rattle.recording_state.specs.Open.{fresh}
 use Rattle.recording_state.specs.Session.{accepting, settledOf}
@@ -57,12 +58,12 @@ session stage closed e c copies = record {
 abbrev copiesAt : Header → ℕ → ℕ → ℕ → Bool → Copies
 copiesAt h group copy confirmed locate = record { header = h; group = group; copy = copy; outstanding = copy; confirmed = confirmed; locate = locate }
 
--- in the elements' stage, in EOD's, before the closing headers, and done
+-- among the elements, before and after close, before the closing headers, and done
 abbrev pub writing : Header → Elements → Command → State
 writing h e c = session S.Elements false e c (copiesAt h 1 5 5 false)
 
 abbrev pub ending : Header → Elements → Command → State
-ending h e c = session S.Eod true e c (copiesAt h 1 5 5 false)
+ending h e c = session S.Elements true e c (copiesAt h 1 5 5 false)
 
 abbrev pub closing : Header → Elements → State
 closing h e = session S.ClosingHeaders true e ReadPosition (copies.startOf h)
@@ -140,7 +141,7 @@ module _ (closed : Bool) (e : Elements) (h : Header) where
   second-group-through true c = record { free = refl; sized = refl; decided = refl; replied = refl }
   second-group-through false c = record { free = refl; sized = refl; decided = refl; replied = refl }
 
-opening-settled : (h : Header) → settledOf (behind true false (elements.startOf (h .last .0)) h) ≡ behind true false (elements.startOf (h .last .0)) h
+opening-settled : (h : Header) → settledOf (behind true false (elements.startOf (h .last .0) 10 0 noTrail) h) ≡ behind true false (elements.startOf (h .last .0) 10 0 noTrail) h
 unfolding settledOf
 opening-settled h = refl
 
@@ -197,9 +198,9 @@ module _ (window : List ℕ) (long : length window ≡ 32768) (accepted : List E
 
 -- a session just opened writes its headers
 pub opening-written : (window : List ℕ) → length window ≡ 32768 → (h : Header) (d : Drive) {cs : List Call} {u : World}
-    → Runs (between window [] (writing h (elements.startOf (h .last .0)) ReadPosition) (headersWritten h d)) cs u
+    → Runs (between window [] (writing h (elements.startOf (h .last .0) 10 0 noTrail) ReadPosition) (headersWritten h d)) cs u
     → Runs (started (fresh depth 0 h) window d) (headerExchanges window cs) u
-opening-written window long h d rest = headers-written window long [] true false (elements.startOf (h .last .0)) h d (opening-settled h) rest
+opening-written window long h d rest = headers-written window long [] true false (elements.startOf (h .last .0) 10 0 noTrail) h d (opening-settled h) rest
 
 -- the closing headers, and a last fetch, which answers done
 pub closing-written : (window : List ℕ) → length window ≡ 32768 → (accepted : List Element) (e : Elements) (h : Header) (d : Drive)

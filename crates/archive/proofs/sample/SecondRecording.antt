@@ -70,7 +70,7 @@ abbrev filemarkOnTape : Elements
 filemarkOnTape = answer.confirmedOf filemarkTaken 1
 
 abbrev eodDue : Elements
-eodDue = elements.acceptedOf filemarkOnTape false
+eodDue = elements.eodDue filemarkOnTape
 
 abbrev eodTaken : Elements
 eodTaken = answer.takenOf eodDue

@@ -14,10 +14,10 @@ use Rattle.frame.specs.declared.element.Kind.the-variants.{Data, Marker, Eod}
 use Rattle.frame.proofs.Frames.{element-length, element-data}
 use Rattle.judgement.specs.Judgement.{judgeFrame, foundSaid}
 use Rattle.judgement.proofs.Written.{judged-written}
-use Rattle.elements.specs.Elements.{numberOf}
+use Rattle.elements.specs.Elements.{numberOf, kindOf}
 use Rattle.recording_state.specs.Session.{windowLength}
 use Rattle.recording_state.specs.Window.{blockAt}
-use Rattle.recording_state.specs.Written.{kindOf, elementOf, elementPlace, writtenElement}
+use Rattle.recording_state.specs.Written.{elementOf, elementPlace, writtenElement}
 use Rattle.recording_state.proofs.BlockPlace.{place-inside, block-length}
 use Rattle.recording_state.specs.declared.state.State.{State}
 use Rattle.archive.proofs.tape.Stands.{telling}
@@ -31,11 +31,11 @@ module _ (s : State) (window : List ℕ) (long : length window ≡ windowLength 
   inside : elementPlace s * 32768 + 32768 ≤ length window
   inside = subst (λ (n : ℕ). elementPlace s * 32768 + 32768 ≤ n) (sym long) (place-inside (numberOf (s .elements) (s .elements .outstanding)) (s .setup .highest))
 
-  fitting : elementFits (kindOf s) 33280 (length (blockAt window (elementPlace s))) ≡ true
-  fitting = block-fits (kindOf s) (blockAt window (elementPlace s)) (block-length window (elementPlace s) inside)
+  fitting : elementFits (kindOf (s .elements)) 33280 (length (blockAt window (elementPlace s))) ≡ true
+  fitting = block-fits (kindOf (s .elements)) (blockAt window (elementPlace s)) (block-length window (elementPlace s) inside)
 
   pub written-judged : {r : List ℕ} → s .copies .header .pass < 2 ^ 16 → ReadsAs (writtenElement s window) r
-      → judgeFrame (telling (s .copies .header .last .0) (s .copies .header .pass)) (record { 0 = numberOf (s .elements) (s .elements .outstanding) }) r ≡ foundSaid (kindOf s)
+      → judgeFrame (telling (s .copies .header .last .0) (s .copies .header .pass)) (record { 0 = numberOf (s .elements) (s .elements .outstanding) }) r ≡ foundSaid (kindOf (s .elements))
   unfolding writtenElement elementOf
   written-judged small reads =
       judged-written (elementOf s) small (mod-lt (s .elements .first .0 + s .elements .outstanding) (lit< tt)) (blockAt window (elementPlace s)) fitting reads
@@ -45,6 +45,6 @@ module _ (s : State) (window : List ℕ) (long : length window ≡ windowLength 
   written-length = element-length (elementOf s) (blockAt window (elementPlace s)) fitting
 
   -- the data bytes are the element's own
-  pub written-data : take 32768 (writtenElement s window) ≡ dataBytes (kindOf s) (blockAt window (elementPlace s))
+  pub written-data : take 32768 (writtenElement s window) ≡ dataBytes (kindOf (s .elements)) (blockAt window (elementPlace s))
   unfolding writtenElement elementOf
   written-data = element-data (elementOf s) (blockAt window (elementPlace s)) fitting

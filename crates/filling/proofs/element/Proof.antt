@@ -3,9 +3,9 @@ use Prim.Native.Nat.{ℕ}
 use mathlib.Core.Path.{_∙_, ap}
 use Rattle.frame.specs.declared.element.Kind.{Kind}
 use Rattle.frame.specs.declared.element.Element.{Element}
-use Rattle.elements.specs.Elements.{numberOf}
+use Rattle.elements.specs.Elements.{numberOf, kindOf}
 use Rattle.elements.specs.declared.trail.Trail.{Trail}
-use Rattle.recording_state.specs.Written.{kindOf, elementOf}
+use Rattle.recording_state.specs.Written.{elementOf}
 use Rattle.recording_state.specs.declared.state.State.{State}
 use Rattle.filling.proofs.element.Statement.{statement}
 use Rattle.filling.proofs.element.Tie as tie
@@ -34,8 +34,8 @@ unfolding elementOf
 returns c =
     let s = c .before .before .before .before .before .before .before .before .args .s in
     ap (λ k. made s k (c .number .result .0) (c .before .before .before .trail .result)) (c .before .kind .ensures)
-    ∙ ap (λ n. made s (kindOf s) n (c .before .before .before .trail .result)) (c .number .ensures)
-    ∙ ap (made s (kindOf s) (numberOf (s .elements) (s .elements .outstanding))) (c .before .before .before .trail .ensures)
+    ∙ ap (λ n. made s (kindOf (s .elements)) n (c .before .before .before .trail .result)) (c .number .ensures)
+    ∙ ap (made s (kindOf (s .elements)) (numberOf (s .elements) (s .elements .outstanding))) (c .before .before .before .trail .ensures)
 
 pub element-spec : {M : Type 1} → statement M
 element-spec = tie.close (tie.spec trail-requires kind-requires number-requires returns)

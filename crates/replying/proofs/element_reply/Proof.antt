@@ -1,14 +1,15 @@
 -- `replying::element_reply` meets its contract: an accepted step has number 0, a refused one another. Assumes nothing.
-use mathlib.Core.Bool.{false}
 use mathlib.Core.Path.{_≡_, _∙_, refl, sym, ap}
+use mathlib.Core.Bool.{false}
+use borrow.Author.Needs.{needs}
 use lib.Dec.{eqb}
-use Rattle.geometry.proofs.PickLaws.{pick-f}
-use Rattle.geometry.specs.declared.refusal.Refusal.the-variants as R
-use Rattle.geometry.specs.declared.refusal.Refusal.{Refusal}
-use Rattle.geometry.specs.Refused.{refusalNumber}
-use Rattle.elements.specs.Answer.{steppedSaid}
-use Rattle.recording_state.specs.Reply.{elementReplyBy}
 use Rattle.recording_state.specs.Session.{accepting, settledOf}
+use Rattle.recording_state.specs.Reply.{elementReplyBy}
+use Rattle.elements.specs.Answer.{steppedSaid}
+use Rattle.geometry.specs.Refused.{refusalNumber}
+use Rattle.geometry.specs.declared.refusal.Refusal.{Refusal}
+use Rattle.geometry.specs.declared.refusal.Refusal.the-variants as R
+use Rattle.geometry.proofs.PickLaws.{pick-f}
 use Rattle.replying.proofs.element_reply.Statement.{statement}
 use Rattle.replying.proofs.element_reply.Tie as tie
 
@@ -28,34 +29,28 @@ refused R.Foreign = refl
 refused R.NotFound = refl
 
 enum-told : tie.Need-enum-told
-enum-told c = c .match .keys1
+enum-told c = search needs
 
 answered-requires : tie.Need-answered-requires
-answered-requires c κs = tt
+answered-requires c κs = search needs
 
 settle-requires : tie.Need-settle-requires
-settle-requires c κs = tt
+settle-requires c κs = search needs
 
 accepted-requires : tie.Need-accepted-requires
-accepted-requires c κs = tt
+accepted-requires c κs = search needs
 
 enum-known-verdict : tie.Need-enum-known-verdict
-enum-known-verdict c = c .match .keys2
+enum-known-verdict c = search needs
 
 end-requires : tie.Need-end-requires
-end-requires c κs = tt
+end-requires c κs = search needs
 
 returns : tie.Need-returns
-returns c =
-    c .accepted .ensures
-    ∙ ap accepting (c .before .settle .ensures ∙ ap settledOf (c .before .before .answered .ensures))
-    ∙ sym (ap (λ v. elementReplyBy (steppedSaid (record { elements = c .before .before .before .before .before .before .args .stepped .elements; verdict = v })) (c .before .before .before .before .before .before .args .s)) (c .before .before .before .enum-told .given .1))
+returns c = c .accepted .ensures ∙ ap accepting (c .before .settle .ensures ∙ ap settledOf (c .before .before .answered .ensures)) ∙ sym (ap (λ v. elementReplyBy (steppedSaid (record { elements = c .before .before .before .before .before .before .args .stepped .elements; verdict = v })) (c .before .before .before .before .before .before .args .s)) (c .before .before .before .enum-told .given .1))
 
 returns-2 : tie.Need-returns-2
-returns-2 c =
-    c .end .ensures
-    ∙ sym (pick-f _ (refused (c .before .before .verdict .given .0 .0)))
-    ∙ sym (ap (λ v. elementReplyBy (steppedSaid (record { elements = c .before .before .before .before .before .args .stepped .elements; verdict = v })) (c .before .before .before .before .before .args .s)) (c .before .before .verdict .given .1))
+returns-2 c = c .end .ensures ∙ sym (pick-f _ (refused (c .before .before .verdict .given .0 .0))) ∙ sym (ap (λ v. elementReplyBy (steppedSaid (record { elements = c .before .before .before .before .before .args .stepped .elements; verdict = v })) (c .before .before .before .before .before .args .s)) (c .before .before .verdict .given .1))
 
 pub element-reply-spec : {M : Type 1} → statement M
 element-reply-spec =
