@@ -5,6 +5,7 @@ ghost use mathlib.Core.Path.{_≡_};
 ghost use Rattle.recording_state.specs.Session.{outcomeSaid};
 ghost use Rattle.recording_state.specs.Accept.{isFull, acceptsNone, withElement, filemarkOf, blockSaid, blockOf, closeOf};
 use crate::window::put_block;
+use frame::DATA_LENGTH;
 use geometry::Refusal;
 use recording_state::Outcome;
 use recording_state::State;
@@ -53,11 +54,11 @@ pub fn accept_block(s: State, block: &[u8], window: &mut [u8]) -> Outcome
     if accepts_none(s) {
         return s.refuse(Refusal::Phase);
     }
-    if block.len() != 32768 {
+    if block.len() != DATA_LENGTH {
         return s.refuse(Refusal::Length);
     }
     let w = s.window();
-    if window.len() != w * 32768 {
+    if window.len() != w * DATA_LENGTH {
         return s.refuse(Refusal::Length);
     }
     if is_full(s) {

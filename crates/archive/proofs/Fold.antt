@@ -14,7 +14,7 @@ use Rattle.header.specs.Valid.{headerOf}
 use Rattle.header.proofs.Facts.{valid-last}
 use Rattle.header.proofs.ReadLaws.{taken-valid, refused-number}
 use Rattle.judgement.specs.declared.told.Told.{Told}
-use Rattle.reading.specs.Open.{Result, toldOf, fresh, openFor, openOf}
+use Rattle.reading.specs.Open.{OpenedSaid, toldOf, fresh, openFor, openOf}
 use Rattle.archive.specs.Tape.{Tape, Cartridge}
 use Rattle.archive.specs.Readings.{Runs, started}
 use Rattle.archive.specs.Fold.{ReadingIsFold}
@@ -31,7 +31,7 @@ read-tape g told t seg trk e cart =
     record { large = f .large; small = small; cartridge = cart }
 
 -- a header that the opening accepts was taken for valid
-record Opens (last : ℕ) (h : List ℕ) (r : Result) : Type 0 where
+record Opens (last : ℕ) (h : List ℕ) (r : OpenedSaid) : Type 0 where
   opened : r ≡ record { session = fresh (toldOf (headerOf h)); number = 0 }
   last-is : headerOf h .last .0 ≡ last
 
@@ -50,4 +50,4 @@ unfolding ReadingIsFold
 reading-is-fold g last t h at calls w seg trk e cart opens runs =
     let o = opened-as g last h e opens in
     let k : ReadTape (toldOf (headerOf h)) t = read-tape g (toldOf (headerOf h)) t seg trk (e ∙ ap address (sym (o .last-is))) (subst (λ (n : ℕ). Cartridge n t) (sym (o .last-is)) cart) in
-    is-fold k w (reads-keep k (read-begins k at) (subst (λ (x : Result). Runs t (started (x .session) at) calls w) (o .opened) runs))
+    is-fold k w (reads-keep k (read-begins k at) (subst (λ (x : OpenedSaid). Runs t (started (x .session) at) calls w) (o .opened) runs))

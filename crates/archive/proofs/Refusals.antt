@@ -7,7 +7,7 @@ use native.Mathlib.Omega.{arith}
 use Rattle.drive.specs.declared.reply.Reply.{Reply}
 use Rattle.recording_state.specs.Session as session
 use Rattle.recording_state.specs.Fetch as fetch
-use Rattle.recording_state.specs.Fetch.{Fetching, fetchOf}
+use Rattle.recording_state.specs.Fetch.{FetchedSaid, fetchOf}
 use Rattle.recording_state.specs.declared.state.State.{State}
 use Rattle.recording_state.proofs.Ended as ended
 use Rattle.recording_state.proofs.FetchView as view
@@ -23,7 +23,7 @@ use Rattle.archive.specs.Refusals.{lentBy, leftBy, endedFromCall, Refuse
 
 -- ---- a recording
 
-frame-left : (s : State) (window frame : List ℕ) {x : Fetching} → view.FetchView s window frame x → 1 ≤ recordings.fetchNumber (x .said) → x .frame ≡ frame
+frame-left : (s : State) (window frame : List ℕ) {x : FetchedSaid} → view.FetchView s window frame x → 1 ≤ recordings.fetchNumber (x .said) → x .frame ≡ frame
 unfolding fetch.sending
 frame-left s window frame (view.wrongPhase _) h = refl
 frame-left s window frame (view.wrongLength _ _ _) h = refl
@@ -56,10 +56,10 @@ leaves s (recordings.reply r) h = refused-reply s r
 
 refused-7 : (s : State) (c : recordings.Call) → s .ended ≡ true → recordings.refusal s c ≡ 7
 refused-7 s (recordings.accept-block b window) e = ap (λ x. x .result .number) (ended.ended-block s e b window)
-refused-7 s recordings.accept-filemark e = ap (λ (x : session.Result). x .number) (ended.ended-filemark s e)
-refused-7 s recordings.close e = ap (λ (x : session.Result). x .number) (ended.ended-close s e)
-refused-7 s (recordings.fetch window frame) e = ap (λ (x : Fetching). recordings.fetchNumber (x .said)) (ended.ended-fetch s e window frame)
-refused-7 s (recordings.reply r) e = ap (λ (x : session.Result). x .number) (ended.ended-reply s e r)
+refused-7 s recordings.accept-filemark e = ap (λ (x : session.OutcomeSaid). x .number) (ended.ended-filemark s e)
+refused-7 s recordings.close e = ap (λ (x : session.OutcomeSaid). x .number) (ended.ended-close s e)
+refused-7 s (recordings.fetch window frame) e = ap (λ (x : FetchedSaid). recordings.fetchNumber (x .said)) (ended.ended-fetch s e window frame)
+refused-7 s (recordings.reply r) e = ap (λ (x : session.OutcomeSaid). x .number) (ended.ended-reply s e r)
 
 -- ---- a reading
 
@@ -80,8 +80,8 @@ read-leaves s readings.fetching h = read-fetch-leaves s (reading.fetchOf s .said
 read-leaves s (readings.replying r frame) h = read-reply-leaves s r frame (reply.replyOf s r frame .said) refl h
 
 read-refused-7 : (s : Reading) (c : readings.Call) → s .ended ≡ true → readings.refusal s c ≡ 7
-read-refused-7 s readings.fetching e = ap (λ (x : reading.Fetching). readings.fetchNumber (x .said)) (reading-ended.ended-fetch s e)
-read-refused-7 s (readings.replying r frame) e = ap (λ (x : reply.Taking). readings.replyNumber (x .said)) (reading-ended.ended-reply s e r frame)
+read-refused-7 s readings.fetching e = ap (λ (x : reading.FetchedSaid). readings.fetchNumber (x .said)) (reading-ended.ended-fetch s e)
+read-refused-7 s (readings.replying r frame) e = ap (λ (x : reply.TakenSaid). readings.replyNumber (x .said)) (reading-ended.ended-reply s e r frame)
 
 -- ---- both
 

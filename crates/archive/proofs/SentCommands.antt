@@ -35,7 +35,7 @@ module _ (s : State) (lent frame : List ℕ) (n a : ℕ) where
   pub answered-command : recording.fetchOf s lent frame .said ≡ recording.command n a → Names n a (recording.fetchOf s lent frame .session .exchange .command)
   answered-command = go (fetch-view s lent frame)
     where
-      go : {f : recording.Fetching} → FetchView s lent frame f → f .said ≡ recording.command n a → Names n a (f .session .exchange .command)
+      go : {f : recording.FetchedSaid} → FetchView s lent frame f → f .said ≡ recording.command n a → Names n a (f .session .exchange .command)
       go (view.wrongPhase _) e = never (cc)
       go (view.wrongLength _ _ _) e = never (cc)
       go (view.repeating _ _) e = sends (s .exchange .command) e
@@ -57,7 +57,7 @@ sent-command w lent frame n a e =
 pub read-command : (s : Reading) (n a : ℕ) → reading.fetchOf s .said ≡ reading.command n a → Names n a (reading.fetchOf s .session .exchange .command)
 read-command s n a = go (reading-view.fetch-view s)
   where
-    go : {f : reading.Fetching} → reading-view.FetchView s f → f .said ≡ reading.command n a → Names n a (f .session .exchange .command)
+    go : {f : reading.FetchedSaid} → reading-view.FetchView s f → f .said ≡ reading.command n a → Names n a (f .session .exchange .command)
     go (reading-view.wrong-phase _) e = never (cc)
     go (reading-view.repeats _ _) e = record { number-is = cc; address-is = cc }
     go (reading-view.ends _ _ _) e = never (cc)

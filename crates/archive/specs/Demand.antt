@@ -9,9 +9,10 @@ use lib.ListN.{length, take}
 use Rattle.geometry.specs.Place.{address}
 use Rattle.geometry.specs.Cartridge.{lastOf, isUser, isHeader}
 use Rattle.geometry.specs.declared.cartridge.Geometry.{Geometry}
+use Rattle.frame.specs.Lengths.{frameLength}
 use Rattle.header.specs.Valid.{headerOf}
 use Rattle.drive.specs.declared.reply.Reply.{Reply}
-use Rattle.recording_state.specs.Session.{Result, accepting}
+use Rattle.recording_state.specs.Session.{OutcomeSaid, accepting}
 use Rattle.recording_state.specs.Open.{openOf, openBlankOf}
 use Rattle.recording_state.specs.declared.state.State.{State}
 use Rattle.reading.specs.Open as reading
@@ -28,7 +29,7 @@ pub data Opening : Type 0 where
   on-header : List ℕ → Opening
   on-none : Opening
 
-abbrev pub opened : Geometry → ℕ → ℕ → Opening → Result
+abbrev pub opened : Geometry → ℕ → ℕ → Opening → OutcomeSaid
 opened g depth window (on-header h) = openOf g depth window h
 opened g depth window on-none = openBlankOf g depth window
 
@@ -68,9 +69,9 @@ pub record Faithful (last : ℕ) (accepted : List Element) (w : readings.World) 
   pub goes-on : w .notes .end ≡ false → w .flight ≡ readings.no-command → GivesCommand (fetch.fetchOf (w .session) .said)
   -- and the drive's answer, once given, is taken in with a lent frame of 33,280 bytes
   pub taken : (r : Reply) (given : Option (List ℕ)) (lent : List ℕ) → w .flight ≡ readings.answered r given → readings.LentWith given lent
-      → length lent ≡ 33280 → readings.refusal (w .session) (readings.replying r lent) ≡ 0
+      → length lent ≡ frameLength → readings.refusal (w .session) (readings.replying r lent) ≡ 0
   -- as every frame is that the drive gave
-  pub full : (r : Reply) (frame : List ℕ) → w .flight ≡ readings.answered r (some frame) → length frame ≡ 33280
+  pub full : (r : Reply) (frame : List ℕ) → w .flight ≡ readings.answered r (some frame) → length frame ≡ frameLength
   -- no second command before the reply
   pub alone : (w .flight ≡ readings.no-command → ⊥) → readings.refusal (w .session) readings.fetching ≡ 7
   -- the replies taken in are bounded, busy ones aside

@@ -10,6 +10,7 @@ use Rattle.geometry.specs.Pick.{pick}
 use Rattle.geometry.specs.Place.{address}
 use Rattle.geometry.specs.Cartridge.{lastOf, isUser}
 use Rattle.geometry.specs.declared.cartridge.Geometry.{Geometry}
+use Rattle.frame.specs.Lengths.{dataLength}
 use Rattle.header.specs.Valid.{headerOf}
 use Rattle.judgement.specs.Judgement as judgement
 use Rattle.judgement.specs.Judgement.{JudgementSaid, judgeFrame}
@@ -32,7 +33,7 @@ pub data Reader : Type 0 where
 abbrev pub advance : JudgementSaid → List ℕ → ℕ → List Element → Reader
 advance judgement.skipped f n got = going n got
 advance (judgement.refused m) f n got = stopped m
-advance judgement.block f n got = going (n + 1) (got ++ block (take 32768 f) ∷ [])
+advance judgement.block f n got = going (n + 1) (got ++ block (take dataLength f) ∷ [])
 advance judgement.filemark f n got = going (n + 1) (got ++ filemark ∷ [])
 advance judgement.end f n got = ended got
 

@@ -6,6 +6,7 @@ use mathlib.Core.Option.{Option, none, some}
 use lib.Dec.{eqb}
 use lib.ListN.{length, drop}
 use Rattle.geometry.specs.Pick.{pick}
+use Rattle.frame.specs.Lengths.{frameLength, dataLength}
 use Rattle.buffer.specs.Bytes.{get16}
 
 -- what each address reads as
@@ -18,9 +19,9 @@ put t a v b = pick (eqb b a) v (t b)
 
 -- a cartridge with this LAST: frames are 33,280 bytes long, and nothing is above LAST
 pub record Cartridge (last : ℕ) (t : Tape) : Type 0 where
-  pub long : (a : ℕ) (f : List ℕ) → t a ≡ some f → length f ≡ 33280
+  pub long : (a : ℕ) (f : List ℕ) → t a ≡ some f → length f ≡ frameLength
   pub bounded : (a : ℕ) → last < a → t a ≡ none
 
 -- a frame bears a pass if its AUX pass field has it
 abbrev pub Bears : ℕ → List ℕ → Type 0
-Bears pass f = get16 (drop 32768 f) 22 ≡ pass
+Bears pass f = get16 (drop dataLength f) 22 ≡ pass

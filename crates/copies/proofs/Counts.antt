@@ -7,7 +7,7 @@ use Rattle.drive.specs.Command.{write}
 use Rattle.copies.specs.declared.state.Copies.{Copies}
 use Rattle.copies.specs.Copies.{startOf, commandOf, ProgressSaid, more, complete, refused, locatedOf, takenOf, confirmedOf, onwardOf, failedAt, firstAddress, oldestAddress, nextAddress}
 use Rattle.copies.proofs.CommandView.{write-due}
-use Rattle.copies.proofs.AnswerView.{OnwardView, unfinished, turning, unwritten, through, onward-view}
+use Rattle.copies.proofs.ReplyView.{OnwardView, unfinished, turning, unwritten, through, onward-view}
 
 pub record Counts (group copy outstanding confirmed : ℕ) : Type 0 where
   pub groups : group ≤ 1

@@ -10,7 +10,7 @@ use Rattle.copies.specs.declared.state.Copies.{Copies}
 use Rattle.copies.specs.Copies.{startOf, commandOf, ProgressSaid, more, complete, refused, onwardOf, nextAddress}
 use Rattle.copies.proofs.HeaderPlaces.{header-from-first}
 use Rattle.copies.proofs.CommandView.{CommandView, locating, writing, asking, command-view, write-due}
-use Rattle.copies.proofs.AnswerView.{OnwardView, unfinished, turning, unwritten, through, onward-view}
+use Rattle.copies.proofs.ReplyView.{OnwardView, unfinished, turning, unwritten, through, onward-view}
 
 pub record Placed (locate : Bool) (copy outstanding : ℕ) : Type 0 where
   pub left : locate ≡ true → copy < 5

@@ -1,5 +1,5 @@
 pub mod HeaderPlaces
 pub mod CommandView
-pub mod AnswerView
+pub mod ReplyView
 pub mod Counts
 pub mod DueAddress

@@ -9,7 +9,7 @@ use Rattle.elements.specs.declared.trail.Trail.{Trail}
 use Rattle.elements.specs.declared.state.Elements.{Elements}
 use Rattle.elements.specs.Elements.{baseOf, isMark}
 use Rattle.elements.specs.Trail.{trailOf, trailBefore}
-use Rattle.elements.specs.Answer.{confirmedOf}
+use Rattle.elements.specs.Reply.{confirmedOf}
 
 -- an element's number may wrap: 64 divides 2^32, so its mark's place stays
 pub place-wrapped : (first i n : ℕ) → ((first + i) % 2 ^ 32 + n) % 64 ≡ (first + (i + n)) % 64

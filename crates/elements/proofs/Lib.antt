@@ -2,4 +2,4 @@ pub mod TrailLaws
 pub mod AcceptLaws
 pub mod ConfirmLaws
 pub mod DueView
-pub mod AnswerView
+pub mod ReplyView

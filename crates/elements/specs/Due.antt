@@ -4,6 +4,7 @@ use mathlib.Core.Bool.{Bool, _&&_, _||_}
 use lib.Dec.{eqb, ltb, leb}
 use Rattle.geometry.specs.Pick.{pick}
 use Rattle.geometry.specs.Refused.{refusalNumber}
+use Rattle.geometry.specs.Cartridge.{secondGroup, secondUser}
 use Rattle.drive.specs.Command.{Sent, commandSaid, write, locate, readPosition}
 use Rattle.elements.specs.declared.state.Elements.{Elements}
 use Rattle.elements.specs.Elements.{limitOf}
@@ -26,7 +27,7 @@ aboveEnd e = leb (limitOf e) (e .next .0)
 
 -- rule 3: outstanding is D, or some are outstanding and the next address is 2,990 or above END
 abbrev pub mustConfirm : ℕ → Elements → Bool
-mustConfirm depth e = leb depth (e .outstanding) || (ltb 0 (e .outstanding) && (eqb (e .next .0) 2990 || aboveEnd e))
+mustConfirm depth e = leb depth (e .outstanding) || (ltb 0 (e .outstanding) && (eqb (e .next .0) secondGroup || aboveEnd e))
 
 unfoldable pub dueOf : ℕ → Elements → DueSaid
 dueOf depth e =
@@ -39,6 +40,6 @@ dueOf depth e =
     -- 4: next address above END: refusal 9
     (pick (aboveEnd e) (refused 9)
     -- 5: next address 2,990: LOCATE 3,000
-    (pick (eqb (e .next .0) 2990) (send (locate 3000))
+    (pick (eqb (e .next .0) secondGroup) (send (locate secondUser))
     -- 6: otherwise WRITE
     (send (write (e .next .0)))))))

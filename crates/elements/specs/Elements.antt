@@ -4,15 +4,12 @@
 use Prim.Native.Nat.{ℕ, _+_, _-_, _%_, _^_}
 use mathlib.Core.Bool.{Bool, true, false}
 use lib.ListN.{getD, set, replicate}
+use Rattle.geometry.specs.Place.{asAddress}
 use Rattle.geometry.specs.Pick.{pick}
-use Rattle.geometry.specs.declared.address.Address.{Address}
 use Rattle.frame.specs.declared.element.Kind.{Kind}
 use Rattle.frame.specs.declared.element.Kind.the-variants as K
 use Rattle.elements.specs.declared.trail.Trail.{Trail}
 use Rattle.elements.specs.declared.state.Elements.{Elements}
-
-abbrev pub at : ℕ → Address
-at n = record { 0 = n }
 
 -- before the first element: its address, number and trail are given. The LOCATE of that address comes first, as rule 1's of a target.
 -- limit is END + 1, the address at which 0D/00/02 came; END starts as LAST
@@ -21,10 +18,10 @@ startOf last a number trail = record {
   first = record { 0 = number };
   pending = 0;
   outstanding = 0;
-  next = at a;
-  limit = at ((last + 1) % 2 ^ 32);
+  next = asAddress a;
+  limit = asAddress ((last + 1) % 2 ^ 32);
   relocate = true;
-  target = at a;
+  target = asAddress a;
   eod = false;
   trail = trail;
   marks = replicate 64 false;

@@ -1,4 +1,4 @@
 pub mod Elements
 pub mod Trail
 pub mod Due
-pub mod Answer
+pub mod Reply

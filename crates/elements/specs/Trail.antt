@@ -3,18 +3,19 @@ use Prim.Native.Nat.{ℕ, zero, suc, _+_, _%_, _^_}
 use mathlib.Core.Bool.{Bool, false}
 use mathlib.Core.List.{List}
 use lib.ListN.{getD}
+use Rattle.geometry.specs.Place.{asAddress}
 use Rattle.geometry.specs.Pick.{pick}
 use Rattle.elements.specs.declared.trail.Trail.{Trail}
 use Rattle.elements.specs.declared.state.Elements.{Elements}
-use Rattle.elements.specs.Elements.{at, baseOf}
+use Rattle.elements.specs.Elements.{baseOf}
 
 -- before the first element of a fresh recording: no filemark
 abbrev pub noTrail : Trail
-noTrail = record { filemarks = 0; marker = at 0xFFFFFFFF }
+noTrail = record { filemarks = 0; marker = asAddress 0xFFFFFFFF }
 
 -- behind a marker at an address
 abbrev pub marked : Trail → ℕ → Trail
-marked t a = record { filemarks = (t .filemarks + 1) % 2 ^ 32; marker = at a }
+marked t a = record { filemarks = (t .filemarks + 1) % 2 ^ 32; marker = asAddress a }
 
 -- what stands before element first + n, given what stands before element first, where the elements between lie from an address on
 unfoldable pub trailOf : Trail → List Bool → ℕ → ℕ → ℕ → Trail

@@ -5,6 +5,8 @@ use crate::state::Elements;
 use drive::Command;
 use geometry::Address;
 use geometry::Refusal;
+use geometry::SECOND_GROUP;
+use geometry::SECOND_USER;
 
 pub enum Due {
     Send(Command),
@@ -21,7 +23,7 @@ impl Elements {
         let limit = self.limit_due();
         let full = (depth as u16) <= self.outstanding;
         let some = 0 < self.outstanding;
-        full | (some & ((next.0 == 2990) | (limit.0 <= next.0)))
+        full | (some & ((next.0 == SECOND_GROUP) | (limit.0 <= next.0)))
     }
 
     // The first rule that applies, for a drive that buffers `depth` frames.
@@ -46,8 +48,8 @@ impl Elements {
         if limit.0 <= next.0 {
             return Due::Refused(Refusal::TapeFull);
         }
-        if next.0 == 2990 {
-            return Due::Send(Command::Locate(Address(3000)));
+        if next.0 == SECOND_GROUP {
+            return Due::Send(Command::Locate(Address(SECOND_USER)));
         }
         Due::Send(Command::Write(next))
     }

@@ -1,13 +1,16 @@
-// Fetching the next command. The public calls are the methods of `recording`.
+// FetchedSaid the next command. The public calls are the methods of `recording`.
 ghost use mathlib.Core.Path.{_≡_};
 ghost use lib.ListN.{length};
+ghost use Rattle.frame.specs.Lengths.{frameLength};
 ghost use Rattle.recording_state.specs.Session.{windowLength};
 ghost use Rattle.recording_state.specs.Due.{decisionSaid, headerDue, elementDue, decisionOf};
-ghost use Rattle.recording_state.specs.Fetch.{fetched, sending, fetchRefused, fetchOf};
+ghost use Rattle.recording_state.specs.Fetch.{fetchedSaid, sending, fetchRefused, fetchOf};
 use drive::Command;
 use drive::Exchange;
 use elements::Due;
 use filling::fill;
+use frame::DATA_LENGTH;
+use frame::FRAME_LENGTH;
 use geometry::Refusal;
 use recording_state::Answer;
 use recording_state::Fetched;
@@ -58,8 +61,8 @@ fn decide(s: State) -> Answer
 // Hands out a command: only a WRITE writes to the frame.
 fn send(mut s: State, c: Command, window: &[u8], frame: &mut [u8]) -> Fetched
     requires { ⌜ length (now window) ≡ windowLength s ⌝ }
-    requires { ⌜ length (now frame) ≡ 33280 ⌝ }
-    ensures { λ r. ⌜ fetched r (now (frame .exit)) ≡ sending s c (now (window .entry)) (now (frame .entry)) ⌝ }
+    requires { ⌜ length (now frame) ≡ frameLength ⌝ }
+    ensures { λ r. ⌜ fetchedSaid r (now (frame .exit)) ≡ sending s c (now (window .entry)) (now (frame .entry)) ⌝ }
 {
     if let Command::Write(_) = c {
         fill(s, window, frame);
@@ -82,16 +85,16 @@ fn refuse_fetch(s: State, refusal: Refusal) -> Fetched
 
 // The next command, or idle, or done. The window is lent as the accepts left it; the frame is written only for a WRITE, and then all of it.
 pub fn fetch(mut s: State, window: &[u8], frame: &mut [u8]) -> Fetched
-    ensures { λ r. ⌜ fetched r (now (frame .exit)) ≡ fetchOf s (now (window .entry)) (now (frame .entry)) ⌝ }
+    ensures { λ r. ⌜ fetchedSaid r (now (frame .exit)) ≡ fetchOf s (now (window .entry)) (now (frame .entry)) ⌝ }
 {
     let exchange = s.exchange;
     if s.ended | exchange.awaiting {
         return refuse_fetch(s, Refusal::Phase);
     }
-    if window.len() != s.window() * 32768 {
+    if window.len() != s.window() * DATA_LENGTH {
         return refuse_fetch(s, Refusal::Length);
     }
-    if frame.len() != 33280 {
+    if frame.len() != FRAME_LENGTH {
         return refuse_fetch(s, Refusal::Length);
     }
     let answer = decide(s);

@@ -3,6 +3,7 @@ mod window;
 
 ghost use mathlib.Core.Path.{_≡_};
 ghost use lib.ListN.{length};
+ghost use Rattle.frame.specs.Lengths.{frameLength};
 ghost use Rattle.recording_state.specs.Session.{windowLength};
 ghost use Rattle.recording_state.specs.Written.{elementOf, elementPlace, writtenElement, writtenHeader, writtenFrame};
 use crate::window::block_at;
@@ -43,7 +44,7 @@ fn element_place(s: State) -> usize
 
 fn fill_element(s: State, window: &[u8], frame: &mut [u8])
     requires { ⌜ length (now window) ≡ windowLength s ⌝ }
-    requires { ⌜ length (now frame) ≡ 33280 ⌝ }
+    requires { ⌜ length (now frame) ≡ frameLength ⌝ }
     ensures { λ _. ⌜ now (frame .exit) ≡ writtenElement s (now (window .entry)) ⌝ }
 {
     let place = element_place(s);
@@ -51,7 +52,7 @@ fn fill_element(s: State, window: &[u8], frame: &mut [u8])
 }
 
 fn fill_header(s: State, frame: &mut [u8])
-    requires { ⌜ length (now frame) ≡ 33280 ⌝ }
+    requires { ⌜ length (now frame) ≡ frameLength ⌝ }
     ensures { λ _. ⌜ now (frame .exit) ≡ writtenHeader s ⌝ }
 {
     let copies = s.copies;
@@ -62,7 +63,7 @@ fn fill_header(s: State, frame: &mut [u8])
 // Fills the frame of a WRITE.
 pub fn fill(s: State, window: &[u8], frame: &mut [u8])
     requires { ⌜ length (now window) ≡ windowLength s ⌝ }
-    requires { ⌜ length (now frame) ≡ 33280 ⌝ }
+    requires { ⌜ length (now frame) ≡ frameLength ⌝ }
     ensures { λ _. ⌜ now (frame .exit) ≡ writtenFrame s (now (window .entry)) ⌝ }
 {
     let stage = s.stage;

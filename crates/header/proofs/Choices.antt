@@ -11,7 +11,7 @@ use Rattle.buffer.specs.Bytes.{agree}
 use Rattle.geometry.specs.declared.cartridge.Geometry.{Geometry}
 use Rattle.header.specs.Valid.{updateOf}
 use Rattle.header.specs.Read.{CheckedSaid, readHeader}
-use Rattle.header.specs.Choice.{first, second, none, newerOf, choiceBy, choiceOf}
+use Rattle.header.specs.Choice.{first, second, neither, newerOf, choiceBy, choiceOf}
 
 -- by what each part is
 pub by-checked : (g : Geometry) (a b : List ℕ) {c d : CheckedSaid} → c ≡ readHeader g a → d ≡ readHeader g b → choiceBy c d a b ≡ choiceOf g a b
@@ -27,7 +27,7 @@ module _ (a b : List ℕ) where
   unfolding newerOf
   higher-second h = sym (pick-f _ (le-ltb (updateOf b) (updateOf a) (omega arith)) ∙ pick-t _ (lt-ltb _ _ h))
 
-  pub equal-counts : updateOf a ≡ updateOf b → pick (agree (take 32768 a) (take 32768 b)) first (none 3) ≡ newerOf a b
+  pub equal-counts : updateOf a ≡ updateOf b → pick (agree (take 32768 a) (take 32768 b)) first (neither 3) ≡ newerOf a b
   unfolding newerOf
   equal-counts h =
       sym (pick-f _ (le-ltb (updateOf b) (updateOf a) (omega arith)) ∙ pick-f _ (le-ltb (updateOf a) (updateOf b) (omega arith)))

@@ -8,55 +8,56 @@ use lib.ListN.{take}
 use Rattle.geometry.specs.Pick.{pick}
 use Rattle.geometry.specs.Refused.{refusalNumber}
 use Rattle.geometry.specs.declared.cartridge.Geometry.{Geometry}
+use Rattle.frame.specs.Lengths.{dataLength}
 use Rattle.buffer.specs.Bytes.{agree}
 use Rattle.header.specs.declared.choice.Choice.{Choice}
 use Rattle.header.specs.declared.choice.Choice.the-variants.{First, Second, Refused}
 use Rattle.header.specs.Valid.{updateOf}
 use Rattle.header.specs.Read.{CheckedSaid, valid, refused, readHeader}
 
-pub data Chosen : Type 0 where
-  first : Chosen
-  second : Chosen
-  none : ℕ → Chosen
+pub data ChoiceSaid : Type 0 where
+  first : ChoiceSaid
+  second : ChoiceSaid
+  neither : ℕ → ChoiceSaid
 
 -- the code's answer, a refusal by its number
-abbrev pub choiceSaid : Choice → Chosen
+abbrev pub choiceSaid : Choice → ChoiceSaid
 choiceSaid First = first
 choiceSaid Second = second
-choiceSaid (Refused r) = none (refusalNumber r)
+choiceSaid (Refused r) = neither (refusalNumber r)
 
 -- of two valid ones that with the higher update count; equal counts give the first if all 32,768 data bytes agree, else refusal 3
-unfoldable pub newerOf : List ℕ → List ℕ → Chosen
+unfoldable pub newerOf : List ℕ → List ℕ → ChoiceSaid
 newerOf a b =
     pick (ltb (updateOf b) (updateOf a)) first
     (pick (ltb (updateOf a) (updateOf b)) second
-    (pick (agree (take 32768 a) (take 32768 b)) first (none 3)))
+    (pick (agree (take dataLength a) (take dataLength b)) first (neither 3)))
 
 -- an invalid one gives way to a valid one; a wrong length or geometry stands
-abbrev pub givesWay : ℕ → Chosen → Chosen
-givesWay n other = pick (eqb n 3) other (none n)
+abbrev pub givesWay : ℕ → ChoiceSaid → ChoiceSaid
+givesWay n other = pick (eqb n 3) other (neither n)
 
 -- of two refusals the lower, which is checked first
 abbrev pub lowerOf : ℕ → ℕ → ℕ
 lowerOf m n = pick (ltb n m) n m
 
-abbrev pub choiceBy : CheckedSaid → CheckedSaid → List ℕ → List ℕ → Chosen
+abbrev pub choiceBy : CheckedSaid → CheckedSaid → List ℕ → List ℕ → ChoiceSaid
 choiceBy (valid h) (valid k) a b = newerOf a b
 choiceBy (valid h) (refused n) a b = givesWay n first
 choiceBy (refused m) (valid k) a b = givesWay m second
-choiceBy (refused m) (refused n) a b = none (lowerOf m n)
+choiceBy (refused m) (refused n) a b = neither (lowerOf m n)
 
-unfoldable pub choiceOf : Geometry → List ℕ → List ℕ → Chosen
+unfoldable pub choiceOf : Geometry → List ℕ → List ℕ → ChoiceSaid
 choiceOf g a b = choiceBy (readHeader g a) (readHeader g b) a b
 
 -- r is the caller's first or second part itself, or an empty part where the choice is refused
-abbrev pub Returned : Chosen → RefT (List ℕ) → RefT (List ℕ) → RefT (List ℕ) → Type 0
+abbrev pub Returned : ChoiceSaid → RefT (List ℕ) → RefT (List ℕ) → RefT (List ℕ) → Type 0
 Returned first a b r = r ≡ a
 Returned second a b r = r ≡ b
-Returned (none n) a b r = now r ≡ []
+Returned (neither n) a b r = now r ≡ []
 
 -- the refusal's number, 0 where the choice is not refused
-abbrev pub choiceNumber : Chosen → ℕ
+abbrev pub choiceNumber : ChoiceSaid → ℕ
 choiceNumber first = 0
 choiceNumber second = 0
-choiceNumber (none n) = n
+choiceNumber (neither n) = n

@@ -9,6 +9,7 @@ use Rattle.geometry.specs.Place as place
 use Rattle.geometry.specs.Place.{PlaceSaid}
 use Rattle.geometry.specs.Cartridge.{lastOf}
 use Rattle.geometry.specs.declared.cartridge.Geometry.{Geometry}
+use Rattle.frame.specs.Lengths.{frameLength}
 use Rattle.frame.specs.declared.header.Header.{Header}
 use Rattle.header.specs.declared.read.Checked as read
 use Rattle.header.specs.declared.read.Checked.the-variants as C
@@ -34,4 +35,4 @@ headerFor (place.refused n) h = refused n
 
 -- 1: its length
 unfoldable pub readHeader : Geometry → List ℕ → CheckedSaid
-readHeader g h = pick (eqb (length h) 33280) (headerFor (lastOf g) h) (refused 1)
+readHeader g h = pick (eqb (length h) frameLength) (headerFor (lastOf g) h) (refused 1)

@@ -1,12 +1,14 @@
 // The choice of the newer of two header frames.
 ghost use mathlib.Core.Path.{_≡_};
 ghost use lib.ListN.{length};
+ghost use Rattle.frame.specs.Lengths.{frameLength};
 ghost use Rattle.geometry.specs.Refused.{refusalNumber, verdictNumber};
 ghost use Rattle.header.specs.Choice.{choiceSaid, newerOf, givesWay, lowerOf, choiceOf, choiceNumber, Returned};
 use crate::read::Checked;
 use crate::read::read_header;
 use buffer::agrees;
 use buffer::be32_at;
+use frame::DATA_LENGTH;
 use geometry::Geometry;
 use geometry::Refusal;
 use geometry::Verdict;
@@ -20,8 +22,8 @@ pub enum Choice {
 
 // Of two valid headers.
 fn newer(first: &[u8], second: &[u8]) -> Choice
-    requires { ⌜ length (now first) ≡ 33280 ⌝ }
-    requires { ⌜ length (now second) ≡ 33280 ⌝ }
+    requires { ⌜ length (now first) ≡ frameLength ⌝ }
+    requires { ⌜ length (now second) ≡ frameLength ⌝ }
     ensures { λ r. ⌜ choiceSaid r ≡ newerOf (now (first .entry)) (now (second .entry)) ⌝ }
 {
     let m = be32_at(first, 32780);
@@ -32,7 +34,7 @@ fn newer(first: &[u8], second: &[u8]) -> Choice
     if m < n {
         return Choice::Second;
     }
-    if agrees(&first[..32768], &second[..32768]) {
+    if agrees(&first[..DATA_LENGTH], &second[..DATA_LENGTH]) {
         return Choice::First;
     }
     Choice::Refused(Refusal::Header)

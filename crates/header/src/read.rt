@@ -3,6 +3,7 @@ ghost use mathlib.Core.Path.{_≡_};
 ghost use Rattle.header.specs.Read.{checkedSaid, headerOn, readHeader};
 use crate::valid::fields;
 use crate::valid::is_valid;
+use frame::FRAME_LENGTH;
 use frame::Header;
 use geometry::Address;
 use geometry::Geometry;
@@ -28,7 +29,7 @@ fn header_on(last: Address, h: &[u8]) -> Checked
 pub fn read_header(g: Geometry, h: &[u8]) -> Checked
     ensures { λ r. ⌜ checkedSaid r ≡ readHeader g (now (h .entry)) ⌝ }
 {
-    if h.len() != 33280 {
+    if h.len() != FRAME_LENGTH {
         return Checked::Refused(Refusal::Length);
     }
     let place = g.last();

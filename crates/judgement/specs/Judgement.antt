@@ -12,6 +12,7 @@ use Rattle.frame.specs.declared.element.Element.{Element}
 use Rattle.frame.specs.declared.element.Kind.{Kind}
 use Rattle.frame.specs.declared.element.Kind.the-variants.{Data, Marker, Eod}
 use Rattle.geometry.specs.declared.address.Seq.{Seq}
+use Rattle.frame.specs.Lengths.{frameLength, dataLength}
 use Rattle.judgement.specs.declared.told.Told.{Told}
 use Rattle.judgement.specs.declared.judge.Judgement.{Judgement}
 use Rattle.judgement.specs.declared.judge.Judgement.the-variants.{Skipped, Refused, Found}
@@ -89,4 +90,4 @@ judgeAux told expected aux = unless (eqb (get32 aux 0) 0) skipped (judgeType tol
 -- a lent length that is not a frame's: refusal 1
 unfoldable pub judgeFrame : Told → Seq → List ℕ → JudgementSaid
 judgeFrame told expected frame =
-    pick (eqb (length frame) 33280) (judgeAux told expected (drop 32768 frame)) (refused 1)
+    pick (eqb (length frame) frameLength) (judgeAux told expected (drop dataLength frame)) (refused 1)

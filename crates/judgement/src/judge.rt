@@ -7,7 +7,9 @@ use crate::told::Told;
 use buffer::be16_at;
 use buffer::be32_at;
 use buffer::byte_at;
+use frame::DATA_LENGTH;
 use frame::Element;
+use frame::FRAME_LENGTH;
 use frame::Kind;
 use geometry::Address;
 use geometry::Refusal;
@@ -100,8 +102,8 @@ fn judge_aux(told: Told, expected: Seq, aux: &[u8]) -> Judgement
 pub fn judge_frame(told: Told, expected: Seq, frame: &[u8]) -> Judgement
     ensures { λ r. ⌜ judgementSaid r ≡ judgeFrame told expected (now (frame .entry)) ⌝ }
 {
-    if frame.len() != 33280 {
+    if frame.len() != FRAME_LENGTH {
         return Judgement::Refused(Refusal::Length);
     }
-    judge_aux(told, expected, &frame[32768..])
+    judge_aux(told, expected, &frame[DATA_LENGTH..])
 }

@@ -6,12 +6,12 @@ use Prim.Native.Nat.{ℕ}
 use Rattle.drive.specs.declared.reply.Reply.{Reply}
 use Rattle.reading.specs.declared.session.Reading.{Reading}
 use Rattle.reading.specs.Fetch.{sending, fetchOf}
-use Rattle.reading.specs.Reply.{nothing, answering, repeatedOf, caseOf, answerOf, replyOf}
+use Rattle.reading.specs.Reply.{nothing, answering, repeatedOf, caseOf, replyBy, replyOf}
 use Rattle.reading.proofs.ReplyView.{Taken, taken-so}
 
 module _ (s : Reading) (r : Reply) (frame : List ℕ) (taken : Taken s frame) where
   pub busy-so : (caseOf s r ≡ 0x2B02) ⊎ (caseOf s r ≡ 0x0802) → replyOf s r frame ≡ answering (repeatedOf s) nothing
-  unfolding answerOf
+  unfolding replyBy
   busy-so (inl e) = taken-so s r frame taken e
   busy-so (inr e) = taken-so s r frame taken e
 

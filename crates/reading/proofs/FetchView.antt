@@ -10,7 +10,7 @@ use Rattle.drive.specs.Command.{commandCode, commandAddress}
 use Rattle.drive.specs.declared.command.Command.{Command}
 use Rattle.drive.specs.declared.command.Command.the-variants.{Read, Locate}
 use Rattle.reading.specs.declared.session.Reading.{Reading}
-use Rattle.reading.specs.Fetch.{commandOf, command, end, refused, Fetching, awaits, sending, fetchOf}
+use Rattle.reading.specs.Fetch.{commandOf, command, end, refused, FetchedSaid, awaits, sending, fetchOf}
 use Rattle.reading.specs.Session.{endedOf}
 use Rattle.geometry.proofs.TestLaws.{or-true, or-false}
 
@@ -25,7 +25,7 @@ pub record Due (s : Reading) : Type 0 where
   pub unfinished : s .finished ≡ false
   pub within : s .next .0 ≤ s .told .last .0
 
-pub data FetchView (s : Reading) : Fetching → Type 0 where
+pub data FetchView (s : Reading) : FetchedSaid → Type 0 where
   wrong-phase : (s .ended ≡ true) ⊎ (s .exchange .awaiting ≡ true) → FetchView s (record { session = s; said = refused 7 })
   repeats : Ready s → s .exchange .again ≡ true → FetchView s (record { session = awaits s (s .exchange .command); said = command (commandCode (s .exchange .command)) (commandAddress (s .exchange .command)) })
   ends : Ready s → s .exchange .again ≡ false → s .finished ≡ true → FetchView s (record { session = s; said = end })

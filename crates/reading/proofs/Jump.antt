@@ -7,13 +7,13 @@ use Rattle.geometry.specs.Cartridge.{pastReserved}
 use Rattle.geometry.proofs.PastReserved.{past-reserved-below, past-reserved-clear}
 use Rattle.drive.specs.declared.reply.Reply.{Reply}
 use Rattle.reading.specs.declared.session.Reading.{Reading}
-use Rattle.reading.specs.Reply.{Taking, addressOf, caseOf, answerOf, replyOf}
+use Rattle.reading.specs.Reply.{TakenSaid, addressOf, caseOf, replyBy, replyOf}
 use Rattle.reading.proofs.ReplyView.{Taken, taken-so}
 
 module _ (s : Reading) (r : Reply) (frame : List ℕ) (taken : Taken s frame) (jump : caseOf s r ≡ 0x0807) (below : addressOf s + 32 < 2 ^ 32) where
   pub jump-next : replyOf s r frame .session .next .0 ≡ pastReserved (addressOf s + 32)
-  unfolding answerOf
-  jump-next = ap (λ (t : Taking). t .session .next .0) (taken-so s r frame taken jump) ∙ mod-eq-of-lt (past-reserved-below (addressOf s + 32) below)
+  unfolding replyBy
+  jump-next = ap (λ (t : TakenSaid). t .session .next .0) (taken-so s r frame taken jump) ∙ mod-eq-of-lt (past-reserved-below (addressOf s + 32) below)
 
   pub jump-clear : 2990 ≤ replyOf s r frame .session .next .0 → 3000 ≤ replyOf s r frame .session .next .0
   jump-clear = rw jump-next (past-reserved-clear (addressOf s + 32))

@@ -15,7 +15,7 @@ use Rattle.drive.proofs.ListedCases.{at-read, at-locate}
 use Rattle.judgement.specs.Judgement as judgement
 use Rattle.judgement.proofs.JudgeView as judging
 use Rattle.reading.specs.declared.session.Reading.{Reading}
-use Rattle.reading.specs.Reply.{refused, Taking, judgedBy, replyOf}
+use Rattle.reading.specs.Reply.{refused, TakenSaid, judgedBy, replyOf}
 use Rattle.reading.proofs.ReplyView as view
 use Rattle.reading.proofs.ReplyView.{Taken, Unlisted, ReplyView, reply-view}
 
@@ -27,7 +27,7 @@ module _ (s : Reading) (r : Reply) (frame : List ℕ) (taken : Taken s frame) wh
   pub taken-listed : (replyOf s r frame .said ≡ refused 8 → ⊥) → Here
   taken-listed = go (reply-view s r frame)
     where
-      go : {x : Taking} → ReplyView s r frame x → (x .said ≡ refused 8 → ⊥) → Here
+      go : {x : TakenSaid} → ReplyView s r frame x → (x .said ≡ refused 8 → ⊥) → Here
       go (view.wrong-phase (inl e)) h = clash e (taken .phase .running)
       go (view.wrong-phase (inr e)) h = clash (taken .phase .awaited) e
       go (view.wrong-length _ e) h = absurd (e (taken .long))
@@ -74,7 +74,7 @@ module _ (s : Reading) (r : Reply) (frame : List ℕ) (taken : Taken s frame) wh
   pub listed-taken : (commandCode (s .exchange .command) ≡ 0x0A → ⊥) → (commandCode (s .exchange .command) ≡ 0x34 → ⊥) → Here → replyOf s r frame .said ≡ refused 8 → ⊥
   listed-taken no-write no-position listed = go (reply-view s r frame)
     where
-      go : {x : Taking} → ReplyView s r frame x → x .said ≡ refused 8 → ⊥
+      go : {x : TakenSaid} → ReplyView s r frame x → x .said ≡ refused 8 → ⊥
       go (view.wrong-phase _) e = never (cc)
       go (view.wrong-length _ _) e = never (cc)
       go (view.busy _ _) e = never (cc)

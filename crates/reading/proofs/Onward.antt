@@ -16,8 +16,8 @@ use Rattle.drive.specs.declared.command.Command.the-variants.{Read}
 use Rattle.drive.specs.declared.reply.Reply.{Reply}
 use Rattle.judgement.specs.Judgement as judgement
 use Rattle.reading.specs.declared.session.Reading.{Reading}
-use Rattle.reading.specs.Fetch.{Fetching, command, fetchOf}
-use Rattle.reading.specs.Reply.{Taking, refused, addressOf, judgedBy, caseOf, replyOf}
+use Rattle.reading.specs.Fetch.{FetchedSaid, command, fetchOf}
+use Rattle.reading.specs.Reply.{TakenSaid, refused, addressOf, judgedBy, caseOf, replyOf}
 use Rattle.geometry.proofs.Impossible.{never}
 use Rattle.reading.proofs.FetchView as fetching
 use Rattle.reading.proofs.ReplyView as replying
@@ -27,7 +27,7 @@ module _ (s : Reading) where
   pub fetch-keeps : fetchOf s .session .next ≡ s .next
   fetch-keeps = go (fetching.fetch-view s)
     where
-      go : {f : Fetching} → fetching.FetchView s f → f .session .next ≡ s .next
+      go : {f : FetchedSaid} → fetching.FetchView s f → f .session .next ≡ s .next
       go (fetching.wrong-phase _) = refl
       go (fetching.ends _ _ _) = refl
       go (fetching.past-last _ _ _ _) = refl
@@ -40,7 +40,7 @@ module _ (s : Reading) where
   pub fetch-ahead : (s .exchange .again ≡ true → s .next .0 ≤ addressOf s) → (code address : ℕ) → fetchOf s .said ≡ command code address → fetchOf s .session .next .0 ≤ addressOf (fetchOf s .session)
   fetch-ahead again code address = go (fetching.fetch-view s)
     where
-      go : {f : Fetching} → fetching.FetchView s f → f .said ≡ command code address → f .session .next .0 ≤ addressOf (f .session)
+      go : {f : FetchedSaid} → fetching.FetchView s f → f .said ≡ command code address → f .session .next .0 ≤ addressOf (f .session)
       go (fetching.wrong-phase _) e = never (cc)
       go (fetching.ends _ _ _) e = never (cc)
       go (fetching.past-last _ _ _ _) e = never (cc)
@@ -78,7 +78,7 @@ module _ (s : Reading) (ahead : s .next .0 ≤ addressOf s) (below : addressOf s
     pub reply-at-least : s .next .0 ≤ replyOf s r frame .session .next .0
     reply-at-least = go (replying.reply-view s r frame)
       where
-        go : {t : Taking} → replying.ReplyView s r frame t → s .next .0 ≤ t .session .next .0
+        go : {t : TakenSaid} → replying.ReplyView s r frame t → s .next .0 ≤ t .session .next .0
         go (replying.wrong-phase _) = omega arith
         go (replying.wrong-length _ _) = omega arith
         go (replying.busy _ _) = omega arith
@@ -96,7 +96,7 @@ module _ (s : Reading) (ahead : s .next .0 ≤ addressOf s) (below : addressOf s
         not-locate : (meaning : ℕ) → meaning < 256 → caseOf s r ≡ 0x2B00 + meaning → ⊥
         not-locate meaning h e = omega (arith, case-parts s r 0x2B meaning h e .0, ap commandCode read)
 
-        go : {t : Taking} → replying.ReplyView s r frame t → ((n : ℕ) → t .said ≡ refused n → ⊥) → s .next .0 < t .session .next .0
+        go : {t : TakenSaid} → replying.ReplyView s r frame t → ((n : ℕ) → t .said ≡ refused n → ⊥) → s .next .0 < t .session .next .0
         go (replying.wrong-phase _) accepted = absurd (accepted 7 refl)
         go (replying.wrong-length _ _) accepted = absurd (accepted 1 refl)
         go (replying.busy _ (inl e)) accepted = absurd (not-locate 2 (lit< tt) e)

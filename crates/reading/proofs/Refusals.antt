@@ -31,7 +31,7 @@ module _ (s : Reading) (n : ℕ) where
   pub refused-fetch : fetch.fetchOf s .said ≡ fetch.refused n → Leaves n s (fetch.fetchOf s .session)
   refused-fetch = go (fetching.fetch-view s)
     where
-      go : {f : fetch.Fetching} → fetching.FetchView s f → f .said ≡ fetch.refused n → Leaves n s (f .session)
+      go : {f : fetch.FetchedSaid} → fetching.FetchView s f → f .said ≡ fetch.refused n → Leaves n s (f .session)
       go (fetching.wrong-phase _) e = let number : 7 ≡ n = cc in unchanged-by n (omega arith)
       go (fetching.ends _ _ _) e = never (cc)
       go (fetching.past-last _ _ _ _) e = let number : 12 ≡ n = cc in ended-by n (omega arith)
@@ -57,7 +57,7 @@ module _ (s : Reading) (n : ℕ) where
     pub refused-reply : (r : Reply) → reply.replyOf s r frame .said ≡ reply.refused n → Leaves n s (reply.replyOf s r frame .session)
     refused-reply r = go (replying.reply-view s r frame)
       where
-        go : {t : reply.Taking} → replying.ReplyView s r frame t → t .said ≡ reply.refused n → Leaves n s (t .session)
+        go : {t : reply.TakenSaid} → replying.ReplyView s r frame t → t .said ≡ reply.refused n → Leaves n s (t .session)
         go (replying.wrong-phase _) e = let number : 7 ≡ n = cc in unchanged-by n (omega arith)
         go (replying.wrong-length _ _) e = let number : 1 ≡ n = cc in unchanged-by n (omega arith)
         go (replying.busy _ _) e = never (cc)

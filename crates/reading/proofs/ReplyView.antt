@@ -11,7 +11,7 @@ use Rattle.geometry.proofs.PickLaws.{pick-by}
 use Rattle.drive.specs.declared.reply.Reply.{Reply}
 use Rattle.judgement.specs.Judgement.{JudgementSaid, judgeFrame}
 use Rattle.reading.specs.declared.session.Reading.{Reading}
-use Rattle.reading.specs.Reply.{nothing, Taking, answering, refusing, ending, repeatedOf, locatedOf, skippedOf, judgedBy, judgedOf, jumpedOf, caseOf, answerOf, replyOf}
+use Rattle.reading.specs.Reply.{nothing, TakenSaid, answering, refusing, ending, repeatedOf, locatedOf, skippedOf, judgedBy, judgedOf, jumpedOf, caseOf, replyBy, replyOf}
 use Rattle.geometry.proofs.TestLaws.{or-true, or-false}
 use Rattle.reading.proofs.Tests.{is-one, is-neither}
 
@@ -36,7 +36,7 @@ pub record Unlisted (n : ℕ) : Type 0 where
   pub read-end-of-data : n ≡ 0x0807 → ⊥
   pub read-end-of-medium : n ≡ 0x0808 → ⊥
 
-pub data ReplyView (s : Reading) (r : Reply) (frame : List ℕ) : Taking → Type 0 where
+pub data ReplyView (s : Reading) (r : Reply) (frame : List ℕ) : TakenSaid → Type 0 where
   wrong-phase : (s .ended ≡ true) ⊎ (s .exchange .awaiting ≡ false) → ReplyView s r frame (refusing s 7)
   wrong-length : Awaited s → (length frame ≡ 33280 → ⊥) → ReplyView s r frame (refusing s 1)
   busy : Taken s frame → (caseOf s r ≡ 0x2B02) ⊎ (caseOf s r ≡ 0x0802) → ReplyView s r frame (answering (repeatedOf s) nothing)
@@ -48,12 +48,12 @@ pub data ReplyView (s : Reading) (r : Reply) (frame : List ℕ) : Taking → Typ
   unlisted : Taken s frame → Unlisted (caseOf s r) → ReplyView s r frame (ending s 8)
 
 module _ (s : Reading) (r : Reply) (frame : List ℕ) where
-  abbrev View : Taking → Type 0
+  abbrev View : TakenSaid → Type 0
   View t = ReplyView s r frame t
 
-  answer-view : Taken s frame → View (answerOf s (caseOf s r) frame)
-  unfolding answerOf judgedOf
-  answer-view taken =
+  case-view : Taken s frame → View (replyBy s (caseOf s r) frame)
+  unfolding replyBy judgedOf
+  case-view taken =
       let n = caseOf s r in
       pick-by View (eqb n 0x2B02 || eqb n 0x0802) (λ waits. busy taken (is-one n _ _ waits))
       (λ waits. pick-by View (eqb n 0x2B01) (λ locates. located taken (eqb-true _ _ locates))
@@ -86,10 +86,10 @@ module _ (s : Reading) (r : Reply) (frame : List ℕ) where
       (λ e.
       let tests = or-false (s .ended) (not (s .exchange .awaiting)) e in
       let phase : Awaited s = record { running = tests .0; awaited = not-false _ (tests .1) } in
-      pick-by View (eqb (length frame) 33280) (λ long. answer-view (record { phase = phase; long = eqb-true _ _ long }))
+      pick-by View (eqb (length frame) 33280) (λ long. case-view (record { phase = phase; long = eqb-true _ _ long }))
       (λ long. wrong-length phase (eqb-false _ _ long)))
 
   -- and what a reply is answered where its case is known
-  pub taken-so : {n : ℕ} → Taken s frame → caseOf s r ≡ n → replyOf s r frame ≡ answerOf s n frame
+  pub taken-so : {n : ℕ} → Taken s frame → caseOf s r ≡ n → replyOf s r frame ≡ replyBy s n frame
   unfolding replyOf
   taken-so taken e = rw (taken .phase .running, taken .phase .awaited, eq-eqb (length frame) 33280 (taken .long), e)

@@ -6,15 +6,15 @@ use lib.ListN.{length, drop}
 use Rattle.drive.specs.declared.reply.Reply.{Reply}
 use Rattle.judgement.proofs.Cases.{right-length}
 use Rattle.reading.specs.declared.session.Reading.{Reading}
-use Rattle.reading.specs.Reply.{judgedOf, caseOf, answerOf, replyOf}
+use Rattle.reading.specs.Reply.{judgedOf, caseOf, replyBy, replyOf}
 
 module _ (s : Reading) (a b : List ℕ) (long : length a ≡ 33280) (also-long : length b ≡ 33280) (same : drop 32768 a ≡ drop 32768 b) where
   judged-by-aux : judgedOf s a ≡ judgedOf s b
   unfolding judgedOf
   judged-by-aux = rw (right-length (s .told) (s .expected) a long, right-length (s .told) (s .expected) b also-long, same)
 
-  answered-by-aux : (n : ℕ) → answerOf s n a ≡ answerOf s n b
-  unfolding answerOf
+  answered-by-aux : (n : ℕ) → replyBy s n a ≡ replyBy s n b
+  unfolding replyBy
   answered-by-aux n = rw judged-by-aux
 
   pub replied-by-aux : (r : Reply) → replyOf s r a ≡ replyOf s r b

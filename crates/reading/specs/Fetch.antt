@@ -4,6 +4,7 @@ use mathlib.Core.Bool.{_||_}
 use lib.Dec.{eqb, ltb}
 use Rattle.geometry.specs.Pick.{pick}
 use Rattle.geometry.specs.Refused.{refusalNumber}
+use Rattle.geometry.specs.Cartridge.{secondGroup, secondUser}
 use Rattle.drive.specs.Command.{commandCode, commandAddress}
 use Rattle.drive.specs.Exchange.{sentOf}
 use Rattle.drive.specs.declared.command.Command.{Command}
@@ -18,7 +19,7 @@ use Rattle.reading.specs.Session.{withExchange, endedOf}
 unfoldable pub commandOf : Reading → Command
 commandOf s =
     pick (s .locate) (Locate (s .next))
-    (pick (eqb (s .next .0) 2990) (Locate (record { 0 = 3000 })) (Read (s .next)))
+    (pick (eqb (s .next .0) secondGroup) (Locate (record { 0 = secondUser })) (Read (s .next)))
 
 -- what a fetch answers: a command by its operation code and address, the end, or a refusal by its number
 pub data AnswerSaid : Type 0 where
@@ -31,23 +32,23 @@ answerSaid (A.Command c) = command (commandCode c) (commandAddress c)
 answerSaid A.End = end
 answerSaid (A.Refused r) = refused (refusalNumber r)
 
-pub record Fetching : Type 0 where
+pub record FetchedSaid : Type 0 where
   pub session : Reading
   pub said : AnswerSaid
 
-abbrev pub fetchedSaid : Fetched → Fetching
+abbrev pub fetchedSaid : Fetched → FetchedSaid
 fetchedSaid r = record { session = r .session; said = answerSaid (r .answer) }
 
 -- the command goes out and its reply is awaited
 abbrev pub awaits : Reading → Command → Reading
 awaits s c = withExchange s (sentOf c)
 
-abbrev pub sending : Reading → Command → Fetching
+abbrev pub sending : Reading → Command → FetchedSaid
 sending s c = record { session = awaits s c; said = command (commandCode c) (commandAddress c) }
 
 -- refusal 7 where the session has ended or a reply is awaited; after busy the same command, whichever rule then applies;
 -- the end, said again at each fetch; next address above LAST: refusal 12
-unfoldable pub fetchOf : Reading → Fetching
+unfoldable pub fetchOf : Reading → FetchedSaid
 fetchOf s =
     pick (s .ended || s .exchange .awaiting) (record { session = s; said = refused 7 })
     (pick (s .exchange .again) (sending s (s .exchange .command))

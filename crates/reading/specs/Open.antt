@@ -13,11 +13,11 @@ use Rattle.reading.specs.declared.session.Opened.{Opened}
 use Rattle.reading.specs.Session.{endedOf}
 
 -- the session and the number of the refusal, 0 for none
-pub record Result : Type 0 where
+pub record OpenedSaid : Type 0 where
   pub session : Reading
   pub number : ℕ
 
-abbrev pub openedSaid : Opened → Result
+abbrev pub openedSaid : Opened → OpenedSaid
 openedSaid r = record { session = r .session; number = verdictNumber (r .verdict) }
 
 -- what the header tells
@@ -37,13 +37,13 @@ fresh told = record {
 }
 
 -- a refused opening returns a session that has ended
-abbrev pub openRefused : ℕ → Result
+abbrev pub openRefused : ℕ → OpenedSaid
 openRefused n = record { session = endedOf (fresh (record { last = record { 0 = 0 }; pass = 0 })); number = n }
 
 -- a header that is valid gives its fields; any other is refused with 1, 2 or 3
-abbrev pub openFor : CheckedSaid → Result
+abbrev pub openFor : CheckedSaid → OpenedSaid
 openFor (valid header) = record { session = fresh (toldOf header); number = 0 }
 openFor (refused n) = openRefused n
 
-unfoldable pub openOf : Geometry → List ℕ → Result
+unfoldable pub openOf : Geometry → List ℕ → OpenedSaid
 openOf g h = openFor (readHeader g h)

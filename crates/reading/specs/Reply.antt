@@ -8,6 +8,7 @@ use Rattle.geometry.specs.Pick.{pick}
 use Rattle.geometry.specs.Refused.{refusalNumber}
 use Rattle.geometry.specs.Cartridge.{pastReserved}
 use Rattle.geometry.specs.declared.address.Address.{Address}
+use Rattle.frame.specs.Lengths.{frameLength}
 use Rattle.drive.specs.Command.{commandAddress}
 use Rattle.drive.specs.Cases as cases
 use Rattle.drive.specs.Cases.{locateGood, locateBusy, readGood, readBusy, readRecovered, readUnreadable, readEndOfData, readEndOfMedium}
@@ -35,22 +36,22 @@ deliverySaid D.Filemark = filemark
 deliverySaid D.End = end
 deliverySaid (D.Refused r) = refused (refusalNumber r)
 
-pub record Taking : Type 0 where
+pub record TakenSaid : Type 0 where
   pub session : Reading
   pub said : DeliverySaid
 
-abbrev pub takenSaid : Taken → Taking
+abbrev pub takenSaid : Taken → TakenSaid
 takenSaid t = record { session = t .session; said = deliverySaid (t .delivery) }
 
 -- a session beside what it answers
-abbrev pub answering : Reading → DeliverySaid → Taking
+abbrev pub answering : Reading → DeliverySaid → TakenSaid
 answering s said = record { session = s; said = said }
 
 -- refusals 1 to 7: session unchanged; 8 to 12: session ended
-abbrev pub refusing : Reading → ℕ → Taking
+abbrev pub refusing : Reading → ℕ → TakenSaid
 refusing s n = answering s (refused n)
 
-abbrev pub ending : Reading → ℕ → Taking
+abbrev pub ending : Reading → ℕ → TakenSaid
 ending s n = answering (endedOf s) (refused n)
 
 -- the address of the command
@@ -74,42 +75,42 @@ abbrev pub advancedOf : Reading → Reading
 advancedOf s = movedOf s (wrapped (addressOf s + 1)) (s .locate)
 
 -- a LOCATE answered good
-abbrev pub locatedOf : Reading → Taking
+abbrev pub locatedOf : Reading → TakenSaid
 locatedOf s = answering (movedOf s (record { 0 = addressOf s }) false) nothing
 
 -- passed over, or unreadable
-abbrev pub skippedOf : Reading → Taking
+abbrev pub skippedOf : Reading → TakenSaid
 skippedOf s = answering (advancedOf s) nothing
 
 -- an element delivered, and the next number expected
-abbrev pub deliveredOf : Reading → DeliverySaid → Taking
+abbrev pub deliveredOf : Reading → DeliverySaid → TakenSaid
 deliveredOf s said = answering (withExpected (advancedOf s) (record { 0 = (s .expected .0 + 1) % 2 ^ 32 })) said
 
 -- EOD ends reading
-abbrev pub finishedOf : Reading → Taking
+abbrev pub finishedOf : Reading → TakenSaid
 finishedOf s = answering (withEnd (advancedOf s)) end
 
 -- a frame that was read, by its judgement
-abbrev pub judgedBy : judgement.JudgementSaid → Reading → Taking
+abbrev pub judgedBy : judgement.JudgementSaid → Reading → TakenSaid
 judgedBy judgement.skipped s = skippedOf s
 judgedBy (judgement.refused n) s = ending s n
 judgedBy judgement.block s = deliveredOf s block
 judgedBy judgement.filemark s = deliveredOf s filemark
 judgedBy judgement.end s = finishedOf s
 
-unfoldable pub judgedOf : Reading → List ℕ → Taking
+unfoldable pub judgedOf : Reading → List ℕ → TakenSaid
 judgedOf s frame = judgedBy (judgement.judgeFrame (s .told) (s .expected) frame) s
 
 -- after 08/00/05 at address a, LOCATE a + 32, 2,990 to 2,999 becoming 3,000
-abbrev pub jumpedOf : Reading → Taking
+abbrev pub jumpedOf : Reading → TakenSaid
 jumpedOf s = answering (movedOf s (wrapped (pastReserved (addressOf s + 32))) true) nothing
 
 abbrev pub caseOf : Reading → Reply → ℕ
 caseOf s r = cases.caseOf (s .exchange .command) r
 
 -- by the command and the meaning of its reply; anything else: refusal 8
-unfoldable pub answerOf : Reading → ℕ → List ℕ → Taking
-answerOf s n frame =
+unfoldable pub replyBy : Reading → ℕ → List ℕ → TakenSaid
+replyBy s n frame =
     -- LOCATE and READ, busy
     pick (eqb n locateBusy || eqb n readBusy) (answering (repeatedOf s) nothing)
     -- LOCATE, good
@@ -125,7 +126,7 @@ answerOf s n frame =
     (ending s 8))))))
 
 -- refusal 7 without a command; 1 where the frame's length is wrong
-unfoldable pub replyOf : Reading → Reply → List ℕ → Taking
+unfoldable pub replyOf : Reading → Reply → List ℕ → TakenSaid
 replyOf s r frame =
     pick (s .ended || not (s .exchange .awaiting)) (refusing s 7)
-    (pick (eqb (length frame) 33280) (answerOf s (caseOf s r) frame) (refusing s 1))
+    (pick (eqb (length frame) frameLength) (replyBy s (caseOf s r) frame) (refusing s 1))

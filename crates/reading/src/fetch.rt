@@ -1,4 +1,4 @@
-// Fetching the next command.
+// FetchedSaid the next command.
 ghost use mathlib.Core.Path.{_≡_};
 ghost use Rattle.reading.specs.Fetch.{commandOf, fetchedSaid, sending, fetchOf};
 use crate::session::Answer;
@@ -8,6 +8,8 @@ use drive::Command;
 use drive::Exchange;
 use geometry::Address;
 use geometry::Refusal;
+use geometry::SECOND_GROUP;
+use geometry::SECOND_USER;
 
 impl Reading {
     // The command that is due where the next address is not above LAST.
@@ -18,8 +20,8 @@ impl Reading {
         if self.locate {
             return Command::Locate(next);
         }
-        if next.0 == 2990 {
-            return Command::Locate(Address(3000));
+        if next.0 == SECOND_GROUP {
+            return Command::Locate(Address(SECOND_USER));
         }
         Command::Read(next)
     }

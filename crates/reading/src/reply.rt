@@ -1,4 +1,4 @@
-// Taking in a reply. Of the lent frame only the AUX is looked at.
+// TakenSaid in a reply. Of the lent frame only the AUX is looked at.
 ghost use mathlib.Core.Path.{_≡_};
 ghost use Prim.Native.Nat.{_%_, _^_};
 ghost use Rattle.geometry.specs.Refused.{refusalNumber};
@@ -18,6 +18,7 @@ use drive::READ_UNREADABLE;
 use drive::Reply;
 use drive::address;
 use drive::case_of;
+use frame::FRAME_LENGTH;
 use frame::Kind;
 use geometry::Address;
 use geometry::Refusal;
@@ -165,7 +166,7 @@ impl Reading {
         if self.ended | !self.exchange.awaiting {
             return self.refuse(Refusal::Phase);
         }
-        if frame.len() != 33280 {
+        if frame.len() != FRAME_LENGTH {
             return self.refuse(Refusal::Length);
         }
         let exchange = self.exchange;

@@ -2,14 +2,14 @@
 use Prim.Native.Nat.{ℕ}
 use mathlib.Core.List.{List}
 use Rattle.geometry.specs.Refused.{verdictNumber}
-use Rattle.recording_state.specs.Session.{Result}
+use Rattle.recording_state.specs.Session.{OutcomeSaid}
 use Rattle.recording_state.specs.Accept.{Stored}
-use Rattle.recording_state.specs.Fetch.{Fetching, answerSaid}
+use Rattle.recording_state.specs.Fetch.{FetchedSaid, answerSaid}
 use Rattle.recording.specs.declared.recording.Outcome.{Outcome}
 use Rattle.recording.specs.declared.recording.Fetched.{Fetched}
 
 -- the session and the number of the refusal, 0 for none
-abbrev pub outcomeSaid : Outcome → Result
+abbrev pub outcomeSaid : Outcome → OutcomeSaid
 outcomeSaid r = record { session = r .session .state; number = verdictNumber (r .verdict) }
 
 -- a call's result, and the window that it leaves
@@ -17,5 +17,5 @@ abbrev pub blockSaid : Outcome → List ℕ → Stored
 blockSaid r window = record { result = outcomeSaid r; window = window }
 
 -- the session and the answer that a fetch returns, and the frame that it leaves
-abbrev pub fetched : Fetched → List ℕ → Fetching
-fetched r frame = record { session = r .session .state; said = answerSaid (r .answer); frame = frame }
+abbrev pub fetchedSaid : Fetched → List ℕ → FetchedSaid
+fetchedSaid r frame = record { session = r .session .state; said = answerSaid (r .answer); frame = frame }

@@ -5,7 +5,7 @@ ghost use Rattle.recording_state.specs.Open.{openOf, openBlankOf};
 ghost use Rattle.recording_state.specs.Accept.{filemarkOf, blockOf, closeOf};
 ghost use Rattle.recording_state.specs.Fetch.{fetchOf};
 ghost use Rattle.recording_state.specs.Reply.{replyOf};
-ghost use Rattle.recording.specs.Session.{outcomeSaid, blockSaid, fetched};
+ghost use Rattle.recording.specs.Session.{outcomeSaid, blockSaid, fetchedSaid};
 use drive::Reply;
 use geometry::Geometry;
 use geometry::Verdict;
@@ -96,7 +96,7 @@ impl Recording {
 
     // The next command, or idle, or done. The window is lent as the accepts left it; the frame is written only for a WRITE, and then all of it.
     pub fn fetch(self, window: &[u8], frame: &mut [u8]) -> Fetched
-        ensures { λ r. ⌜ fetched r (now (frame .exit)) ≡ fetchOf (self .state) (now (window .entry)) (now (frame .entry)) ⌝ }
+        ensures { λ r. ⌜ fetchedSaid r (now (frame .exit)) ≡ fetchOf (self .state) (now (window .entry)) (now (frame .entry)) ⌝ }
     {
         let s = self.state;
         Fetched::of(fetching::fetch(s, window, frame))

@@ -17,7 +17,7 @@ use Rattle.recording_state.specs.declared.state.Stage.{Stage}
 use Rattle.recording_state.specs.declared.state.Stage.the-variants as S
 use Rattle.recording_state.specs.Session.{windowLength, endedOf}
 use Rattle.recording_state.specs.Due.{Decision, elementDueBy, decisionBy, decisionOf}
-use Rattle.recording_state.specs.Fetch.{idle, done, refused, Fetching, sending, answering, fetchOf}
+use Rattle.recording_state.specs.Fetch.{idle, done, refused, FetchedSaid, sending, answering, fetchOf}
 use Rattle.recording_state.proofs.Stages.{HeaderStage, ElementStage}
 
 -- the session can answer, and the buffers have their lengths
@@ -30,7 +30,7 @@ pub record Ready (s : State) (window frame : List ℕ) : Type 0 where
 abbrev pub WrongLength : State → List ℕ → List ℕ → Type 0
 WrongLength s window frame = (length window ≡ windowLength s → ⊥) ⊎ (length frame ≡ 33280 → ⊥)
 
-pub data FetchView (s : State) (window frame : List ℕ) : Fetching → Type 0 where
+pub data FetchView (s : State) (window frame : List ℕ) : FetchedSaid → Type 0 where
   wrongPhase : (s .ended ≡ true) ⊎ (s .exchange .awaiting ≡ true) → FetchView s window frame (record { session = s; said = refused 7; frame = frame })
   wrongLength : s .ended ≡ false → s .exchange .awaiting ≡ false → WrongLength s window frame → FetchView s window frame (record { session = s; said = refused 1; frame = frame })
   repeating : Ready s window frame → s .exchange .again ≡ true → FetchView s window frame (sending s (s .exchange .command) window frame)

@@ -17,7 +17,7 @@ use Rattle.recording_state.specs.declared.state.State.{State}
 use Rattle.recording_state.specs.declared.state.Setup.{Setup}
 use Rattle.recording_state.specs.declared.state.Stage.{Stage}
 use Rattle.recording_state.specs.declared.state.Stage.the-variants.{OpeningHeaders, Elements, ClosingHeaders, Done}
-use Rattle.recording_state.specs.Session.{windowLength, Result, closedOf, settledBy, settledOf}
+use Rattle.recording_state.specs.Session.{windowLength, OutcomeSaid, closedOf, settledBy, settledOf}
 use Rattle.recording_state.specs.Accept.{acceptsNone, isFull, filemarkOf, Stored, blockOf, closeOf}
 
 -- the sizes, the command in flight, and the elements as the drive knows them
@@ -46,7 +46,7 @@ heldOf s = record {
 }
 
 -- accepting leaves the header copies alone too
-abbrev pub Same : State → Result → Type 0
+abbrev pub Same : State → OutcomeSaid → Type 0
 Same s r = (heldOf (r .session) ≡ heldOf s) × (r .session .copies ≡ s .copies)
 
 pub filemark-keeps : (s : State) → Same s (filemarkOf s)
@@ -82,7 +82,7 @@ settled-held s =
 pub close-held : (s : State) → heldOf (closeOf s .session) ≡ heldOf s
 unfolding closeOf
 close-held s =
-    pick-by (λ (r : Result). heldOf (r .session) ≡ heldOf s) (acceptsNone s) (λ _. refl)
+    pick-by (λ (r : OutcomeSaid). heldOf (r .session) ≡ heldOf s) (acceptsNone s) (λ _. refl)
     (λ _. settled-held (closedOf s))
 
 -- the header copies stay, but where EOD is on tape
@@ -107,4 +107,4 @@ settled-copies s =
 pub close-copies : (s : State) → Copied s (closeOf s .session)
 unfolding closeOf
 close-copies s =
-    pick-by (λ (r : Result). Copied s (r .session)) (acceptsNone s) (λ _. inl refl) (λ _. settled-copies (closedOf s))
+    pick-by (λ (r : OutcomeSaid). Copied s (r .session)) (acceptsNone s) (λ _. inl refl) (λ _. settled-copies (closedOf s))

@@ -21,11 +21,11 @@ use Rattle.drive.specs.declared.reply.Reply.{Reply}
 use Rattle.drive.proofs.ListedCases.{at-write, at-locate, at-position}
 use Rattle.copies.specs.Copies as copies
 use Rattle.copies.specs.Copies.{oldestAddress, nextAddress}
-use Rattle.copies.proofs.AnswerView as copying
+use Rattle.copies.proofs.ReplyView as copying
 use Rattle.elements.specs.Elements.{baseOf}
-use Rattle.elements.specs.Answer as answer
-use Rattle.elements.proofs.AnswerView as answers
-use Rattle.recording_state.specs.Session.{Result}
+use Rattle.elements.specs.Reply as reply
+use Rattle.elements.proofs.ReplyView as steps
+use Rattle.recording_state.specs.Session.{OutcomeSaid}
 use Rattle.recording_state.specs.Reply.{headerReplyBy, elementReplyBy, stageReply, caseOf, replyOf}
 use Rattle.recording_state.specs.declared.state.State.{State}
 use Rattle.recording_state.proofs.Stages.{HeaderStage, ElementStage, header-not-done, element-not-done}
@@ -58,7 +58,7 @@ module _ (s : State) (r : Reply) where
   error-listed (inl e) = at-write (s .exchange .command) r writeError (omega arith) (λ _ _. on.write-error) e
   error-listed (inr e) = at-position (s .exchange .command) r writeError (omega arith) on.position-error e
 
-  overflow-listed : {c : copies.ProgressSaid} {x : answer.Step} {y : Result} → caseOf s r ≡ writeOverflow → OffHeaders s → c ≡ copies.refused 8 → view.StageView s c x y → (y .number ≡ 8 → ⊥) → Here
+  overflow-listed : {c : copies.ProgressSaid} {x : reply.SteppedSaid} {y : OutcomeSaid} → caseOf s r ≡ writeOverflow → OffHeaders s → c ≡ copies.refused 8 → view.StageView s c x y → (y .number ≡ 8 → ⊥) → Here
   overflow-listed e off q (view.in-headers _) h = absurd (h (ap (λ (p : copies.ProgressSaid). headerReplyBy p s .number) q))
   overflow-listed e off q (view.in-elements st) h = at-write (s .exchange .command) r volumeOverflow (omega arith) (λ a w. on.write-overflow (off st a w)) e
   overflow-listed e off q (view.in-done _) h = absurd (h refl)
@@ -66,7 +66,7 @@ module _ (s : State) (r : Reply) where
   pub taken-listed : s .ended ≡ false → s .exchange .awaiting ≡ true → OffHeaders s → (replyOf s r .number ≡ 8 → ⊥) → Here
   taken-listed running awaited off = go (reply-view s r)
     where
-      go : {x : Result} → ReplyView s r x → (x .number ≡ 8 → ⊥) → Here
+      go : {x : OutcomeSaid} → ReplyView s r x → (x .number ≡ 8 → ⊥) → Here
       go (view.unasked (inl e)) h = clash e running
       go (view.unasked (inr e)) h = clash awaited e
       go (view.busy b) h = busy-listed b
@@ -138,8 +138,8 @@ module _ (s : State) (r : Reply) where
   header-number copies.complete h q = omega arith
   header-number (copies.refused n) h q = h (ap copies.refused q)
 
-  element-number : (x : answer.Step) → (x .number ≡ 8 → ⊥) → elementReplyBy x s .number ≡ 8 → ⊥
-  element-number x h = pick-by (λ (y : Result). y .number ≡ 8 → ⊥) (eqb (x .number) 0) (λ _ q. omega arith) (λ _ q. h q)
+  element-number : (x : reply.SteppedSaid) → (x .number ≡ 8 → ⊥) → elementReplyBy x s .number ≡ 8 → ⊥
+  element-number x h = pick-by (λ (y : OutcomeSaid). y .number ≡ 8 → ⊥) (eqb (x .number) 0) (λ _ q. omega arith) (λ _ q. h q)
 
   copies-counted : {x : copies.ProgressSaid} → r .buffered ≤ s .copies .outstanding → copying.CountedView (s .copies) (r .buffered) x → x ≡ copies.refused 8 → ⊥
   copies-counted p (copying.tooMany l) e = omega (arith, p)
@@ -150,22 +150,22 @@ module _ (s : State) (r : Reply) where
   copies-failed p l (copying.behind h) e = omega (arith, l)
   copies-failed p l (copying.failed _ _) e = omega (arith, onward-number _ (copying.onward-view _) e)
 
-  elements-counted : {x : answer.Step} → r .buffered ≤ s .elements .outstanding → answers.CountedView (s .elements) (r .buffered) x → x .number ≡ 8 → ⊥
-  elements-counted p (answers.tooMany l) q = omega (arith, p)
-  elements-counted p (answers.counted _) q = omega arith
+  elements-counted : {x : reply.SteppedSaid} → r .buffered ≤ s .elements .outstanding → steps.CountedView (s .elements) (r .buffered) x → x .number ≡ 8 → ⊥
+  elements-counted p (steps.tooMany l) q = omega (arith, p)
+  elements-counted p (steps.counted _) q = omega arith
 
-  elements-failed : {x : answer.Step} → baseOf (s .elements) ≤ r .position .0 → r .position .0 < s .elements .next .0 → answers.FailedView (s .elements) (r .position .0) (r .skip) x → x .number ≡ 8 → ⊥
-  elements-failed p l (answers.tooLow h) q = omega (arith, p)
-  elements-failed p l (answers.tooHigh h) q = omega (arith, l)
-  elements-failed p l (answers.failed _ _ _) q = omega arith
-  elements-failed p l (answers.full _ _ _) q = omega arith
+  elements-failed : {x : reply.SteppedSaid} → baseOf (s .elements) ≤ r .position .0 → r .position .0 < s .elements .next .0 → steps.FailedView (s .elements) (r .position .0) (r .skip) x → x .number ≡ 8 → ⊥
+  elements-failed p l (steps.tooLow h) q = omega (arith, p)
+  elements-failed p l (steps.tooHigh h) q = omega (arith, l)
+  elements-failed p l (steps.failed _ _ _) q = omega arith
+  elements-failed p l (steps.full _ _ _) q = omega arith
 
   module _ (stage : HeaderStage s ⊎ ElementStage s) (no-read : (a : Address) → s .exchange .command ≡ Read a → ⊥) (on-headers : OnHeaders s) (lawful : Lawful) (listed : Here) where
     -- by stage, where neither machine refuses with 8
-    stage-number : (c : copies.ProgressSaid) (x : answer.Step) → (HeaderStage s → c ≡ copies.refused 8 → ⊥) → (ElementStage s → x .number ≡ 8 → ⊥) → stageReply s c x .number ≡ 8 → ⊥
+    stage-number : (c : copies.ProgressSaid) (x : reply.SteppedSaid) → (HeaderStage s → c ≡ copies.refused 8 → ⊥) → (ElementStage s → x .number ≡ 8 → ⊥) → stageReply s c x .number ≡ 8 → ⊥
     stage-number c x h k = go (view.stage-view s c x)
       where
-        go : {y : Result} → view.StageView s c x y → y .number ≡ 8 → ⊥
+        go : {y : OutcomeSaid} → view.StageView s c x y → y .number ≡ 8 → ⊥
         go (view.in-headers st) q = header-number c (h st) q
         go (view.in-elements st) q = element-number x (k st) q
         go (view.in-done e) q = ⊎-elim (λ st. header-not-done s st e) (λ st. element-not-done s st e) stage
@@ -173,16 +173,16 @@ module _ (s : State) (r : Reply) where
     pub listed-taken : replyOf s r .number ≡ 8 → ⊥
     listed-taken = go (reply-view s r)
       where
-        go : {x : Result} → ReplyView s r x → x .number ≡ 8 → ⊥
+        go : {x : OutcomeSaid} → ReplyView s r x → x .number ≡ 8 → ⊥
         go (view.unasked _) q = omega arith
         go (view.busy _) q = omega arith
         go (view.located _) q = stage-number _ _ (λ _ e. never (cc)) (λ _ e. omega arith) q
         go (view.taken _) q = stage-number _ _ (λ _ e. never (cc)) (λ _ e. omega arith) q
         go (view.counted n) q =
             stage-number _ _ (λ st. copies-counted (lawful .in-headers st .counted n) (copying.counted-view (s .copies) (r .buffered)))
-            (λ st. elements-counted (lawful .in-elements st .counted n) (answers.counted-view (s .elements) (r .buffered))) q
+            (λ st. elements-counted (lawful .in-elements st .counted n) (steps.counted-view (s .elements) (r .buffered))) q
         go (view.failed n) q =
             stage-number _ _ (λ st. copies-failed (lawful .in-headers st .from n) (lawful .in-headers st .below n) (copying.failed-view (s .copies) (r .position .0)))
-            (λ st. elements-failed (lawful .in-elements st .from n) (lawful .in-elements st .below n) (answers.failed-view (s .elements) (r .position .0) (r .skip))) q
+            (λ st. elements-failed (lawful .in-elements st .from n) (lawful .in-elements st .below n) (steps.failed-view (s .elements) (r .position .0) (r .skip))) q
         go (view.overflowed n) q = stage-number _ _ (λ st _. no-overflow (s .exchange .command) meaning listed (on-headers st) n) (λ _ e. omega arith) q
         go (view.unlisted u) q = u (listed-case (s .exchange .command) meaning listed no-read)

@@ -15,16 +15,16 @@ use Rattle.drive.specs.Command.{commandFor}
 use Rattle.drive.specs.declared.command.Command.{Command}
 use Rattle.copies.specs.Copies as copies
 use Rattle.copies.specs.declared.state.Copies.{Copies}
-use Rattle.copies.proofs.AnswerView as copying
+use Rattle.copies.proofs.ReplyView as copying
 use Rattle.elements.specs.Due as due
 use Rattle.elements.specs.declared.state.Elements.{Elements}
-use Rattle.elements.specs.Answer as answer
+use Rattle.elements.specs.Reply as reply
 use Rattle.elements.proofs.DueView as dues
-use Rattle.elements.proofs.AnswerView as answers
+use Rattle.elements.proofs.ReplyView as steps
 use Rattle.recording_state.specs.declared.state.State.{State}
-use Rattle.recording_state.specs.Session.{windowLength, Result, ending, endedOf, withElements}
+use Rattle.recording_state.specs.Session.{windowLength, OutcomeSaid, ending, endedOf, withElements}
 use Rattle.recording_state.specs.Accept.{acceptsNone, isFull, filemarkOf, Stored, blockOf, closeOf}
-use Rattle.recording_state.specs.Fetch.{refused, Fetching, sending, fetchOf}
+use Rattle.recording_state.specs.Fetch.{refused, FetchedSaid, sending, fetchOf}
 use Rattle.recording_state.specs.Reply.{headerReplyBy, elementReplyBy, stageReply, replyOf, endedFrom}
 use Rattle.recording_state.proofs.FetchView as fetching
 use Rattle.recording_state.proofs.ReplyView as replying
@@ -80,18 +80,18 @@ due-number (dues.jumping _ _ _ _ _) q = never (cc)
 due-number (dues.writing _ _ _ _ _) q = never (cc)
 
 -- what a refused step has changed
-abbrev Stopped : Elements → Reply → answer.Step → Type 0
-Stopped e r x = (x .number ≡ 0 → ⊥) → (8 ≤ x .number) × (x .elements ≡ pick (eqb (x .number) 9) (answer.notedOf e (r .position .0) (r .skip)) e)
+abbrev Stopped : Elements → Reply → reply.SteppedSaid → Type 0
+Stopped e r x = (x .number ≡ 0 → ⊥) → (8 ≤ x .number) × (x .elements ≡ pick (eqb (x .number) 9) (reply.notedOf e (r .position .0) (r .skip)) e)
 
-counted-step : {e : Elements} (r : Reply) {f : ℕ} {x : answer.Step} → answers.CountedView e f x → Stopped e r x
-counted-step r (answers.tooMany _) h = (omega arith, refl)
-counted-step r (answers.counted _) h = absurd (h refl)
+counted-step : {e : Elements} (r : Reply) {f : ℕ} {x : reply.SteppedSaid} → steps.CountedView e f x → Stopped e r x
+counted-step r (steps.tooMany _) h = (omega arith, refl)
+counted-step r (steps.counted _) h = absurd (h refl)
 
-failed-step : {e : Elements} (r : Reply) {x : answer.Step} → answers.FailedView e (r .position .0) (r .skip) x → Stopped e r x
-failed-step r (answers.tooLow _) h = (omega arith, refl)
-failed-step r (answers.tooHigh _) h = (omega arith, refl)
-failed-step r (answers.failed _ _ _) h = absurd (h refl)
-failed-step r (answers.full _ _ _) h = (omega arith, refl)
+failed-step : {e : Elements} (r : Reply) {x : reply.SteppedSaid} → steps.FailedView e (r .position .0) (r .skip) x → Stopped e r x
+failed-step r (steps.tooLow _) h = (omega arith, refl)
+failed-step r (steps.tooHigh _) h = (omega arith, refl)
+failed-step r (steps.failed _ _ _) h = absurd (h refl)
+failed-step r (steps.full _ _ _) h = (omega arith, refl)
 
 -- ---- the calls
 
@@ -101,7 +101,7 @@ unfolding sending
 sends s c window frame e = cc
 
 module _ (s : State) where
-  abbrev Left : Result → Type 0
+  abbrev Left : OutcomeSaid → Type 0
   Left r = Leaves (r .number) s s (r .session)
 
   pub refused-filemark : Left (filemarkOf s)
@@ -140,7 +140,7 @@ module _ (s : State) where
   pub refused-fetch : (n : ℕ) (window frame : List ℕ) → fetchOf s window frame .said ≡ refused n → Leaves n s s (fetchOf s window frame .session)
   refused-fetch n window frame = go (fetching.fetch-view s window frame)
     where
-      go : {f : Fetching} → fetching.FetchView s window frame f → f .said ≡ refused n → Leaves n s s (f .session)
+      go : {f : FetchedSaid} → fetching.FetchView s window frame f → f .said ≡ refused n → Leaves n s s (f .session)
       go (fetching.wrongPhase _) e = let number : 7 ≡ n = cc in unchanged-by n (omega arith)
       go (fetching.wrongLength _ _ _) e = let number : 1 ≡ n = cc in unchanged-by n (omega arith)
       go (fetching.repeating _ _) e = never (sends s _ window frame e)
@@ -151,7 +151,7 @@ module _ (s : State) where
       go (fetching.finished _ _ _) e = never (cc)
 
   module _ (r : Reply) where
-    abbrev LeftReply : Result → Type 0
+    abbrev LeftReply : OutcomeSaid → Type 0
     LeftReply x = Leaves (x .number) s (endedFrom s r (x .number)) (x .session)
 
     plainly-ended : (n : ℕ) → Plain n → LeftReply (ending s n)
@@ -163,7 +163,7 @@ module _ (s : State) where
     header-left copies.complete h = accepted-by
     header-left (copies.refused n) h = plainly-ended n (h n refl)
 
-    element-left : (x : answer.Step) → Stopped (s .elements) r x → LeftReply (elementReplyBy x s)
+    element-left : (x : reply.SteppedSaid) → Stopped (s .elements) r x → LeftReply (elementReplyBy x s)
     element-left x h =
         pick-by LeftReply (eqb (x .number) 0) (λ _. accepted-by)
         (λ e.
@@ -171,10 +171,10 @@ module _ (s : State) where
         subst (λ (y : Elements). Leaves (x .number) s (withElements s y) (endedOf (withElements s (x .elements)))) (stopped .1) (ended-by _ (stopped .0)))
 
     -- by stage
-    stage-left : (c : copies.ProgressSaid) (x : answer.Step) → ((m : ℕ) → c ≡ copies.refused m → Plain m) → Stopped (s .elements) r x → LeftReply (stageReply s c x)
+    stage-left : (c : copies.ProgressSaid) (x : reply.SteppedSaid) → ((m : ℕ) → c ≡ copies.refused m → Plain m) → Stopped (s .elements) r x → LeftReply (stageReply s c x)
     stage-left c x h k = go (replying.stage-view s c x)
       where
-        go : {y : Result} → replying.StageView s c x y → LeftReply y
+        go : {y : OutcomeSaid} → replying.StageView s c x y → LeftReply y
         go (replying.in-headers _) = header-left c h
         go (replying.in-elements _) = element-left x k
         go (replying.in-done _) = plainly-ended 8 (plain-8 refl)
@@ -182,12 +182,12 @@ module _ (s : State) where
     pub refused-reply : LeftReply (replyOf s r)
     refused-reply = go (replying.reply-view s r)
       where
-        go : {x : Result} → replying.ReplyView s r x → LeftReply x
+        go : {x : OutcomeSaid} → replying.ReplyView s r x → LeftReply x
         go (replying.unasked _) = unchanged-by 7 (omega arith)
         go (replying.busy _) = accepted-by
         go (replying.located _) = stage-left _ _ (λ m e. never (cc)) (λ h. absurd (h refl))
         go (replying.taken _) = stage-left _ _ (λ m e. never (cc)) (λ h. absurd (h refl))
-        go (replying.counted _) = stage-left _ _ (λ m e. counted-number (copying.counted-view (s .copies) (r .buffered)) e) (counted-step r (answers.counted-view (s .elements) (r .buffered)))
-        go (replying.failed _) = stage-left _ _ (λ m e. failed-number (copying.failed-view (s .copies) (r .position .0)) e) (failed-step r (answers.failed-view (s .elements) (r .position .0) (r .skip)))
+        go (replying.counted _) = stage-left _ _ (λ m e. counted-number (copying.counted-view (s .copies) (r .buffered)) e) (counted-step r (steps.counted-view (s .elements) (r .buffered)))
+        go (replying.failed _) = stage-left _ _ (λ m e. failed-number (copying.failed-view (s .copies) (r .position .0)) e) (failed-step r (steps.failed-view (s .elements) (r .position .0) (r .skip)))
         go (replying.overflowed _) = stage-left _ _ (λ m e. plain-8 (cc)) (λ h. absurd (h refl))
         go (replying.unlisted _) = plainly-ended 8 (plain-8 refl)

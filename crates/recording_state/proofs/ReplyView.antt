@@ -10,18 +10,18 @@ use Rattle.geometry.proofs.TestLaws.{or-true}
 use Rattle.drive.specs.Cases.{locateGood, locateBusy, writeGood, writeBusy, writeFailed, writeOverflow, positionGood, positionBusy, positionFailed}
 use Rattle.drive.specs.declared.reply.Reply.{Reply}
 use Rattle.copies.specs.Copies as copies
-use Rattle.elements.specs.Answer as answer
+use Rattle.elements.specs.Reply as reply
 use Rattle.recording_state.specs.declared.state.State.{State}
 use Rattle.recording_state.specs.declared.state.Stage.{Stage}
 use Rattle.recording_state.specs.declared.state.Stage.the-variants as S
-use Rattle.recording_state.specs.Session.{Result, accepting, refusing, ending}
-use Rattle.recording_state.specs.Reply.{repeatedOf, headerReplyBy, elementReplyBy, stageReplyBy, stageReply, locatedOf, takenOf, countedOf, failedOf, overflowedOf, answerOf, caseOf, replyOf}
+use Rattle.recording_state.specs.Session.{OutcomeSaid, accepting, refusing, ending}
+use Rattle.recording_state.specs.Reply.{repeatedOf, headerReplyBy, elementReplyBy, stageReplyBy, stageReply, locatedOf, takenOf, countedOf, failedOf, overflowedOf, replyBy, caseOf, replyOf}
 use Rattle.recording_state.proofs.Stages.{HeaderStage, ElementStage}
 
 -- ---- by stage
 
-module _ (s : State) (c : copies.ProgressSaid) (e : answer.Step) where
-  pub data StageView : Result → Type 0 where
+module _ (s : State) (c : copies.ProgressSaid) (e : reply.SteppedSaid) where
+  pub data StageView : OutcomeSaid → Type 0 where
     in-headers : HeaderStage s → StageView (headerReplyBy c s)
     in-elements : ElementStage s → StageView (elementReplyBy e s)
     in-done : s .stage ≡ S.Done → StageView (ending s 8)
@@ -49,7 +49,7 @@ module _ (s : State) (c : copies.ProgressSaid) (e : answer.Step) where
   by-done q = by q
 
 -- alike to the header copies and to the elements, alike to the session
-pub stage-alike : (s : State) {c d : copies.ProgressSaid} {e f : answer.Step} → c ≡ d → e ≡ f → stageReply s c e ≡ stageReply s d f
+pub stage-alike : (s : State) {c d : copies.ProgressSaid} {e f : reply.SteppedSaid} → c ≡ d → e ≡ f → stageReply s c e ≡ stageReply s d f
 stage-alike s p q = rw (p, q)
 
 -- ---- by the command and the meaning
@@ -98,7 +98,7 @@ unforeseen n b l w p f o (counted e) = eqb-false _ _ p e
 unforeseen n b l w p f o (failed e) = true≢false (sym (failed-true n e) ∙ f)
 unforeseen n b l w p f o (overflowed e) = eqb-false _ _ o e
 
-pub data ReplyView (s : State) (r : Reply) : Result → Type 0 where
+pub data ReplyView (s : State) (r : Reply) : OutcomeSaid → Type 0 where
   unasked : (s .ended ≡ true) ⊎ (s .exchange .awaiting ≡ false) → ReplyView s r (refusing s 7)
   busy : Busy (caseOf s r) → ReplyView s r (accepting (repeatedOf s))
   located : caseOf s r ≡ locateGood → ReplyView s r (locatedOf s)
@@ -114,13 +114,13 @@ not-true false e = refl
 
 module _ (s : State) (r : Reply) where
   -- what answers the case answers the reply
-  pub reply-so : {n : ℕ} → (s .ended || not (s .exchange .awaiting)) ≡ false → caseOf s r ≡ n → replyOf s r ≡ answerOf s n r
+  pub reply-so : {n : ℕ} → (s .ended || not (s .exchange .awaiting)) ≡ false → caseOf s r ≡ n → replyOf s r ≡ replyBy s n r
   unfolding replyOf
-  reply-so phase e = pick-f _ phase ∙ ap (λ (k : ℕ). answerOf s k r) e
+  reply-so phase e = pick-f _ phase ∙ ap (λ (k : ℕ). replyBy s k r) e
 
-  answer-view : ReplyView s r (answerOf s (caseOf s r) r)
-  unfolding answerOf
-  answer-view =
+  case-view : ReplyView s r (replyBy s (caseOf s r) r)
+  unfolding replyBy
+  case-view =
       let n = caseOf s r in
       pick-by (ReplyView s r) (isBusy n) (λ t. busy (busy-of n t))
       (λ b. pick-by (ReplyView s r) (eqb n locateGood) (λ t. located (eqb-true _ _ t))
@@ -134,4 +134,4 @@ module _ (s : State) (r : Reply) where
   unfolding replyOf
   reply-view =
       pick-by (ReplyView s r) (s .ended || not (s .exchange .awaiting))
-      (λ t. unasked (⊎-elim inl (λ n. inr (not-true (s .exchange .awaiting) n)) (or-true _ _ t))) (λ _. answer-view)
+      (λ t. unasked (⊎-elim inl (λ n. inr (not-true (s .exchange .awaiting) n)) (or-true _ _ t))) (λ _. case-view)

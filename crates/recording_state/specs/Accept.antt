@@ -5,10 +5,11 @@ use mathlib.Core.List.{List}
 use lib.Dec.{eqb, ltb}
 use lib.ListN.{length}
 use Rattle.geometry.specs.Pick.{pick}
+use Rattle.frame.specs.Lengths.{dataLength}
 use Rattle.elements.specs.Elements as elements
 use Rattle.recording_state.specs.declared.state.State.{State}
 use Rattle.recording_state.specs.declared.state.Outcome.{Outcome}
-use Rattle.recording_state.specs.Session.{windowOf, windowLength, Result, outcomeSaid, accepting, refusing, withElements, closedOf, settledOf}
+use Rattle.recording_state.specs.Session.{windowOf, windowLength, OutcomeSaid, outcomeSaid, accepting, refusing, withElements, closedOf, settledOf}
 use Rattle.recording_state.specs.Window.{putBlock}
 
 -- refusal 7: the session has ended, or close was called
@@ -23,7 +24,7 @@ abbrev pub withElement : State → Bool → State
 withElement s mark = withElements s (elements.acceptedOf (s .elements) mark)
 
 -- a filemark writes nothing to the window
-unfoldable pub filemarkOf : State → Result
+unfoldable pub filemarkOf : State → OutcomeSaid
 filemarkOf s =
     pick (acceptsNone s) (refusing s 7)
     (pick (isFull s) (refusing s 6)
@@ -35,7 +36,7 @@ placeOf s = elements.numberOf (s .elements) (s .elements .pending) % windowOf s
 
 -- a call's result, and the window that it leaves
 pub record Stored : Type 0 where
-  pub result : Result
+  pub result : OutcomeSaid
   pub window : List ℕ
 
 abbrev pub blockSaid : Outcome → List ℕ → Stored
@@ -44,10 +45,10 @@ blockSaid r window = record { result = outcomeSaid r; window = window }
 unfoldable pub blockOf : State → List ℕ → List ℕ → Stored
 blockOf s block window =
     pick (acceptsNone s) (record { result = refusing s 7; window = window })
-    (pick (eqb (length block) 32768 && eqb (length window) (windowLength s))
+    (pick (eqb (length block) dataLength && eqb (length window) (windowLength s))
     (pick (isFull s) (record { result = refusing s 6; window = window })
     (record { result = accepting (withElement s false); window = putBlock window (placeOf s) block }))
     (record { result = refusing s 1; window = window }))
 
-unfoldable pub closeOf : State → Result
+unfoldable pub closeOf : State → OutcomeSaid
 closeOf s = pick (acceptsNone s) (refusing s 7) (accepting (settledOf (closedOf s)))

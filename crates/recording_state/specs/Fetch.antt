@@ -7,6 +7,7 @@ use lib.ListN.{length}
 use Rattle.geometry.specs.Pick.{pick}
 use Rattle.geometry.specs.Refused.{refusalNumber}
 use Rattle.geometry.specs.declared.refusal.Refusal.{Refusal}
+use Rattle.frame.specs.Lengths.{frameLength}
 use Rattle.drive.specs.Command.{commandCode, commandAddress}
 use Rattle.drive.specs.Exchange.{sentOf}
 use Rattle.drive.specs.declared.command.Command.{Command}
@@ -34,13 +35,13 @@ answerSaid A.Done = done
 answerSaid (A.Refused r) = refused (refusalNumber r)
 
 -- the session and the answer that a fetch returns, and the frame that it leaves
-pub record Fetching : Type 0 where
+pub record FetchedSaid : Type 0 where
   pub session : State
   pub said : AnswerSaid
   pub frame : List ℕ
 
-abbrev pub fetched : Fetched → List ℕ → Fetching
-fetched r frame = record { session = r .session; said = answerSaid (r .answer); frame = frame }
+abbrev pub fetchedSaid : Fetched → List ℕ → FetchedSaid
+fetchedSaid r frame = record { session = r .session; said = answerSaid (r .answer); frame = frame }
 
 -- the command goes out and its reply is awaited
 abbrev pub awaits : State → Command → State
@@ -53,7 +54,7 @@ frameFor (Write a) s window frame = writtenFrame s window
 frameFor (Locate a) s window frame = frame
 frameFor ReadPosition s window frame = frame
 
-unfoldable pub sending : State → Command → List ℕ → List ℕ → Fetching
+unfoldable pub sending : State → Command → List ℕ → List ℕ → FetchedSaid
 sending s c window frame = record {
   session = awaits s c;
   said = command (commandCode c) (commandAddress c);
@@ -64,16 +65,16 @@ abbrev pub fetchRefused : State → Refusal → Fetched
 fetchRefused s r = record { session = s; answer = A.Refused r }
 
 -- idle and done await no reply; a refusal here is 9 and ends the session
-abbrev pub answering : due.Decision → State → List ℕ → List ℕ → Fetching
+abbrev pub answering : due.Decision → State → List ℕ → List ℕ → FetchedSaid
 answering (due.send c) s window frame = sending s c window frame
 answering due.idle s window frame = record { session = s; said = idle; frame = frame }
 answering due.done s window frame = record { session = s; said = done; frame = frame }
 answering (due.refuse n) s window frame = record { session = endedOf s; said = refused n; frame = frame }
 
 -- refusal 7 where the session has ended or a reply is awaited; 1 where a length is wrong
-unfoldable pub fetchOf : State → List ℕ → List ℕ → Fetching
+unfoldable pub fetchOf : State → List ℕ → List ℕ → FetchedSaid
 fetchOf s window frame =
     pick (s .ended || s .exchange .awaiting) (record { session = s; said = refused 7; frame = frame })
-    (pick (eqb (length window) (windowLength s) && eqb (length frame) 33280)
+    (pick (eqb (length window) (windowLength s) && eqb (length frame) frameLength)
     (answering (decisionOf s) s window frame)
     (record { session = s; said = refused 1; frame = frame }))

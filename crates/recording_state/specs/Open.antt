@@ -17,7 +17,7 @@ use Rattle.elements.specs.Elements as elements
 use Rattle.elements.specs.Trail.{noTrail}
 use Rattle.recording_state.specs.declared.state.State.{State}
 use Rattle.recording_state.specs.declared.state.Stage.the-variants as S
-use Rattle.recording_state.specs.Session.{Result, accepting, ending}
+use Rattle.recording_state.specs.Session.{OutcomeSaid, accepting, ending}
 
 -- a session whose opening headers are due, and behind them its elements, from address 10 and number 0 on; highest is W − 1
 abbrev pub fresh : ℕ → ℕ → Header → State
@@ -35,28 +35,28 @@ fresh depth highest h = record {
 abbrev pub blankSession : State
 blankSession = fresh 0 0 (openingHeader 0 0 0)
 
-abbrev pub openRefused : ℕ → Result
+abbrev pub openRefused : ℕ → OutcomeSaid
 openRefused n = ending blankSession n
 
 -- refusal 4: D is 0, W not 1 to 64; then 5, where pass or update count can't be raised
-unfoldable pub openWith : ℕ → ℕ → Bool → Header → Result
+unfoldable pub openWith : ℕ → ℕ → Bool → Header → OutcomeSaid
 openWith depth window exhausted h =
     pick (eqb depth 0 || (eqb window 0 || ltb 64 window)) (openRefused 4)
     (pick exhausted (openRefused 5)
     (accepting (fresh depth (window - 1) h)))
 
 -- on a header that is valid; any other is refused with 1, 2 or 3
-abbrev pub openFor : CheckedSaid → ℕ → ℕ → Result
+abbrev pub openFor : CheckedSaid → ℕ → ℕ → OutcomeSaid
 openFor (valid old) depth window = openWith depth window (isExhausted old) (renewed old)
 openFor (refused n) depth window = openRefused n
 
-unfoldable pub openOf : Geometry → ℕ → ℕ → List ℕ → Result
+unfoldable pub openOf : Geometry → ℕ → ℕ → List ℕ → OutcomeSaid
 openOf g depth window h = openFor (readHeader g h) depth window
 
 -- on none: pass 1 and update count 0
-abbrev pub openBlankFor : PlaceSaid → ℕ → ℕ → Result
+abbrev pub openBlankFor : PlaceSaid → ℕ → ℕ → OutcomeSaid
 openBlankFor (place.address last) depth window = openWith depth window false (openingHeader last 1 0)
 openBlankFor (place.refused n) depth window = openRefused n
 
-unfoldable pub openBlankOf : Geometry → ℕ → ℕ → Result
+unfoldable pub openBlankOf : Geometry → ℕ → ℕ → OutcomeSaid
 openBlankOf g depth window = openBlankFor (lastOf g) depth window

@@ -2,6 +2,7 @@
 use Prim.Native.Nat.{ℕ}
 use mathlib.Core.Bool.{_||_, not}
 use lib.Dec.{eqb}
+use Rattle.geometry.specs.Place.{asAddress}
 use Rattle.geometry.specs.Pick.{pick}
 use Rattle.geometry.specs.declared.address.Address.{Address}
 use Rattle.drive.specs.Command.{commandAddress}
@@ -10,12 +11,11 @@ use Rattle.drive.specs.Cases.{locateGood, locateBusy, writeGood, writeBusy, wri
 use Rattle.drive.specs.Exchange as exchange
 use Rattle.drive.specs.declared.reply.Reply.{Reply}
 use Rattle.copies.specs.Copies as copies
-use Rattle.elements.specs.Elements as elements
-use Rattle.elements.specs.Answer as answer
+use Rattle.elements.specs.Reply as reply
 use Rattle.recording_state.specs.declared.state.State.{State}
 use Rattle.recording_state.specs.declared.state.Stage.{Stage}
 use Rattle.recording_state.specs.declared.state.Stage.the-variants as S
-use Rattle.recording_state.specs.Session.{Result, accepting, refusing, ending, followingOf, withStage, withExchange, withCopies, withElements, settledOf}
+use Rattle.recording_state.specs.Session.{OutcomeSaid, accepting, refusing, ending, followingOf, withStage, withExchange, withCopies, withElements, settledOf}
 
 -- the reply is taken in
 abbrev pub answeredOf : State → State
@@ -30,53 +30,53 @@ abbrev pub completedOf : State → State
 completedOf s = withStage s (followingOf (s .stage))
 
 -- the session after a reply, given how far the header copies are
-abbrev pub headerReplyBy : copies.ProgressSaid → State → Result
+abbrev pub headerReplyBy : copies.ProgressSaid → State → OutcomeSaid
 headerReplyBy (copies.more c) s = accepting (withCopies (answeredOf s) c)
 headerReplyBy copies.complete s = accepting (settledOf (completedOf (answeredOf s)))
 headerReplyBy (copies.refused n) s = ending s n
 
 -- given the elements; a refusal too leaves what they are by then
-abbrev pub elementReplyBy : answer.Step → State → Result
+abbrev pub elementReplyBy : reply.SteppedSaid → State → OutcomeSaid
 elementReplyBy x s =
     pick (eqb (x .number) 0) (accepting (settledOf (withElements (answeredOf s) (x .elements)))) (ending (withElements s (x .elements)) (x .number))
 
 -- by stage, what a reply is to the header copies, and what it is to the elements and EOD; when all is done no reply is awaited
-abbrev pub stageReplyBy : Stage → copies.ProgressSaid → answer.Step → State → Result
+abbrev pub stageReplyBy : Stage → copies.ProgressSaid → reply.SteppedSaid → State → OutcomeSaid
 stageReplyBy S.OpeningHeaders c e s = headerReplyBy c s
 stageReplyBy S.Elements c e s = elementReplyBy e s
 stageReplyBy S.ClosingHeaders c e s = headerReplyBy c s
 stageReplyBy S.Done c e s = ending s 8
 
-abbrev pub stageReply : State → copies.ProgressSaid → answer.Step → Result
+abbrev pub stageReply : State → copies.ProgressSaid → reply.SteppedSaid → OutcomeSaid
 stageReply s c e = stageReplyBy (s .stage) c e s
 
 -- the address of the command that is answered
 abbrev pub addressOf : State → Address
-addressOf s = elements.at (commandAddress (s .exchange .command))
+addressOf s = asAddress (commandAddress (s .exchange .command))
 
 -- LOCATE, good
-abbrev pub locatedOf : State → Result
-locatedOf s = stageReply s (copies.more (copies.locatedOf (s .copies))) (answer.kept (answer.locatedOf (s .elements) (addressOf s)))
+abbrev pub locatedOf : State → OutcomeSaid
+locatedOf s = stageReply s (copies.more (copies.locatedOf (s .copies))) (reply.kept (reply.locatedOf (s .elements) (addressOf s)))
 
 -- WRITE, good
-abbrev pub takenOf : State → Result
-takenOf s = stageReply s (copies.more (copies.takenOf (s .copies))) (answer.kept (answer.takenOf (s .elements)))
+abbrev pub takenOf : State → OutcomeSaid
+takenOf s = stageReply s (copies.more (copies.takenOf (s .copies))) (reply.kept (reply.takenOf (s .elements)))
 
 -- READ POSITION, good, with f frames still buffered
-abbrev pub countedOf : State → ℕ → Result
-countedOf s f = stageReply s (copies.countedOf (s .copies) f) (answer.countedOf (s .elements) f)
+abbrev pub countedOf : State → ℕ → OutcomeSaid
+countedOf s f = stageReply s (copies.countedOf (s .copies) f) (reply.countedOf (s .elements) f)
 
 -- 03/0C/00 with position p; headers ignore the skip
-abbrev pub failedOf : State → ℕ → ℕ → Result
-failedOf s p skip = stageReply s (copies.failedOf (s .copies) p) (answer.failedOf (s .elements) p skip)
+abbrev pub failedOf : State → ℕ → ℕ → OutcomeSaid
+failedOf s p skip = stageReply s (copies.failedOf (s .copies) p) (reply.failedOf (s .elements) p skip)
 
 -- 0D/00/02 on a WRITE: listed for an element or EOD, not for a header
-abbrev pub overflowedOf : State → Result
-overflowedOf s = stageReply s (copies.refused 8) (answer.kept (answer.overflowedOf (s .elements) (addressOf s)))
+abbrev pub overflowedOf : State → OutcomeSaid
+overflowedOf s = stageReply s (copies.refused 8) (reply.kept (reply.overflowedOf (s .elements) (addressOf s)))
 
 -- by the command and the meaning of its reply
-unfoldable pub answerOf : State → ℕ → Reply → Result
-answerOf s n r =
+unfoldable pub replyBy : State → ℕ → Reply → OutcomeSaid
+replyBy s n r =
     pick (eqb n writeBusy || (eqb n locateBusy || eqb n positionBusy)) (accepting (repeatedOf s))
     (pick (eqb n locateGood) (locatedOf s)
     (pick (eqb n writeGood) (takenOf s)
@@ -90,9 +90,9 @@ abbrev pub caseOf : State → Reply → ℕ
 caseOf s r = cases.caseOf (s .exchange .command) r
 
 -- refusal 7 without a command
-unfoldable pub replyOf : State → Reply → Result
-replyOf s r = pick (s .ended || not (s .exchange .awaiting)) (refusing s 7) (answerOf s (caseOf s r) r)
+unfoldable pub replyOf : State → Reply → OutcomeSaid
+replyOf s r = pick (s .ended || not (s .exchange .awaiting)) (refusing s 7) (replyBy s (caseOf s r) r)
 
 -- 01, "Refused calls": the session that a refused reply ends. Behind a 9 the write error is noted; every other finds it as it was
 abbrev pub endedFrom : State → Reply → ℕ → State
-endedFrom s r n = withElements s (pick (eqb n 9) (answer.notedOf (s .elements) (r .position .0) (r .skip)) (s .elements))
+endedFrom s r n = withElements s (pick (eqb n 9) (reply.notedOf (s .elements) (r .position .0) (r .skip)) (s .elements))

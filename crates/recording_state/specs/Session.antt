@@ -4,6 +4,7 @@ use mathlib.Core.Bool.{true}
 use lib.Dec.{ltb}
 use Rattle.geometry.specs.Pick.{pick}
 use Rattle.geometry.specs.Refused.{verdictNumber}
+use Rattle.frame.specs.Lengths.{dataLength}
 use Rattle.frame.specs.declared.header.Header.{Header}
 use Rattle.drive.specs.declared.exchange.Exchange.{Exchange}
 use Rattle.copies.specs.Carried.{closingOf}
@@ -21,21 +22,21 @@ abbrev pub windowOf : State → ℕ
 windowOf s = s .setup .highest + 1
 
 abbrev pub windowLength : State → ℕ
-windowLength s = windowOf s * 32768
+windowLength s = windowOf s * dataLength
 
 -- the session and the number of the refusal, 0 for none
-pub record Result : Type 0 where
+pub record OutcomeSaid : Type 0 where
   pub session : State
   pub number : ℕ
 
-abbrev pub outcomeSaid : Outcome → Result
+abbrev pub outcomeSaid : Outcome → OutcomeSaid
 outcomeSaid r = record { session = r .session; number = verdictNumber (r .verdict) }
 
-abbrev pub accepting : State → Result
+abbrev pub accepting : State → OutcomeSaid
 accepting s = record { session = s; number = 0 }
 
 -- refusals 1 to 7: session unchanged
-abbrev pub refusing : State → ℕ → Result
+abbrev pub refusing : State → ℕ → OutcomeSaid
 refusing s n = record { session = s; number = n }
 
 -- the stages in their order
@@ -66,7 +67,7 @@ closedOf s = record { setup = s .setup; stage = s .stage; exchange = s .exchange
 abbrev pub endedOf : State → State
 endedOf s = record { setup = s .setup; stage = s .stage; exchange = s .exchange; closed = s .closed; ended = true; copies = s .copies; elements = s .elements }
 
-abbrev pub ending : State → ℕ → Result
+abbrev pub ending : State → ℕ → OutcomeSaid
 ending s n = record { session = endedOf s; number = n }
 
 -- EOD becomes due

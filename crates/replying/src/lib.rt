@@ -1,7 +1,7 @@
-// Taking in a reply. The public calls are the methods of `recording`.
+// TakenSaid in a reply. The public calls are the methods of `recording`.
 ghost use mathlib.Core.Path.{_≡_};
 ghost use Rattle.copies.specs.Copies.{progressSaid};
-ghost use Rattle.elements.specs.Answer.{steppedSaid};
+ghost use Rattle.elements.specs.Reply.{steppedSaid};
 ghost use Rattle.recording_state.specs.Session.{outcomeSaid};
 ghost use Rattle.recording_state.specs.Reply.{answeredOf, repeatedOf, completedOf, headerReplyBy, elementReplyBy, stageReply, addressOf, locatedOf, takenOf, countedOf, failedOf, overflowedOf, replyOf};
 use copies::Progress;

@@ -38,7 +38,7 @@ right-length s r frame e a te = go (eqb (length frame) 33280) refl
   where
     go : (b : Bool) → eqb (length frame) 33280 ≡ b → length frame ≡ 33280
     go true h = eqb-true (length frame) 33280 h
-    go false h = no-effect (omega arith) (omega arith) (subst (λ (x : reply.Taking). TakesEffect (replyNumber (x .said))) (short s r frame e a h) te)
+    go false h = no-effect (omega arith) (omega arith) (subst (λ (x : reply.TakenSaid). TakesEffect (replyNumber (x .said))) (short s r frame e a h) te)
 
 module _ {told : Told} {t : Tape} (k : ReadTape told t) where
   reply-flight : (w : World) (r : Reply) (given : Option (List ℕ)) (frame : List ℕ) → w .notes .refused ≡ 0 → w .notes .end ≡ false → Under told t (w .session) (w .notes .deliveries)
@@ -51,7 +51,7 @@ module _ {told : Told} {t : Tape} (k : ReadTape told t) where
   read-keeps-call w v c (under n m u a) (readings.fetches te) = fetch-flight k w u n m refl a te
   read-keeps-call w v c (over n m f e a g q d b) (readings.fetches te) = fetch-end k w e a g f (over n m f e a g q d b)
   read-keeps-call w v c (halted m e q h) (readings.fetches te) =
-      no-effect (omega arith) (omega arith) (subst (λ (x : fetch.Fetching). TakesEffect (fetchNumber (x .said))) (ended-fetch (w .session) e) te)
+      no-effect (omega arith) (omega arith) (subst (λ (x : fetch.FetchedSaid). TakesEffect (fetchNumber (x .said))) (ended-fetch (w .session) e) te)
   read-keeps-call w v c (under n m u a) (readings.replies r given frame q lent te) = reply-flight w r given frame n m u (subst (Agreed (told .last .0) t (w .session) (w .at) (w .notes .replies)) q a) lent te
   read-keeps-call w v c (over n m f e a g q d b) (readings.replies r given frame q2 lent te) = none-answered (sym q ∙ q2)
   read-keeps-call w v c (halted m e q h) (readings.replies r given frame q2 lent te) = none-answered (sym q ∙ q2)

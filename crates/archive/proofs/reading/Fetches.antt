@@ -38,7 +38,7 @@ unfolding fetch.fetchOf
 fetch-awaited s a = pick-t _ (either-right (s .ended) _ a)
 
 module _ {told : Told} {t : Tape} (k : ReadTape told t) where
-  fetched-as : (w : World) {x : fetch.Fetching} → fetch.fetchOf (w .session) ≡ x → ReadInv told t (afterFetching w x) → ReadInv told t (afterFetch w)
+  fetched-as : (w : World) {x : fetch.FetchedSaid} → fetch.fetchOf (w .session) ≡ x → ReadInv told t (afterFetching w x) → ReadInv told t (afterFetch w)
   fetched-as w e i = subst (λ x. ReadInv told t (afterFetching w x)) (sym e) i
 
   module _ (w : World) (u : Under told t (w .session) (w .notes .deliveries)) where
@@ -75,7 +75,7 @@ module _ {told : Told} {t : Tape} (k : ReadTape told t) where
         Reads c = (commandCode c ≡ 0x08) ⊎ (commandCode c ≡ 0x2B)
 
         named : {c : Command} → fetch.fetchOf (w .session) ≡ fetch.sending (w .session) c → Reads c → GivesCommand (fetch.fetchOf (w .session) .said)
-        named e x = subst (λ (y : fetch.Fetching). GivesCommand (y .said)) (sym e) x
+        named e x = subst (λ (y : fetch.FetchedSaid). GivesCommand (y .said)) (sym e) x
 
         due : Reads (fetch.commandOf (w .session))
         due = pick-by Reads (w .session .locate) (λ _. inr refl) (λ _. pick-by Reads (eqb (w .session .next .0) 2990) (λ _. inr refl) (λ _. inl refl))

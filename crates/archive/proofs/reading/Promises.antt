@@ -54,8 +54,8 @@ module _ {told : Told} {t : Tape} {xs : List Element} (k : ReadTape told t) (all
   -- ---- a reply is taken in
 
   module _ (w : World) (u : Under told t (w .session) (w .notes .deliveries)) (r : Reply) (frame : List ℕ) (a : w .session .exchange .awaiting ≡ true) (long : length frame ≡ 33280) where
-    unrefused-by : {x : reply.Taking} → reply.replyOf (w .session) r frame ≡ x → replyNumber (x .said) ≡ 0 → replyNumber (reply.replyOf (w .session) r frame .said) ≡ 0
-    unrefused-by e z = ap (λ (x : reply.Taking). replyNumber (x .said)) e ∙ z
+    unrefused-by : {x : reply.TakenSaid} → reply.replyOf (w .session) r frame ≡ x → replyNumber (x .said) ≡ 0 → replyNumber (reply.replyOf (w .session) r frame .said) ≡ 0
+    unrefused-by e z = ap (λ (x : reply.TakenSaid). replyNumber (x .said)) e ∙ z
 
     judged-number : (j : JudgementSaid) → Fits xs (advance j frame (w .session .expected .0) (w .notes .deliveries)) → replyNumber (reply.judgedBy j (w .session) .said) ≡ 0
     judged-number judgement.skipped h = refl
@@ -65,13 +65,13 @@ module _ {told : Told} {t : Tape} {xs : List Element} (k : ReadTape told t) (all
     judged-number judgement.end h = refl
 
     busy-number : {c : Command} → w .session .exchange .command ≡ c → Means r busy → Ordered (told .last .0) (w .session) (w .notes .replies) c → replyNumber (reply.replyOf (w .session) r frame .said) ≡ 0
-    unfolding reply.answerOf
+    unfolding reply.replyBy
     busy-number e means (locates b p h l few) = unrefused-by (answers k w u r frame a long e means) refl
     busy-number e means (crosses b p q l few) = unrefused-by (answers k w u r frame a long e means) refl
     busy-number e means (reads b p q l few) = unrefused-by (answers k w u r frame a long e means) refl
 
     served-number : {given : Option (List ℕ)} (c : Command) → w .session .exchange .command ≡ c → LentWith given frame → Served (told .last .0) t (w .session) (w .at) (w .notes .replies) r given c → replyNumber (reply.replyOf (w .session) r frame .said) ≡ 0
-    unfolding reply.answerOf
+    unfolding reply.replyBy
     served-number c e lent (located b means at o) = unrefused-by (answers k w u r frame a long e means) refl
     served-number c e lent (brought b read means there at (reads _ p q l few)) =
         lent-same lent (λ same.
@@ -144,7 +144,7 @@ module _ {told : Told} {t : Tape} {xs : List Element} (k : ReadTape told t) (all
         goes-on = λ g q. command-given k w u inside (subst (Agreed (told .last .0) t (w .session) (w .at) (w .notes .replies)) q a);
         taken = λ r given lent q along long. reply-number w r given lent u (subst (Agreed (told .last .0) t (w .session) (w .at) (w .notes .replies)) q a) along long;
         full = λ r frame q. agreed-long (subst (Agreed (told .last .0) t (w .session) (w .at) (w .notes .replies)) q a);
-        alone = λ flying. ap (λ (x : fetch.Fetching). fetchNumber (x .said)) (fetch-awaited (w .session) (agreed-awaits a flying));
+        alone = λ flying. ap (λ (x : fetch.FetchedSaid). fetchNumber (x .said)) (fetch-awaited (w .session) (agreed-awaits a flying));
         bounded = few-enough inside a;
         complete = λ g. clash g m;
         says-again = λ g. clash g m;
@@ -161,7 +161,7 @@ module _ {told : Told} {t : Tape} {xs : List Element} (k : ReadTape told t) (all
         alone = λ flying. absurd (flying q);
         bounded = b;
         complete = λ _. same;
-        says-again = λ _. ap (λ (x : fetch.Fetching). x .said) (end-again (w .session) e a g f);
+        says-again = λ _. ap (λ (x : fetch.FetchedSaid). x .said) (end-again (w .session) e a g f);
       }
   faithful w (halted m e q (invariant.stops n d)) = stopped-ended (sym d ∙ all)
   faithful w (halted m e q (invariant.finds-no-end n d)) = going-ended (sym d ∙ all)

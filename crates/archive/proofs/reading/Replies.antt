@@ -59,7 +59,7 @@ module _ {told : Told} {t : Tape} (k : ReadTape told t) (w : World) (u : Under t
   case-is : {c : Command} {m : ℕ} → w .session .exchange .command ≡ c → Means r m → reply.caseOf (w .session) r ≡ commandCode c * 256 + m
   case-is {c} e means = ap (λ (x : Command). commandCode x * 256 + meaningOf (r .key) (r .asc) (r .ascq)) e ∙ ap (λ (x : ℕ). commandCode c * 256 + x) means
 
-  pub answers : {c : Command} {m : ℕ} → w .session .exchange .command ≡ c → Means r m → reply.replyOf (w .session) r frame ≡ reply.answerOf (w .session) (commandCode c * 256 + m) frame
+  pub answers : {c : Command} {m : ℕ} → w .session .exchange .command ≡ c → Means r m → reply.replyOf (w .session) r frame ≡ reply.replyBy (w .session) (commandCode c * 256 + m) frame
   answers e means = taken-so (w .session) r frame taken (case-is e means)
 
   -- a READ of a user frame
@@ -76,12 +76,12 @@ module _ {told : Told} {t : Tape} (k : ReadTape told t) (w : World) (u : Under t
     nothing-read there = step ∙ ap (λ v. look told v (going (w .session .expected .0) (w .notes .deliveries))) there
 
     pub replied-frame : Means r good ⊎ Means r recovered → reply.replyOf (w .session) r frame ≡ reply.judgedBy (judgeFrame told (w .session .expected) frame) (w .session)
-    unfolding reply.answerOf reply.judgedOf
+    unfolding reply.replyBy reply.judgedOf
     replied-frame (inl means) = answers e means ∙ ap (λ (x : Told). reply.judgedBy (judgeFrame x (w .session .expected) frame) (w .session)) (u .told-is)
     replied-frame (inr means) = answers e means ∙ ap (λ (x : Told). reply.judgedBy (judgeFrame x (w .session .expected) frame) (w .session)) (u .told-is)
 
   module _ (n : w .notes .refused ≡ 0) (m : w .notes .end ≡ false) (g : w .session .exchange .again ≡ false) where
-    taken-as : {x : reply.Taking} → reply.replyOf (w .session) r frame ≡ x → ReadInv told t (afterTaking w r frame x) → ReadInv told t (afterReply w r frame)
+    taken-as : {x : reply.TakenSaid} → reply.replyOf (w .session) r frame ≡ x → ReadInv told t (afterTaking w r frame x) → ReadInv told t (afterReply w r frame)
     taken-as e i = subst (λ x. ReadInv told t (afterTaking w r frame x)) (sym e) i
 
     -- a reply that counts
@@ -108,7 +108,7 @@ module _ {told : Told} {t : Tape} (k : ReadTape told t) (w : World) (u : Under t
     -- ---- LOCATE answered good
 
     landed : (b : Address) → w .session .exchange .command ≡ Locate b → Means r good → w .at ≡ b .0 → Stand (told .last .0) (b .0) → foldOf told t (b .0) ≡ going (w .session .expected .0) (w .notes .deliveries) → Spent (b .0) (w .notes .replies + 1) → ReadInv told t (afterReply w r frame)
-    unfolding reply.answerOf
+    unfolding reply.replyBy
     landed b e means at here so-far few =
         taken-as (answers e means ∙ ap (λ (x : Command). reply.answering (movedTo (commandAddress x) false (w .session .expected .0)) reply.nothing) e)
         (goes-on (b .0) (w .session .expected .0) false reply.nothing refl refl (so-far ∙ ap (going (w .session .expected .0)) (sym nothing-more))
@@ -188,12 +188,12 @@ module _ {told : Told} {t : Tape} (k : ReadTape told t) (w : World) (u : Under t
       brought-so (inr means) there at = judged-by means (λ q. omega arith) at (judgeFrame told (w .session .expected) frame) (judge-view told (w .session .expected) frame) (frame-read b e user there) (replied-frame b e user (inr means))
 
       missed-so : Means r unreadable → t (w .session .next .0) ≡ none → w .at ≡ w .session .next .0 + 1 → ReadInv told t (afterReply w r frame)
-      unfolding reply.answerOf
+      unfolding reply.replyBy
       missed-so means there at =
           further means (λ q. omega arith) (w .session .expected .0) (w .session .expected .0) reply.nothing refl refl refl at (nothing-read b e user there ∙ ap (going (w .session .expected .0)) (sym nothing-more)) (answers e means)
 
       jumped-so : Means r endOfData → ((c : ℕ) → w .session .next .0 ≤ c → c < w .session .next .0 + 32 → t c ≡ none) → ReadInv told t (afterReply w r frame)
-      unfolding reply.answerOf
+      unfolding reply.replyBy
       jumped-so means unread =
           let there = w .session .next .0 in
           taken-as
@@ -217,7 +217,7 @@ module _ {told : Told} {t : Tape} (k : ReadTape told t) (w : World) (u : Under t
 
       -- 00/00/02: nothing readable is left
       lost-so : Means r endOfMedium → ((c : ℕ) → w .session .next .0 ≤ c → t c ≡ none) → ReadInv told t (afterReply w r frame)
-      unfolding reply.answerOf
+      unfolding reply.replyBy
       lost-so means unread =
           taken-as (answers e means)
           (halted m refl refl (finds-no-end refl (fold-blank k (w .session .next .0) next-low unread ∙ u .so-far ∙ ap (going (w .session .expected .0)) (sym nothing-more))))
@@ -243,7 +243,7 @@ module _ {told : Told} {t : Tape} (k : ReadTape told t) (w : World) (u : Under t
         stood ReadPosition h = tt
 
     repeats : {c : Command} → w .session .exchange .command ≡ c → Means r busy → Ordered (told .last .0) (w .session) (w .notes .replies) c → Stood (w .session) (w .at) c → ReadInv told t (afterReply w r frame)
-    unfolding reply.answerOf
+    unfolding reply.replyBy
     repeats e means (locates b p h l few) st = repeated e means (answers e means) (locates b p h l few) st
     repeats e means (crosses b p q l few) st = repeated e means (answers e means) (crosses b p q l few) st
     repeats e means (reads b p q l few) st = repeated e means (answers e means) (reads b p q l few) st

@@ -3,7 +3,7 @@ use Prim.Native.Nat.{ℕ, suc, _+_, _-_, _*_, _/_, _%_, _^_, _≤_, _<_}
 use mathlib.Core.Path.{_≡_, refl, sym, ap, subst, _∙_}
 use mathlib.Core.Bool.{Bool, true, false, _&&_}
 use mathlib.Core.List.{List, [], _∷_, _++_}
-use mathlib.Core.Logic.{_⊎_, inl, inr, ⊎-elim}
+use mathlib.Core.Logic.{_⊎_, inl, inr}
 use native.Mathlib.Decide.{decLe}
 use native.Mathlib.Nat.{eq-or-lt-of-le, div-add-mod', mul-le-mul-right, mod-eq-of-lt}
 use native.Mathlib.Omega.{arith}
@@ -22,7 +22,7 @@ use Rattle.elements.specs.Elements as elements
 use Rattle.elements.specs.declared.state.Elements.{Elements}
 use Rattle.elements.proofs.AcceptLaws.{mark-kept, accepted-new}
 use Rattle.recording_state.specs.Accept.{acceptsNone, isFull, withElement, filemarkOf, placeOf, Stored, blockOf, closeOf}
-use Rattle.recording_state.specs.Session.{closedOf, Result, windowOf, windowLength, accepting, eodDue, closingStarted, settledBy, settledOf}
+use Rattle.recording_state.specs.Session.{closedOf, OutcomeSaid, windowOf, windowLength, accepting, eodDue, closingStarted, settledBy, settledOf}
 use Rattle.recording_state.specs.Window.{blockAt, putBlock}
 use Rattle.recording_state.specs.declared.state.State.{State}
 use Rattle.recording_state.specs.declared.state.Stage.{Stage}
@@ -55,8 +55,8 @@ accepting-so s a b = let x = or-false (s .ended) (s .closed) a in record { going
 pub filemark-view : (s : State) → TakesEffect (filemarkOf s .number) → (filemarkOf s ≡ accepting (withElement s true)) × Accepting s
 unfolding filemarkOf
 filemark-view s =
-    pick-by (λ (r : Result). TakesEffect (r .number) → (r ≡ accepting (withElement s true)) × Accepting s) (acceptsNone s) (λ _ te. no-effect (omega arith) (omega arith) te)
-    (λ a. pick-by (λ (r : Result). TakesEffect (r .number) → (r ≡ accepting (withElement s true)) × Accepting s) (isFull s) (λ _ te. no-effect (omega arith) (omega arith) te)
+    pick-by (λ (r : OutcomeSaid). TakesEffect (r .number) → (r ≡ accepting (withElement s true)) × Accepting s) (acceptsNone s) (λ _ te. no-effect (omega arith) (omega arith) te)
+    (λ a. pick-by (λ (r : OutcomeSaid). TakesEffect (r .number) → (r ≡ accepting (withElement s true)) × Accepting s) (isFull s) (λ _ te. no-effect (omega arith) (omega arith) te)
     (λ b te. (refl, accepting-so s a b)))
 
 pub record Storing (s : State) (b window : List ℕ) (r : Stored) : Type 0 where
@@ -79,7 +79,7 @@ block-view s b window =
 pub close-view : (s : State) → TakesEffect (closeOf s .number) → (closeOf s ≡ accepting (settledOf (closedOf s))) × (s .ended ≡ false) × (s .closed ≡ false)
 unfolding closeOf
 close-view s =
-    pick-by (λ (r : Result). TakesEffect (r .number) → (r ≡ accepting (settledOf (closedOf s))) × (s .ended ≡ false) × (s .closed ≡ false)) (acceptsNone s) (λ _ te. no-effect (omega arith) (omega arith) te)
+    pick-by (λ (r : OutcomeSaid). TakesEffect (r .number) → (r ≡ accepting (settledOf (closedOf s))) × (s .ended ≡ false) × (s .closed ≡ false)) (acceptsNone s) (λ _ te. no-effect (omega arith) (omega arith) te)
     (λ a te. let x = or-false (s .ended) (s .closed) a in (refl, x .0, x .1))
 
 -- ---- one element more
@@ -271,7 +271,7 @@ rejecting-more w s window unaltered x d ended awaiting command stage = record {
 pub keeps-filemark : {last pass : ℕ} {premises : Type 0} (w : World) → Setting last pass → Inv last pass premises w → TakesEffect (filemarkOf (w .session) .number) → Inv last pass premises (afterFilemark w)
 keeps-filemark {last} {pass} {premises} w set i te =
     let v = filemark-view (w .session) te in
-    subst (λ (r : Result). Inv last pass premises (withAccepted w (r .session) (w .window) (w .notes .unaltered) (acceptedAfter (r .number) (w .notes .accepted) filemark))) (sym (v .0)) (go (v .1) i)
+    subst (λ (r : OutcomeSaid). Inv last pass premises (withAccepted w (r .session) (w .window) (w .notes .unaltered) (acceptedAfter (r .number) (w .notes .accepted) filemark))) (sym (v .0)) (go (v .1) i)
   where
     go : Accepting (w .session) → Inv last pass premises w → Inv last pass premises (acceptedWorld w (withElement (w .session) true) (w .window) (w .notes .unaltered) filemark)
     go acc (live wr l) =

@@ -10,7 +10,7 @@ use Rattle.drive.specs.Listed.{Listed}
 use Rattle.drive.specs.Senses.{meaningOf}
 use Rattle.elements.specs.Elements as elements
 use Rattle.recording_state.specs.Accept.{closeOf}
-use Rattle.recording_state.specs.Session.{closedOf, Result, windowOf, eodDue, closingStarted, settledOf}
+use Rattle.recording_state.specs.Session.{closedOf, OutcomeSaid, windowOf, eodDue, closingStarted, settledOf}
 use Rattle.recording_state.specs.declared.state.State.{State}
 use Rattle.recording_state.specs.declared.state.Stage.the-variants as S
 use Rattle.recording_state.proofs.Stages.{ElementStage}
@@ -124,7 +124,7 @@ rejecting-close w s d ended awaiting command stage = record {
 pub keeps-close : {last pass : ℕ} {premises : Type 0} (w : World) → Inv last pass premises w → TakesEffect (closeOf (w .session) .number) → Inv last pass premises (withSession w (closeOf (w .session) .session))
 keeps-close {last} {pass} {premises} w i te =
     let v = close-view (w .session) te in
-    subst (λ (r : Result). Inv last pass premises (withSession w (r .session))) (sym (v .0)) (go (v .1) (v .2) i)
+    subst (λ (r : OutcomeSaid). Inv last pass premises (withSession w (r .session))) (sym (v .0)) (go (v .1) (v .2) i)
   where
     go : w .session .ended ≡ false → w .session .closed ≡ false → Inv last pass premises w → Inv last pass premises (withSession w (settledOf (closedOf (w .session))))
     go going unclosed (live wr l) =

@@ -9,6 +9,7 @@ use native.Mathlib.Nat.{mod-eq-of-lt}
 use native.Mathlib.Omega.{arith}
 use lib.Dec.{eqb}
 use lib.ListN.{length}
+use Rattle.geometry.specs.Place.{asAddress}
 use Rattle.geometry.specs.Cartridge.{isUser}
 use Rattle.geometry.proofs.TestLaws.{either-right}
 use Rattle.geometry.proofs.Impossible.{never, clash}
@@ -22,13 +23,11 @@ use Rattle.drive.specs.declared.command.Command.{Command}
 use Rattle.drive.specs.declared.reply.Reply.{Reply}
 use Rattle.copies.proofs.Counts.{start-counts}
 use Rattle.copies.proofs.DueAddress.{start-placed}
-use Rattle.elements.specs.Elements as counting
-use Rattle.elements.specs.Answer as answer
+use Rattle.elements.specs.Reply as reply
 use Rattle.elements.specs.declared.state.Elements.{Elements}
-use Rattle.recording_state.specs.Session.{Result, windowOf, accepting, ending, withElements, closingHeader, closingStarted, settledOf}
-use Rattle.recording_state.specs.Reply.{caseOf, answeredOf, repeatedOf, elementReplyBy, answerOf, replyOf}
+use Rattle.recording_state.specs.Session.{OutcomeSaid, windowOf, accepting, withElements, closingHeader, closingStarted, settledOf}
+use Rattle.recording_state.specs.Reply.{caseOf, answeredOf, repeatedOf, elementReplyBy, replyBy, replyOf}
 use Rattle.recording_state.specs.declared.state.State.{State}
-use Rattle.recording_state.specs.declared.state.Stage.{Stage}
 use Rattle.recording_state.specs.declared.state.Stage.the-variants as S
 use Rattle.recording_state.proofs.Stages.{HeaderStage, ElementStage, element-not-done}
 use Rattle.recording_state.proofs.Kept.{heldOf}
@@ -75,7 +74,7 @@ seen-top {last} {pass} {edge = edge} {t = t} large cart l h = record {
     above c b (inr x) = let y = x .1 in omega arith
 
 module _ {last pass : ℕ} {premises : Type 0} (w : World) (r : Reply) (set : Setting last pass) (wr : Within last (w .drive .written)) (l : Live last pass premises w) (st : ElementStage (w .session)) where
-  abbrev After : Result → Type 0
+  abbrev After : OutcomeSaid → Type 0
   After x = Inv last pass premises (repliedWorld w (x .session))
 
   -- ---- before the stage is looked at
@@ -216,18 +215,18 @@ module _ {last pass : ℕ} {premises : Type 0} (w : World) (r : Reply) (set : Se
   -- ---- by what the drive gave
 
   module _ (again : w .session .exchange .again ≡ false) (asked : w .session .exchange .awaiting ≡ true) (which : EodDue (w .session .elements) (w .session .closed)) where
-    reached-so : {x : answer.Step} → Reached last (w .session) (w .drive) (l .k) (l .edge) x → Safe last (w .drive) → After (elementReplyBy x (w .session))
+    reached-so : {x : reply.SteppedSaid} → Reached last (w .session) (w .drive) (l .k) (l .edge) x → Safe last (w .drive) → After (elementReplyBy x (w .session))
     reached-so (steps.goes e s) safe = settles again which e s
     reached-so (steps.unlawful e) safe = ends-so w r set wr l (withElements (w .session) e) 8 (element-not-done (w .session) st) safe
     reached-so (steps.full e) safe = ends-so w r set wr l (withElements (w .session) e) 9 (element-not-done (w .session) st) safe
 
-    by : {x : answer.Step} (n : ℕ) → caseOf (w .session) r ≡ n → answerOf (w .session) n r ≡ elementReplyBy x (w .session) → Reached last (w .session) (w .drive) (l .k) (l .edge) x → Safe last (w .drive) → After (replyOf (w .session) r)
+    by : {x : reply.SteppedSaid} (n : ℕ) → caseOf (w .session) r ≡ n → replyBy (w .session) n r ≡ elementReplyBy x (w .session) → Reached last (w .session) (w .drive) (l .k) (l .edge) x → Safe last (w .drive) → After (replyOf (w .session) r)
     by n e a x safe = subst After (sym (reply-so (w .session) r (asked-so (w .session) r (l .going) asked) e ∙ a)) (reached-so x safe)
 
     low : w .session .elements .pending ≤ 64
     low = let a = l .counted .windowed in let b = l .counted .wide in omega arith
 
-    repeated : {c : Command} (n : ℕ) → w .session .exchange .command ≡ c → caseOf (w .session) r ≡ n → answerOf (w .session) n r ≡ accepting (repeatedOf (w .session)) → Asks last (heldOf (w .session)) (w .session .elements .pending) (w .drive) (l .k) (l .edge) c → After (replyOf (w .session) r)
+    repeated : {c : Command} (n : ℕ) → w .session .exchange .command ≡ c → caseOf (w .session) r ≡ n → replyBy (w .session) n r ≡ accepting (repeatedOf (w .session)) → Asks last (heldOf (w .session)) (w .session .elements .pending) (w .drive) (l .k) (l .edge) c → After (replyOf (w .session) r)
     repeated n e z b y =
         subst After (sym (reply-so (w .session) r (asked-so (w .session) r (l .going) asked) z ∙ b))
         (live wr (record {
@@ -245,7 +244,7 @@ module _ {last pass : ℕ} {premises : Type 0} (w : World) (r : Reply) (set : Se
         asks = reask (heldOf (w .session)) (heldOf (repeatedOf (w .session))) refl refl refl refl (subst (λ (i : Command). Asks last (heldOf (w .session)) (w .session .elements .pending) (w .drive) (l .k) (l .edge) i) (sym e) y)
 
     busy-by : {c : Command} → Means r busy → w .session .exchange .command ≡ c → Asks last (heldOf (w .session)) (w .session .elements .pending) (w .drive) (l .k) (l .edge) c → After (replyOf (w .session) r)
-    unfolding answerOf
+    unfolding replyBy
     busy-by m e (elements.writes a p d o lo y) = repeated writeBusy e (case-is (w .session) r (l .going) asked e m) refl (elements.writes a p d o lo y)
     busy-by m e (elements.asks y) = repeated positionBusy e (case-is (w .session) r (l .going) asked e m) refl (elements.asks y)
     busy-by m e (elements.moves a y) = repeated locateBusy e (case-is (w .session) r (l .going) asked e m) refl (elements.moves a y)
@@ -254,7 +253,7 @@ module _ {last pass : ℕ} {premises : Type 0} (w : World) (r : Reply) (set : Se
     small = set .small
 
     element-replies : (c : Command) → w .session .exchange .command ≡ c → Answered last (heldOf (w .session)) (w .session .elements .pending) (w .drive) (l .k) (l .edge) r c → After (replyOf (w .session) r)
-    unfolding answerOf
+    unfolding replyBy
     element-replies c e (elements.taken a m due x) =
         by writeGood (case-is (w .session) r (l .going) asked e m) (by-elements (w .session) _ _ st) (steps.goes _ (taken-step last (w .session) (w .drive) (l .k) (l .edge) small again (l .counted .held) low (l .counted .room) due x)) (link-safe x)
     element-replies c e (elements.counted m b x) =
@@ -266,13 +265,13 @@ module _ {last pass : ℕ} {premises : Type 0} (w : World) (r : Reply) (set : Se
     element-replies c e (elements.filled a m lo x) =
         by writeOverflow (case-is (w .session) r (l .going) asked e m) (by-elements (w .session) _ _ st ∙ ap (λ (y : Command). elementReplyBy (kept-short y) (w .session)) e) (steps.goes _ (filled-step last (w .session) (w .drive) (l .k) (l .edge) small again (l .counted .held) low (l .counted .room) a lo x)) (link-safe x)
       where
-        kept-short : Command → answer.Step
-        kept-short y = answer.kept (answer.overflowedOf (w .session .elements) (counting.at (commandAddress y)))
+        kept-short : Command → reply.SteppedSaid
+        kept-short y = reply.kept (reply.overflowedOf (w .session .elements) (asAddress (commandAddress y)))
     element-replies c e (elements.moved a m none-left f p x) =
         by locateGood (case-is (w .session) r (l .going) asked e m) (by-elements (w .session) _ _ st ∙ ap (λ (y : Command). elementReplyBy (kept-located y) (w .session)) e) (steps.goes _ (moved-step last (w .session) (w .drive) (l .k) (l .edge) small again (l .counted .held) low (l .counted .room) a none-left f p x)) (rests-safe (x .rests))
       where
-        kept-located : Command → answer.Step
-        kept-located y = answer.kept (answer.locatedOf (w .session .elements) (counting.at (commandAddress y)))
+        kept-located : Command → reply.SteppedSaid
+        kept-located y = reply.kept (reply.locatedOf (w .session .elements) (asAddress (commandAddress y)))
     element-replies c e (elements.waits k m x) = busy-by m e x
 
   pub elements-reply : EodDue (w .session .elements) (w .session .closed) → Writing last (w .session) (w .drive) (l .k) (l .edge) (recordings.answered r) → After (replyOf (w .session) r)

@@ -16,8 +16,8 @@ use Rattle.geometry.specs.declared.address.Address.{Address}
 use Rattle.geometry.proofs.PickLaws.{pick-by}
 use Rattle.archive.specs.Conduct.{Drive, AtRest, empty, stopped}
 use Rattle.elements.specs.Elements.{baseOf, limitOf, numberOf}
-use Rattle.elements.specs.Answer as answer
-use Rattle.elements.specs.Answer.{kept, refusing, locatedOf, takenOf, confirmedOf, overflowedOf, notedOf, failedTo, countedOf, failedOf}
+use Rattle.elements.specs.Reply as reply
+use Rattle.elements.specs.Reply.{kept, refusing, locatedOf, takenOf, confirmedOf, overflowedOf, notedOf, failedTo, countedOf, failedOf}
 use Rattle.elements.specs.declared.state.Elements.{Elements}
 use Rattle.recording_state.specs.Session.{withElements}
 use Rattle.recording_state.specs.Reply.{answeredOf}
@@ -46,7 +46,7 @@ pub record Step (last : ℕ) (s : State) (d : Drive) (k edge : ℕ) (e : Element
   -- where the last was confirmed, all are on tape, and it lies before the next address, where the drive is
   pub all : 0 < s .elements .pending → e .pending ≡ 0 → (k ≡ e .first .0) × AtRest d × (isUser last (e .next .0 - 1) ≡ true) × (e .next .0 ≡ d .at)
 
-pub data Reached (last : ℕ) (s : State) (d : Drive) (k edge : ℕ) : answer.Step → Type 0 where
+pub data Reached (last : ℕ) (s : State) (d : Drive) (k edge : ℕ) : reply.SteppedSaid → Type 0 where
   goes : (e : Elements) → Step last s d k edge e → Reached last s d k edge (kept e)
   unlawful : (e : Elements) → Reached last s d k edge (refusing e 8)
   full : (e : Elements) → Reached last s d k edge (refusing e 9)

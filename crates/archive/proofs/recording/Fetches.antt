@@ -7,10 +7,11 @@ use mathlib.Core.Logic.{_⊎_, inl, inr, ⊎-elim}
 use native.Mathlib.Nat.{le-refl}
 use native.Mathlib.Omega.{arith}
 use lib.ListN.{length}
+use Rattle.geometry.specs.Place.{asAddress}
 use Rattle.geometry.specs.declared.address.Address.{Address}
 use Rattle.geometry.specs.declared.address.Seq.{Seq}
 use Rattle.geometry.proofs.TestLaws.{and-true, either-left, either-right}
-use Rattle.geometry.proofs.Impossible.{never, clash}
+use Rattle.geometry.proofs.Impossible.{clash}
 use Rattle.geometry.proofs.PickLaws.{pick-t, pick-f}
 use Rattle.buffer.specs.Bytes.{agree}
 use Rattle.buffer.proofs.Agreement.{agree-is}
@@ -24,12 +25,11 @@ use Rattle.copies.specs.Copies as copying
 use Rattle.copies.proofs.CommandView as command
 use Rattle.copies.proofs.DueAddress.{PlacedOf}
 use Rattle.copies.proofs.HeaderPlaces.{header-from-first}
-use Rattle.elements.specs.Elements as counting
 use Rattle.elements.specs.Due as due
 use Rattle.elements.proofs.DueView as rule
 use Rattle.recording_state.specs.Session.{windowOf, windowLength}
 use Rattle.recording_state.specs.Written.{amongElements, writtenFrame}
-use Rattle.recording_state.specs.Fetch.{Fetching, fetchOf, awaits, frameFor, sending}
+use Rattle.recording_state.specs.Fetch.{FetchedSaid, fetchOf, awaits, frameFor, sending}
 use Rattle.recording_state.specs.declared.state.State.{State}
 use Rattle.recording_state.specs.declared.state.Stage.the-variants as S
 use Rattle.recording_state.proofs.FetchView as view
@@ -91,7 +91,7 @@ reask h v a b c e (elements.moves x m) = elements.moves x (remove h v a b m)
 
 -- ---- the world after a fetch
 
-abbrev fetchedWorld : World → List ℕ → Fetching → World
+abbrev fetchedWorld : World → List ℕ → FetchedSaid → World
 fetchedWorld w lent x = record {
   session = x .session;
   window = lent;
@@ -185,9 +185,9 @@ module _ {last pass : ℕ} {premises : Type 0} (w : World) (lent frame : List �
 
     asks-header : {x : Sent} → PlacedOf (w .session .copies) → command.CommandView (w .session .setup .depth) (w .session .copies) x → w .session .exchange .again ≡ false → Copying (w .session) (w .drive) recordings.no-command → CopyAsks (w .session .copies) (w .drive) (commandFor x)
     asks-header pl (command.locating t) ag (copies.at-place a g x) = clash t (x .placed)
-    asks-header pl (command.locating t) ag (copies.to-seek a g x) = copies.seeks (counting.at (copying.headerAt (w .session .copies))) (header-from-first (w .session .copies .group) (w .session .copies .copy) (pl .left t)) x
+    asks-header pl (command.locating t) ag (copies.to-seek a g x) = copies.seeks (asAddress (copying.headerAt (w .session .copies))) (header-from-first (w .session .copies .group) (w .session .copies .copy) (pl .left t)) x
     asks-header pl (command.locating t) ag (copies.again a g x) = clash g ag
-    asks-header pl (command.writing f left room) ag (copies.at-place a g x) = copies.writes (counting.at (copying.headerAt (w .session .copies))) (header-from-first (w .session .copies .group) (w .session .copies .copy) left) left x
+    asks-header pl (command.writing f left room) ag (copies.at-place a g x) = copies.writes (asAddress (copying.headerAt (w .session .copies))) (header-from-first (w .session .copies .group) (w .session .copies .copy) left) left x
     asks-header pl (command.writing f left room) ag (copies.to-seek a g x) = clash (x .due) f
     asks-header pl (command.writing f left room) ag (copies.again a g x) = clash g ag
     asks-header pl (command.asking f y) ag (copies.at-place a g x) = copies.asks x
@@ -210,7 +210,7 @@ module _ {last pass : ℕ} {premises : Type 0} (w : World) (lent frame : List �
   edge-low true a = le-refl (a + 1)
   edge-low false a = omega arith
 
-  cross : Linked last (heldOf (w .session)) (w .drive) (l .k) (l .edge) 0 → w .session .elements .outstanding ≡ 0 → w .session .elements .next .0 ≡ 2990 → Out (Locate (counting.at 3000))
+  cross : Linked last (heldOf (w .session)) (w .drive) (l .k) (l .edge) 0 → w .session .elements .outstanding ≡ 0 → w .session .elements .next .0 ≡ 2990 → Out (Locate (asAddress 3000))
   cross x none gap =
       let taken-is = x .taken-is in
       let next-is = x .next-is in
@@ -221,7 +221,7 @@ module _ {last pass : ℕ} {premises : Type 0} (w : World) (lent frame : List �
       record {
         edge = 3000;
         further = omega arith;
-        asks = elements.moves (counting.at 3000) (record {
+        asks = elements.moves (asAddress 3000) (record {
           none-out = none;
           first-is = omega arith;
           rests = empty (no-frames (w .drive .buffer) (omega arith));
@@ -311,7 +311,7 @@ writing-safe ag (elements.to-locate b g r x) = rests-safe (x .rests)
 writing-safe ag (elements.again b g x) = clash g ag
 
 module _ {last pass : ℕ} {premises : Type 0} (w : World) (lent frame : List ℕ) (set : Setting last pass) (wr : Within last (w .drive .written)) (l : Live last pass premises w) where
-  abbrev After : Fetching → Type 0
+  abbrev After : FetchedSaid → Type 0
   After x = Inv last pass premises (fetchedWorld w lent x)
 
   -- the command goes to the drive as the fetch names it
@@ -323,7 +323,7 @@ module _ {last pass : ℕ} {premises : Type 0} (w : World) (lent frame : List �
   -- in a header stage
   module _ (st : HeaderStage (w .session)) (agree : CopiesAgree (w .session) (w .drive) (w .flight))
       (course : (c : Command) → CopiesAgree (awaits (w .session) c) (w .drive) (recordings.sent c (frameFor c (w .session) lent frame)) → Course last (sentWorld w lent frame set wr l c) (l .k) (l .edge)) where
-    fetch-header : {x : Fetching} → FetchView (w .session) lent frame x → TakesEffect (fetchNumber (x .said)) → After x
+    fetch-header : {x : FetchedSaid} → FetchView (w .session) lent frame x → TakesEffect (fetchNumber (x .said)) → After x
     fetch-header (view.wrongPhase _) te = no-effect (omega arith) (omega arith) te
     fetch-header (view.wrongLength _ _ _) te = no-effect (omega arith) (omega arith) te
     fetch-header (view.repeating r ag) te = as-named (w .session .exchange .command) (header-out w lent frame set wr l st (w .session .exchange .command) agree (again-header w lent frame set wr l st ag (copying-idle (r .free) (agree .copying))) (course (w .session .exchange .command)))
@@ -341,7 +341,7 @@ module _ {last pass : ℕ} {premises : Type 0} (w : World) (lent frame : List �
     numbers : Numbers last (w .session .elements .first .0) (w .session .elements .outstanding) (w .session .elements .pending) (l .k) (w .drive)
     numbers = writing-numbers (l .counted .held) agree
 
-    fetch-elements : {x : Fetching} → FetchView (w .session) lent frame x → TakesEffect (fetchNumber (x .said)) → After x
+    fetch-elements : {x : FetchedSaid} → FetchView (w .session) lent frame x → TakesEffect (fetchNumber (x .said)) → After x
     fetch-elements (view.wrongPhase _) te = no-effect (omega arith) (omega arith) te
     fetch-elements (view.wrongLength _ _ _) te = no-effect (omega arith) (omega arith) te
     fetch-elements (view.repeating r ag) te =
@@ -356,7 +356,7 @@ module _ {last pass : ℕ} {premises : Type 0} (w : World) (lent frame : List �
         over wr (record { ended = refl; none = i .1; safe = writing-safe ag (i .0); unreported = unreported l (element-not-done (w .session) st) })
     fetch-elements (view.finished r ag d) te = element-not-done (w .session) st d
 
-  fetch-done : {x : Fetching} → w .session .stage ≡ S.Done → w .session .exchange .again ≡ false → FetchView (w .session) lent frame x → TakesEffect (fetchNumber (x .said)) → After x
+  fetch-done : {x : FetchedSaid} → w .session .stage ≡ S.Done → w .session .exchange .again ≡ false → FetchView (w .session) lent frame x → TakesEffect (fetchNumber (x .said)) → After x
   fetch-done st ag (view.wrongPhase _) te = no-effect (omega arith) (omega arith) te
   fetch-done st ag (view.wrongLength _ _ _) te = no-effect (omega arith) (omega arith) te
   fetch-done st ag (view.repeating r again) te = clash again ag
@@ -366,7 +366,7 @@ module _ {last pass : ℕ} {premises : Type 0} (w : World) (lent frame : List �
   fetch-done st ag (view.stopping r _ el n d) te = element-not-done (w .session) el st
   fetch-done st ag (view.finished r _ d) te = live wr (quiet w lent frame set wr l true (λ _. st))
 
-  live-fetch : Course last w (l .k) (l .edge) → {x : Fetching} → FetchView (w .session) lent frame x → TakesEffect (fetchNumber (x .said)) → After x
+  live-fetch : Course last w (l .k) (l .edge) → {x : FetchedSaid} → FetchView (w .session) lent frame x → TakesEffect (fetchNumber (x .said)) → After x
   live-fetch (inv.opening q u t c) v te = fetch-header (inl q) c (λ _ y. inv.opening q u t y) v te
   live-fetch (inv.writing q u a) v te = fetch-elements q a u (λ _ _ y. inv.writing q u y) v te
   live-fetch (inv.closing q u c a b g) v te = fetch-header (inr q) g (λ _ y. inv.closing q u c a b y) v te
@@ -375,7 +375,7 @@ module _ {last pass : ℕ} {premises : Type 0} (w : World) (lent frame : List �
 -- refused with 7
 wrong-phase : {X : Type 0} (s : State) (lent frame : List ℕ) → s .ended || s .exchange .awaiting ≡ true → TakesEffect (fetchNumber (fetchOf s lent frame .said)) → X
 unfolding fetchOf
-wrong-phase s lent frame e te = no-effect (omega arith) (omega arith) (subst (λ (x : Fetching). TakesEffect (fetchNumber (x .said))) (pick-t _ e) te)
+wrong-phase s lent frame e te = no-effect (omega arith) (omega arith) (subst (λ (x : FetchedSaid). TakesEffect (fetchNumber (x .said))) (pick-t _ e) te)
 
 pub keeps-fetch : {last pass : ℕ} {premises : Type 0} (w : World) (lent frame : List ℕ) → Setting last pass → Inv last pass premises w → TakesEffect (fetchNumber (fetchOf (w .session) lent frame .said)) → Inv last pass premises (afterFetch w lent frame)
 keeps-fetch w lent frame set (live wr l) te = live-fetch w lent frame set wr l (l .course) (fetch-view (w .session) lent frame) te

@@ -17,8 +17,8 @@ use Rattle.drive.specs.declared.command.Command.{Command}
 use Rattle.drive.specs.declared.reply.Reply.{Reply}
 use Rattle.copies.specs.Copies as copying
 use Rattle.elements.specs.declared.state.Elements.{Elements}
-use Rattle.recording_state.specs.Session.{Result, accepting, ending, followingOf, withStage, withCopies, settledOf}
-use Rattle.recording_state.specs.Reply.{caseOf, answeredOf, repeatedOf, headerReplyBy, answerOf, replyOf}
+use Rattle.recording_state.specs.Session.{OutcomeSaid, accepting, ending, followingOf, withStage, withCopies, settledOf}
+use Rattle.recording_state.specs.Reply.{caseOf, answeredOf, repeatedOf, headerReplyBy, replyBy, replyOf}
 use Rattle.recording_state.specs.declared.state.State.{State}
 use Rattle.recording_state.specs.declared.state.Stage.{Stage}
 use Rattle.recording_state.specs.declared.state.Stage.the-variants as S
@@ -62,7 +62,7 @@ record Sized : Type 0 where
   els : Elements
 
 module _ {last pass : ℕ} {premises : Type 0} (w : World) (r : Reply) (set : Setting last pass) (wr : Within last (w .drive .written)) (l : Live last pass premises w) where
-  abbrev After : Result → Type 0
+  abbrev After : OutcomeSaid → Type 0
   After x = Inv last pass premises (repliedWorld w (x .session))
 
   pub ends-so : (s : State) (n : ℕ) → (w .session .stage ≡ S.Done → ⊥) → Safe last (w .drive) → After (ending s n)
@@ -211,20 +211,20 @@ module _ {last pass : ℕ} {premises : Type 0} (w : World) (r : Reply) (set : Se
   module _ (st : HeaderStage (w .session)) (again : w .session .exchange .again ≡ false) (asked : w .session .exchange .awaiting ≡ true) (agree : CopiesAgree (w .session) (w .drive) (w .flight))
       (onward : (s : copying.ProgressSaid) → Next (w .session .copies .header) (w .drive) s → Safe last (w .drive) → After (headerReplyBy s (w .session)))
       (repeats : CopyAsks (w .session .copies) (w .drive) (w .session .exchange .command) → After (accepting (repeatedOf (w .session)))) where
-    by : {s : copying.ProgressSaid} (n : ℕ) → caseOf (w .session) r ≡ n → answerOf (w .session) n r ≡ headerReplyBy s (w .session) → Next (w .session .copies .header) (w .drive) s → Safe last (w .drive) → After (replyOf (w .session) r)
+    by : {s : copying.ProgressSaid} (n : ℕ) → caseOf (w .session) r ≡ n → replyBy (w .session) n r ≡ headerReplyBy s (w .session) → Next (w .session .copies .header) (w .drive) s → Safe last (w .drive) → After (replyOf (w .session) r)
     by {s} n e a x safe = subst After (sym (reply-so (w .session) r (asked-so (w .session) r (l .going) asked) e ∙ a)) (onward s x safe)
 
-    repeated : {c : Command} (n : ℕ) → w .session .exchange .command ≡ c → caseOf (w .session) r ≡ n → answerOf (w .session) n r ≡ accepting (repeatedOf (w .session)) → CopyAsks (w .session .copies) (w .drive) c → After (replyOf (w .session) r)
+    repeated : {c : Command} (n : ℕ) → w .session .exchange .command ≡ c → caseOf (w .session) r ≡ n → replyBy (w .session) n r ≡ accepting (repeatedOf (w .session)) → CopyAsks (w .session .copies) (w .drive) c → After (replyOf (w .session) r)
     repeated n e z b y = subst After (sym (reply-so (w .session) r (asked-so (w .session) r (l .going) asked) z ∙ b)) (repeats (subst (λ (i : Command). CopyAsks (w .session .copies) (w .drive) i) (sym e) y))
 
     busy-by : {c : Command} → Means r busy → w .session .exchange .command ≡ c → CopyAsks (w .session .copies) (w .drive) c → After (replyOf (w .session) r)
-    unfolding answerOf
+    unfolding replyBy
     busy-by m e (copies.writes a p left y) = repeated writeBusy e (case-is (w .session) r (l .going) asked e m) refl (copies.writes a p left y)
     busy-by m e (copies.asks y) = repeated positionBusy e (case-is (w .session) r (l .going) asked e m) refl (copies.asks y)
     busy-by m e (copies.seeks a p y) = repeated locateBusy e (case-is (w .session) r (l .going) asked e m) refl (copies.seeks a p y)
 
     header-replies : (c : Command) → w .session .exchange .command ≡ c → CopyAnswered (w .session .copies) (w .drive) r c → After (replyOf (w .session) r)
-    unfolding answerOf
+    unfolding replyBy
     header-replies c e (copies.taken a m x) = by writeGood (case-is (w .session) r (l .going) asked e m) (by-headers (w .session) _ _ st) (taken-next (w .session .copies) (w .drive) (agree .counts) x) (answered-safe {r = r} (agree .counts) (copies.taken a m x))
     header-replies c e (copies.counted m b x) = by positionGood (case-is (w .session) r (l .going) asked e m) (by-headers (w .session) _ _ st) (counted-next (w .session .copies) (w .drive) (agree .counts) (r .buffered) b x) (answered-safe {r = r} (agree .counts) (copies.counted m b x))
     header-replies c e (copies.failed-write a m f p x) = by writeFailed (case-is (w .session) r (l .going) asked e m) (by-headers (w .session) _ _ st) (failed-next (w .session .copies) (w .drive) (agree .counts) (r .position .0) p f x) (inv.halted f)

@@ -5,7 +5,7 @@ use mathlib.Core.Bool.{Bool, true, false}
 use mathlib.Core.List.{List}
 use Rattle.geometry.proofs.PickLaws.{pick-t}
 use Rattle.geometry.proofs.TestLaws.{either-right}
-use Rattle.recording_state.specs.Fetch.{Fetching, fetchOf}
+use Rattle.recording_state.specs.Fetch.{FetchedSaid, fetchOf}
 use Rattle.recording_state.specs.declared.state.State.{State}
 use Rattle.recording_state.specs.declared.state.Stage.the-variants as S
 use Rattle.archive.specs.Recordings as recordings
@@ -55,4 +55,4 @@ flight-awaits (over _ o) h = absurd (h (o .none))
 -- so another fetch is refused with 7
 pub fetch-awaited : (s : State) (lent frame : List ℕ) → s .exchange .awaiting ≡ true → fetchNumber (fetchOf s lent frame .said) ≡ 7
 unfolding fetchOf
-fetch-awaited s lent frame a = ap (λ (x : Fetching). fetchNumber (x .said)) (pick-t _ (either-right (s .ended) (s .exchange .awaiting) a))
+fetch-awaited s lent frame a = ap (λ (x : FetchedSaid). fetchNumber (x .said)) (pick-t _ (either-right (s .ended) (s .exchange .awaiting) a))

@@ -10,7 +10,7 @@ use Rattle.geometry.specs.Pick.{pick}
 use Rattle.geometry.proofs.PickLaws.{pick-t, pick-f}
 use Rattle.frame.specs.Frame.{dataBytes}
 use Rattle.frame.specs.declared.element.Kind.{Kind}
-use Rattle.frame.specs.declared.element.Kind.the-variants.{Data, Marker, Eod}
+use Rattle.frame.specs.declared.element.Kind.the-variants.{Data, Marker}
 use Rattle.judgement.specs.Judgement.{judgeFrame, foundSaid}
 use Rattle.elements.specs.Elements as elements
 use Rattle.elements.specs.Elements.{kindOf}

@@ -26,7 +26,7 @@ use Rattle.archive.specs.Conduct.{Drive, AtRest}
 use Rattle.archive.specs.Tape.{Tape, Cartridge}
 use Rattle.copies.proofs.Counts.{start-counts}
 use Rattle.copies.proofs.DueAddress.{start-placed}
-use Rattle.recording_state.specs.Session.{Result, accepting}
+use Rattle.recording_state.specs.Session.{OutcomeSaid, accepting}
 use Rattle.copies.specs.Carried.{isExhausted, renewed, openingHeader}
 use Rattle.recording_state.specs.Open.{fresh, openRefused, openWith, openFor, openOf, openBlankFor, openBlankOf}
 use Rattle.recording_state.specs.declared.state.State.{State}
@@ -59,16 +59,16 @@ pub record Started (last : ℕ) (s : State) : Type 0 where
   pub count-fits : header .update + 1 < 2 ^ 32
 
 refused-accepting : {X : Type 0} {s : State} (n : ℕ) → 1 ≤ n → openRefused n ≡ accepting s → X
-refused-accepting n l e = let z : n ≡ 0 = ap (λ (r : Result). r .number) e in absurd (omega arith)
+refused-accepting n l e = let z : n ≡ 0 = ap (λ (r : OutcomeSaid). r .number) e in absurd (omega arith)
 
 opened-with : (depth blocks : ℕ) (exhausted : Bool) (h : Header) (s : State) → openWith depth blocks exhausted h ≡ accepting s → (fresh depth (blocks - 1) h ≡ s) × (blocks ≤ 64) × (exhausted ≡ false)
 unfolding openWith
 opened-with depth blocks exhausted h s =
-    pick-by (λ (r : Result). r ≡ accepting s → (fresh depth (blocks - 1) h ≡ s) × (blocks ≤ 64) × (exhausted ≡ false)) (eqb depth 0 || (eqb blocks 0 || ltb 64 blocks)) (λ _ e. refused-accepting 4 (omega arith) e)
-    (λ sizes. pick-by (λ (r : Result). r ≡ accepting s → (fresh depth (blocks - 1) h ≡ s) × (blocks ≤ 64) × (exhausted ≡ false)) exhausted (λ _ e. refused-accepting 5 (omega arith) e)
+    pick-by (λ (r : OutcomeSaid). r ≡ accepting s → (fresh depth (blocks - 1) h ≡ s) × (blocks ≤ 64) × (exhausted ≡ false)) (eqb depth 0 || (eqb blocks 0 || ltb 64 blocks)) (λ _ e. refused-accepting 4 (omega arith) e)
+    (λ sizes. pick-by (λ (r : OutcomeSaid). r ≡ accepting s → (fresh depth (blocks - 1) h ≡ s) × (blocks ≤ 64) × (exhausted ≡ false)) exhausted (λ _ e. refused-accepting 5 (omega arith) e)
     (λ x e.
     let widths = or-false (eqb blocks 0) (ltb 64 blocks) (or-false (eqb depth 0) (eqb blocks 0 || ltb 64 blocks) sizes .1) in
-    (ap (λ (r : Result). r .session) e, ltb-false 64 blocks (widths .1), x)))
+    (ap (λ (r : OutcomeSaid). r .session) e, ltb-false 64 blocks (widths .1), x)))
 
 module _ (g : Geometry) (last depth blocks : ℕ) (s : State) (e : lastOf g ≡ address last) where
   pub record OnHeader (h : List ℕ) : Type 0 where

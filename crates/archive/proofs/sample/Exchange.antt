@@ -13,11 +13,11 @@ use Rattle.archive.specs.Conduct.{Drive, Acts, Answers}
 use Rattle.drive.specs.declared.command.Command.{Command}
 use Rattle.drive.specs.declared.reply.Reply.{Reply}
 use Rattle.drive.proofs.Cases.{command-by}
-use Rattle.recording_state.specs.Session.{Result, windowLength, accepting, refusing}
+use Rattle.recording_state.specs.Session.{OutcomeSaid, windowLength, accepting, refusing}
 use Rattle.recording_state.specs.Accept.{Stored, blockOf, filemarkOf, closeOf}
 use Rattle.recording_state.specs.Due as decision
 use Rattle.recording_state.specs.Due.{decisionOf, send}
-use Rattle.recording_state.specs.Fetch.{Fetching, awaits, frameFor, sending, answering, fetchOf}
+use Rattle.recording_state.specs.Fetch.{FetchedSaid, awaits, frameFor, sending, answering, fetchOf}
 use Rattle.recording_state.specs.Reply.{replyOf}
 use Rattle.recording_state.specs.declared.state.State.{State}
 use Rattle.recording_state.proofs.FetchView.{fetch-decided}
@@ -46,7 +46,7 @@ module _ (window : List ℕ) (accepted : List Element) where
   abbrev pub reported : State → Drive → World
   reported s d = record { session = s; window = window; drive = d; flight = no-command; notes = record { accepted = accepted; unaltered = true; reported = true } }
 
-  abbrev fetchedWorld : Drive → Bool → Fetching → World
+  abbrev fetchedWorld : Drive → Bool → FetchedSaid → World
   fetchedWorld d same x = record {
     session = x .session;
     window = window;
@@ -82,15 +82,15 @@ module _ (window : List ℕ) (accepted : List Element) (s : State) (d : Drive) {
   unfolding sending
   exchange {next} {e} {c} {r} long step answer rest =
       let w : World = world window accepted (awaits s c) e (answered r) in
-      let p : between window accepted (replyOf (awaits s c) r .session) e ≡ between window accepted next e = ap (λ (x : Result). between window accepted (x .session) e) (step .replied) in
-      let t : Calls w (reply r) (between window accepted next e) = subst (λ v. Calls w (reply r) v) p (replies r refl (inl (ap (λ (x : Result). x .number) (step .replied)))) in
+      let p : between window accepted (replyOf (awaits s c) r .session) e ≡ between window accepted next e = ap (λ (x : OutcomeSaid). between window accepted (x .session) e) (step .replied) in
+      let t : Calls w (reply r) (between window accepted next e) = subst (λ v. Calls w (reply r) v) p (replies r refl (inl (ap (λ (x : OutcomeSaid). x .number) (step .replied)))) in
       call (fetched window accepted s d (long ∙ sym (step .sized)) (step .free) (send c) (step .decided) refl) (drive (answers c (frameFor c s window frame) r e (ap (λ (x : Command). sent x (frameFor c s window frame)) (command-by c)) answer) (call t rest))
 
   pub filemark-accepted : {next : State} → filemarkOf s ≡ accepting next → Runs (between window (accepted ++ filemark ∷ []) next d) cs u → Runs (between window accepted s d) (accept-filemark ∷ cs) u
   filemark-accepted {next} e rest =
       call
-      (subst (λ v. Calls (between window accepted s d) accept-filemark v) (ap (λ (x : Result). between window (acceptedAfter (x .number) accepted filemark) (x .session) d) e)
-      (accepts-filemark (inl (ap (λ (x : Result). x .number) e)))) rest
+      (subst (λ v. Calls (between window accepted s d) accept-filemark v) (ap (λ (x : OutcomeSaid). between window (acceptedAfter (x .number) accepted filemark) (x .session) d) e)
+      (accepts-filemark (inl (ap (λ (x : OutcomeSaid). x .number) e)))) rest
 
   pub block-accepted : {next : State} (b after : List ℕ) → blockOf s b window ≡ record { result = accepting next; window = after }
       → Runs (between after (accepted ++ block b ∷ []) next d) cs u → Runs (between window accepted s d) (accept-block b window ∷ cs) u
@@ -101,7 +101,7 @@ module _ (window : List ℕ) (accepted : List Element) (s : State) (d : Drive) {
   pub close-accepted : {next : State} → closeOf s ≡ accepting next → Runs (between window accepted next d) cs u → Runs (between window accepted s d) (close ∷ cs) u
   close-accepted {next} e rest =
       call
-      (subst (λ v. Calls (between window accepted s d) close v) (ap (λ (x : Result). between window accepted (x .session) d) e) (closes (inl (ap (λ (x : Result). x .number) e)))) rest
+      (subst (λ v. Calls (between window accepted s d) close v) (ap (λ (x : OutcomeSaid). between window accepted (x .session) d) e) (closes (inl (ap (λ (x : OutcomeSaid). x .number) e)))) rest
 
   -- a call refused with 1 to 7 counts for nothing
   refused : (c : Call) (n : ℕ) → 1 ≤ n → n ≤ 7 → refusal s c ≡ n → returned s c ≡ s → windowAfter (between window accepted s d) c ≡ window
@@ -112,7 +112,7 @@ module _ (window : List ℕ) (accepted : List Element) (s : State) (d : Drive) {
       (subst (λ x. Calls (between window accepted s d) c (between (windowAfter (between window accepted s d) c) accepted x d)) same (refuses c (omega (arith, number)) (omega (arith, number))))) rest
 
   pub filemark-refused : filemarkOf s ≡ refusing s 6 → Runs (between window accepted s d) cs u → Runs (between window accepted s d) (accept-filemark ∷ cs) u
-  filemark-refused e rest = refused accept-filemark 6 (omega arith) (omega arith) (ap (λ (x : Result). x .number) e) (ap (λ (x : Result). x .session) e) refl rest
+  filemark-refused e rest = refused accept-filemark 6 (omega arith) (omega arith) (ap (λ (x : OutcomeSaid). x .number) e) (ap (λ (x : OutcomeSaid). x .session) e) refl rest
 
   pub close-refused : closeOf s ≡ refusing s 7 → Runs (between window accepted s d) cs u → Runs (between window accepted s d) (close ∷ cs) u
-  close-refused e rest = refused close 7 (omega arith) (omega arith) (ap (λ (x : Result). x .number) e) (ap (λ (x : Result). x .session) e) refl rest
+  close-refused e rest = refused close 7 (omega arith) (omega arith) (ap (λ (x : OutcomeSaid). x .number) e) (ap (λ (x : OutcomeSaid). x .session) e) refl rest

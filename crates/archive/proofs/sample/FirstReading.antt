@@ -8,6 +8,7 @@ use mathlib.Core.Option.{none, some}
 use native.Mathlib.Omega.{arith}
 use lib.Dec.{lit<, lit≤}
 use lib.ListN.{length, take}
+use Rattle.geometry.specs.Place.{asAddress}
 use Rattle.frame.specs.declared.element.Kind.the-variants.{Data}
 use Rattle.frame.specs.Frame.{blank, elementFrame}
 use Rattle.frame.specs.Header.{headerFrame}
@@ -16,14 +17,13 @@ use Rattle.archive.specs.Tape.{Tape, put}
 use Rattle.drive.specs.declared.command.Command.the-variants.{Read, Locate, ReadPosition}
 use Rattle.judgement.specs.Judgement as judgement
 use Rattle.judgement.proofs.Written.{judged-written, judged-other-pass}
-use Rattle.reading.specs.Open.{Result, fresh, openOf}
+use Rattle.reading.specs.Open.{OpenedSaid, fresh, openOf}
 use Rattle.archive.specs.Recordings.{Element, block, filemark}
 use Rattle.archive.specs.Readings.{World, Runs, started}
 use Rattle.archive.specs.Demand.{Faithful}
 use Rattle.archive.specs.Sample.{geometry, older, stopped, firstOpening, firstElements, firstBlock, firstFilemark, firstEod, firstClosing, firstReading}
 use Rattle.archive.proofs.tape.Basics.{reads-itself}
 use Rattle.archive.proofs.tape.ScanLaws.{put-other}
-use Rattle.archive.proofs.sample.Headers.{at}
 use Rattle.archive.proofs.tape.Stands.{telling}
 use Rattle.archive.proofs.tape.WrittenFrames.{block-fits}
 use Rattle.archive.proofs.sample.Tapes.{empty, same-reads, headers-elsewhere}
@@ -82,7 +82,7 @@ module _ (b : List ℕ) where
 
 -- the end, with these deliveries and eight replies taken in
 abbrev endWith : List Element → World
-endWith deliveries = between 47 deliveries 8 (before 1 (Read (at 46)) 47 false 2 true)
+endWith deliveries = between 47 deliveries 8 (before 1 (Read (asAddress 46)) 47 false 2 true)
 
 abbrev pub firstRead : List ℕ → World
 firstRead b = endWith (firstElements b)
@@ -96,19 +96,19 @@ module _ (b : List ℕ) (full : length b ≡ 32768) where
       let justBlock : List Element = block (take 32768 (elementFrame firstBlock b)) ∷ [] in
       let both : List Element = block (take 32768 (elementFrame firstBlock b)) ∷ filemark ∷ [] in
       address-located-again (left b) 1 [] 0 ReadPosition 10 0 refl place
-      (frame-read (left b) 1 [] 1 (Locate (at 10)) 10 0 refl refl true (elementFrame older blank) judgement.skipped (ten-reads b) (element-length older blank older-fits) older-passed-over refl
-      (unreadable-skipped (left b) 1 [] 2 (Read (at 10)) 11 0 refl refl (gap-empty b 11 (lit≤ tt) (lit< tt))
-      (blank-jumped (left b) 1 [] 3 (Read (at 11)) 12 0 refl refl (λ a low high. gap-empty b a (omega arith) high)
-      (address-located (left b) 1 [] 4 (Read (at 12)) 44 0 refl 12
-      (frame-read (left b) 1 [] 5 (Locate (at 44)) 44 0 refl refl true (elementFrame firstBlock b) judgement.block (block-reads b) (element-length firstBlock b (block-fits Data b full)) block-found refl
-      (frame-read (left b) 1 justBlock 6 (Read (at 44)) 45 1 refl refl true (elementFrame firstFilemark blank) judgement.filemark (filemark-reads b) (element-length firstFilemark blank refl) filemark-found refl
-      (frame-read (left b) 1 both 7 (Read (at 45)) 46 2 refl refl true (elementFrame firstEod blank) judgement.end (eod-reads b) (element-length firstEod blank refl) eod-found refl
-      (end-said (left b) 47 both 8 1 (Read (at 46)) 47 2))))))))
+      (frame-read (left b) 1 [] 1 (Locate (asAddress 10)) 10 0 refl refl true (elementFrame older blank) judgement.skipped (ten-reads b) (element-length older blank older-fits) older-passed-over refl
+      (unreadable-skipped (left b) 1 [] 2 (Read (asAddress 10)) 11 0 refl refl (gap-empty b 11 (lit≤ tt) (lit< tt))
+      (blank-jumped (left b) 1 [] 3 (Read (asAddress 11)) 12 0 refl refl (λ a low high. gap-empty b a (omega arith) high)
+      (address-located (left b) 1 [] 4 (Read (asAddress 12)) 44 0 refl 12
+      (frame-read (left b) 1 [] 5 (Locate (asAddress 44)) 44 0 refl refl true (elementFrame firstBlock b) judgement.block (block-reads b) (element-length firstBlock b (block-fits Data b full)) block-found refl
+      (frame-read (left b) 1 justBlock 6 (Read (asAddress 44)) 45 1 refl refl true (elementFrame firstFilemark blank) judgement.filemark (filemark-reads b) (element-length firstFilemark blank refl) filemark-found refl
+      (frame-read (left b) 1 both 7 (Read (asAddress 45)) 46 2 refl refl true (elementFrame firstEod blank) judgement.end (eod-reads b) (element-length firstEod blank refl) eod-found refl
+      (end-said (left b) 47 both 8 1 (Read (asAddress 46)) 47 2))))))))
 
   -- from the newest header of the cartridge: what was accepted comes back byte for byte, and the end
   pub first-read : (place : ℕ) → Runs (left b) (started (openOf geometry (headerFrame firstClosing) .session) place) (firstReading b) (firstRead b)
   first-read place =
-      subst (λ (x : Result). Runs (left b) (started (x .session) place) (firstReading b) (firstRead b)) (sym first-reading-opened)
+      subst (λ (x : OpenedSaid). Runs (left b) (started (x .session) place) (firstReading b) (firstRead b)) (sym first-reading-opened)
       (subst (λ (bytes : List ℕ). Runs (left b) (started (fresh (telling 11999 1)) place) (firstReading b) (endWith (block bytes ∷ filemark ∷ [])))
       (element-data firstBlock b (block-fits Data b full)) (from-fresh place))
 

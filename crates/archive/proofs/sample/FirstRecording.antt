@@ -8,6 +8,7 @@ use native.Mathlib.Omega.{arith}
 use borrow.Author.Tests.{eq-eqb}
 use lib.Dec.{lit<, lit≤}
 use lib.ListN.{length}
+use Rattle.geometry.specs.Place.{asAddress}
 use Rattle.frame.specs.Frame.{blank, elementFrame, elementFits}
 use Rattle.frame.specs.Header.{headerFrame}
 use Rattle.frame.specs.declared.element.Kind.the-variants.{Data, Eod}
@@ -22,7 +23,7 @@ use Rattle.drive.specs.declared.command.Command.the-variants.{Write, Locate, Re
 use Rattle.elements.specs.Elements as elements
 use Rattle.elements.specs.Trail.{trailOf}
 use Rattle.elements.specs.Due.{dueOf}
-use Rattle.elements.specs.Answer as answer
+use Rattle.elements.specs.Reply as reply
 use Rattle.elements.specs.declared.state.Elements.{Elements}
 use Rattle.recording_state.specs.Open.{fresh, openWith, openBlankOf}
 use Rattle.recording_state.specs.Session.{accepting, refusing, settledOf}
@@ -30,7 +31,7 @@ use Rattle.recording_state.specs.Accept.{blockOf, filemarkOf, closeOf}
 use Rattle.recording_state.specs.Due.{decisionOf}
 use Rattle.recording_state.specs.Written.{writtenFrame, writtenElement, elementOf}
 use Rattle.recording_state.specs.Fetch.{awaits}
-use Rattle.recording_state.specs.Reply.{repeatedOf, answerOf, replyOf}
+use Rattle.recording_state.specs.Reply.{repeatedOf, replyBy, replyOf}
 use Rattle.recording_state.specs.declared.state.State.{State}
 use Rattle.archive.specs.Headers.{Newest, NoHeader}
 use Rattle.archive.specs.Recordings.{block, World, Call, accept-block, accept-filemark, close, fetch, reply, Runs, started}
@@ -40,7 +41,7 @@ use Rattle.archive.specs.Sample.{geometry, depth, blocks, good, busy, ol
 use Rattle.archive.proofs.sample.Exchange.{Step, between, reported, exchange, block-accepted, filemark-accepted, close-accepted, filemark-refused, close-refused}
 use Rattle.archive.proofs.sample.Flush.{buffered}
 use Rattle.archive.proofs.tape.WindowLaws.{put-length, put-same-block}
-use Rattle.archive.proofs.sample.Headers.{at, writing, ending, closing, finished, headersWritten, opening-written, closing-written}
+use Rattle.archive.proofs.sample.Headers.{writing, ending, closing, finished, headersWritten, opening-written, closing-written}
 use Rattle.archive.proofs.tape.WrittenFrames.{block-fits}
 use Rattle.archive.proofs.sample.Tapes.{empty, empty-cartridge, empty-bears-none, frame-on-none, frame-cartridge, frame-bears-none, headers-newest}
 use Rattle.archive.proofs.sample.Elements.{noneAccepted, element-written, element-failed}
@@ -61,72 +62,72 @@ abbrev blockAccepted : Elements
 blockAccepted = elements.acceptedOf noneAccepted false
 
 abbrev located : Elements
-located = answer.locatedOf blockAccepted (at 10)
+located = reply.locatedOf blockAccepted (asAddress 10)
 
 abbrev blockTaken : Elements
-blockTaken = answer.takenOf located
+blockTaken = reply.takenOf located
 
 abbrev blockFailed : Elements
-blockFailed = answer.relocatedOf (answer.confirmedOf blockTaken 0) (at 44)
+blockFailed = reply.relocatedOf (reply.confirmedOf blockTaken 0) (asAddress 44)
 
 abbrev relocated : Elements
-relocated = answer.locatedOf blockFailed (at 44)
+relocated = reply.locatedOf blockFailed (asAddress 44)
 
 abbrev blockRetaken : Elements
-blockRetaken = answer.takenOf relocated
+blockRetaken = reply.takenOf relocated
 
 abbrev blockOnTape : Elements
-blockOnTape = answer.confirmedOf blockRetaken 1
+blockOnTape = reply.confirmedOf blockRetaken 1
 
 abbrev filemarkAccepted : Elements
 filemarkAccepted = elements.acceptedOf blockOnTape true
 
 abbrev filemarkTaken : Elements
-filemarkTaken = answer.takenOf filemarkAccepted
+filemarkTaken = reply.takenOf filemarkAccepted
 
 abbrev filemarkOnTape : Elements
-filemarkOnTape = answer.confirmedOf filemarkTaken 1
+filemarkOnTape = reply.confirmedOf filemarkTaken 1
 
 abbrev eodDue : Elements
 eodDue = elements.eodDue filemarkOnTape
 
 abbrev eodTaken : Elements
-eodTaken = answer.takenOf eodDue
+eodTaken = reply.takenOf eodDue
 
 abbrev eodOnTape : Elements
-eodOnTape = answer.confirmedOf eodTaken 1
+eodOnTape = reply.confirmedOf eodTaken 1
 
 -- ---- the calls, by what happens
 
-block-located : Step (writing firstOpening blockAccepted ReadPosition) (Locate (at 10)) good (writing firstOpening located (Locate (at 10)))
-unfolding decisionOf dueOf replyOf answerOf settledOf meaningIn
+block-located : Step (writing firstOpening blockAccepted ReadPosition) (Locate (asAddress 10)) good (writing firstOpening located (Locate (asAddress 10)))
+unfolding decisionOf dueOf replyOf replyBy settledOf meaningIn
 block-located = record { free = refl; sized = refl; decided = refl; replied = refl }
 
 abbrev repeating : State
-repeating = repeatedOf (awaits (writing firstOpening located (Locate (at 10))) (Write (at 10)))
+repeating = repeatedOf (awaits (writing firstOpening located (Locate (asAddress 10))) (Write (asAddress 10)))
 
-write-busy : Step (writing firstOpening located (Locate (at 10))) (Write (at 10)) busy repeating
-unfolding decisionOf dueOf replyOf answerOf meaningIn
+write-busy : Step (writing firstOpening located (Locate (asAddress 10))) (Write (asAddress 10)) busy repeating
+unfolding decisionOf dueOf replyOf replyBy meaningIn
 write-busy = record { free = refl; sized = refl; decided = refl; replied = refl }
 
-write-repeated : Step repeating (Write (at 10)) good (writing firstOpening blockTaken (Write (at 10)))
-unfolding decisionOf replyOf answerOf settledOf meaningIn
+write-repeated : Step repeating (Write (asAddress 10)) good (writing firstOpening blockTaken (Write (asAddress 10)))
+unfolding decisionOf replyOf replyBy settledOf meaningIn
 write-repeated = record { free = refl; sized = refl; decided = refl; replied = refl }
 
-write-failed : Step (writing firstOpening blockTaken (Write (at 10))) ReadPosition firstError (writing firstOpening blockFailed ReadPosition)
-unfolding decisionOf dueOf replyOf answerOf answer.failedOf answer.confirmedOf trailOf settledOf meaningIn
+write-failed : Step (writing firstOpening blockTaken (Write (asAddress 10))) ReadPosition firstError (writing firstOpening blockFailed ReadPosition)
+unfolding decisionOf dueOf replyOf replyBy reply.failedOf reply.confirmedOf trailOf settledOf meaningIn
 write-failed = record { free = refl; sized = refl; decided = refl; replied = refl }
 
-block-relocated : Step (writing firstOpening blockFailed ReadPosition) (Locate (at 44)) good (writing firstOpening relocated (Locate (at 44)))
-unfolding decisionOf dueOf replyOf answerOf answer.confirmedOf settledOf meaningIn
+block-relocated : Step (writing firstOpening blockFailed ReadPosition) (Locate (asAddress 44)) good (writing firstOpening relocated (Locate (asAddress 44)))
+unfolding decisionOf dueOf replyOf replyBy reply.confirmedOf settledOf meaningIn
 block-relocated = record { free = refl; sized = refl; decided = refl; replied = refl }
 
-block-retaken : Step (writing firstOpening relocated (Locate (at 44))) (Write (at 44)) good (writing firstOpening blockRetaken (Write (at 44)))
-unfolding decisionOf dueOf replyOf answerOf answer.confirmedOf settledOf meaningIn
+block-retaken : Step (writing firstOpening relocated (Locate (asAddress 44))) (Write (asAddress 44)) good (writing firstOpening blockRetaken (Write (asAddress 44)))
+unfolding decisionOf dueOf replyOf replyBy reply.confirmedOf settledOf meaningIn
 block-retaken = record { free = refl; sized = refl; decided = refl; replied = refl }
 
-block-confirmed : Step (writing firstOpening blockRetaken (Write (at 44))) ReadPosition good (writing firstOpening blockOnTape ReadPosition)
-unfolding decisionOf dueOf replyOf answerOf answer.countedOf answer.confirmedOf settledOf meaningIn
+block-confirmed : Step (writing firstOpening blockRetaken (Write (asAddress 44))) ReadPosition good (writing firstOpening blockOnTape ReadPosition)
+unfolding decisionOf dueOf replyOf replyBy reply.countedOf reply.confirmedOf settledOf meaningIn
 block-confirmed = record { free = refl; sized = refl; decided = refl; replied = refl }
 
 -- the window is full until the block is on tape
@@ -135,31 +136,31 @@ unfolding filemarkOf
 filemark-early = refl
 
 filemark-in-time : filemarkOf (writing firstOpening blockOnTape ReadPosition) ≡ accepting (writing firstOpening filemarkAccepted ReadPosition)
-unfolding filemarkOf answer.confirmedOf
+unfolding filemarkOf reply.confirmedOf
 filemark-in-time = refl
 
-filemark-taken : Step (writing firstOpening filemarkAccepted ReadPosition) (Write (at 45)) good (writing firstOpening filemarkTaken (Write (at 45)))
-unfolding decisionOf dueOf replyOf answerOf answer.confirmedOf settledOf meaningIn
+filemark-taken : Step (writing firstOpening filemarkAccepted ReadPosition) (Write (asAddress 45)) good (writing firstOpening filemarkTaken (Write (asAddress 45)))
+unfolding decisionOf dueOf replyOf replyBy reply.confirmedOf settledOf meaningIn
 filemark-taken = record { free = refl; sized = refl; decided = refl; replied = refl }
 
-filemark-confirmed : Step (writing firstOpening filemarkTaken (Write (at 45))) ReadPosition good (writing firstOpening filemarkOnTape ReadPosition)
-unfolding decisionOf dueOf replyOf answerOf answer.countedOf answer.confirmedOf settledOf meaningIn
+filemark-confirmed : Step (writing firstOpening filemarkTaken (Write (asAddress 45))) ReadPosition good (writing firstOpening filemarkOnTape ReadPosition)
+unfolding decisionOf dueOf replyOf replyBy reply.countedOf reply.confirmedOf settledOf meaningIn
 filemark-confirmed = record { free = refl; sized = refl; decided = refl; replied = refl }
 
 close-called : closeOf (writing firstOpening filemarkOnTape ReadPosition) ≡ accepting (ending firstOpening eodDue ReadPosition)
-unfolding closeOf settledOf answer.confirmedOf
+unfolding closeOf settledOf reply.confirmedOf
 close-called = refl
 
 close-called-twice : closeOf (ending firstOpening eodDue ReadPosition) ≡ refusing (ending firstOpening eodDue ReadPosition) 7
 unfolding closeOf
 close-called-twice = refl
 
-eod-taken : Step (ending firstOpening eodDue ReadPosition) (Write (at 46)) good (ending firstOpening eodTaken (Write (at 46)))
-unfolding decisionOf dueOf replyOf answerOf answer.confirmedOf settledOf meaningIn
+eod-taken : Step (ending firstOpening eodDue ReadPosition) (Write (asAddress 46)) good (ending firstOpening eodTaken (Write (asAddress 46)))
+unfolding decisionOf dueOf replyOf replyBy reply.confirmedOf settledOf meaningIn
 eod-taken = record { free = refl; sized = refl; decided = refl; replied = refl }
 
-eod-confirmed : Step (ending firstOpening eodTaken (Write (at 46))) ReadPosition good (closing firstClosing eodOnTape)
-unfolding decisionOf dueOf replyOf answerOf answer.countedOf answer.confirmedOf settledOf meaningIn
+eod-confirmed : Step (ending firstOpening eodTaken (Write (asAddress 46))) ReadPosition good (closing firstClosing eodOnTape)
+unfolding decisionOf dueOf replyOf replyBy reply.countedOf reply.confirmedOf settledOf meaningIn
 eod-confirmed = record { free = refl; sized = refl; decided = refl; replied = refl }
 
 -- ---- the tape, by what was written
@@ -201,16 +202,16 @@ module _ (b : List ℕ) (full : length b ≡ 32768) where
   stored-long : length (windowWith b) ≡ 32768
   stored-long = put-length window b 0 (omega (arith, window-long)) full ∙ window-long
 
-  block-frame : writtenFrame (writing firstOpening relocated (Locate (at 44))) (windowWith b) ≡ elementFrame firstBlock b
-  unfolding writtenFrame writtenElement elementOf answer.confirmedOf trailOf
+  block-frame : writtenFrame (writing firstOpening relocated (Locate (asAddress 44))) (windowWith b) ≡ elementFrame firstBlock b
+  unfolding writtenFrame writtenElement elementOf reply.confirmedOf trailOf
   block-frame = ap (elementFrame firstBlock) (put-same-block window b 0 (omega (arith, window-long)) full)
 
   filemark-frame : writtenFrame (writing firstOpening filemarkAccepted ReadPosition) (windowWith b) ≡ elementFrame firstFilemark blank
-  unfolding writtenFrame writtenElement elementOf elementFrame answer.confirmedOf trailOf
+  unfolding writtenFrame writtenElement elementOf elementFrame reply.confirmedOf trailOf
   filemark-frame = refl
 
   eod-frame : writtenFrame (ending firstOpening eodDue ReadPosition) (windowWith b) ≡ elementFrame firstEod blank
-  unfolding writtenFrame writtenElement elementOf elementFrame answer.confirmedOf trailOf
+  unfolding writtenFrame writtenElement elementOf elementFrame reply.confirmedOf trailOf
   eod-frame = refl
 
   module _ (t : Tape) (past : List ℕ) {cs : List Call} {u : World} where
@@ -229,8 +230,8 @@ module _ (b : List ℕ) (full : length b ≡ 32768) where
         let w : List ℕ = windowWith b in
         block-accepted window [] (writing firstOpening noneAccepted ReadPosition) start b w block-stored
         (filemark-refused w (block b ∷ []) (writing firstOpening blockAccepted ReadPosition) start filemark-early
-        (exchange w (block b ∷ []) (writing firstOpening blockAccepted ReadPosition) start stored-long block-located (locates (at 10) good refl)
-        (exchange w (block b ∷ []) (writing firstOpening located (Locate (at 10))) (buffered t 10 past []) stored-long write-busy (waits (Write (at 10)) busy refl)
+        (exchange w (block b ∷ []) (writing firstOpening blockAccepted ReadPosition) start stored-long block-located (locates (asAddress 10) good refl)
+        (exchange w (block b ∷ []) (writing firstOpening located (Locate (asAddress 10))) (buffered t 10 past []) stored-long write-busy (waits (Write (asAddress 10)) busy refl)
         (element-failed w stored-long (block b ∷ []) t past 10 34 44 write-repeated write-failed block-relocated
         (element-written w stored-long (block b ∷ []) (afterFailure t) (10 ∷ past) 44 (elementFrame firstBlock b) block-frame block-retaken block-confirmed rest)))))
 

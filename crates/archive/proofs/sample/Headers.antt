@@ -8,8 +8,8 @@ use native.Mathlib.Omega.{arith}
 use borrow.Author.Tests.{lt-ltb}
 use lib.Dec.{ltb}
 use lib.ListN.{length, replicate}
+use Rattle.geometry.specs.Place.{asAddress}
 use Rattle.geometry.specs.Cartridge.{headerAddress}
-use Rattle.geometry.specs.declared.address.Address.{Address}
 use Rattle.geometry.proofs.PickLaws.{pick-by}
 use Rattle.frame.specs.Header.{headerFrame}
 use Rattle.frame.specs.declared.header.Header.{Header}
@@ -28,7 +28,7 @@ use Rattle.recording_state.specs.Session.{accepting, settledOf}
 use Rattle.recording_state.specs.Due as decision
 use Rattle.recording_state.specs.Due.{decisionOf}
 use Rattle.recording_state.specs.Written.{writtenFrame}
-use Rattle.recording_state.specs.Reply.{answerOf, replyOf}
+use Rattle.recording_state.specs.Reply.{replyBy, replyOf}
 use Rattle.recording_state.specs.declared.state.State.{State}
 use Rattle.recording_state.specs.declared.state.Stage.{Stage}
 use Rattle.recording_state.specs.declared.state.Stage.the-variants as S
@@ -36,9 +36,6 @@ use Rattle.archive.specs.Recordings.{Element, World, Call, fetch, reply,
 use Rattle.archive.specs.Sample.{depth, frame, good, exchanges, headerExchanges}
 use Rattle.archive.proofs.sample.Exchange.{Step, between, reported, exchange, done}
 use Rattle.archive.proofs.sample.Flush.{buffered, flushed, flush}
-
-abbrev pub at : ℕ → Address
-at n = record { 0 = n }
 
 -- ---- the sessions, and the drive
 
@@ -102,13 +99,13 @@ appended f (suc n) fs = appended f n (fs ++ f ∷ [])
 
 module _ (closed : Bool) (e : Elements) (h : Header) (group confirmed : ℕ) (c : Command) where
   abbrev toLocate : Command
-  toLocate = Locate (at (headerAddress group 0))
+  toLocate = Locate (asAddress (headerAddress group 0))
 
   abbrev toWrite : ℕ → Command
-  toWrite copy = Write (at (headerAddress group copy))
+  toWrite copy = Write (asAddress (headerAddress group copy))
 
   group-located : (opening : Bool) → Step (among opening closed e h group confirmed c 0 true) toLocate good (among opening closed e h group confirmed toLocate 0 false)
-  unfolding decisionOf copies.commandOf replyOf answerOf meaningIn
+  unfolding decisionOf copies.commandOf replyOf replyBy meaningIn
   group-located true = record { free = refl; sized = refl; decided = refl; replied = refl }
   group-located false = record { free = refl; sized = refl; decided = refl; replied = refl }
 
@@ -120,7 +117,7 @@ module _ (closed : Bool) (e : Elements) (h : Header) (group confirmed : ℕ) (c 
     one-more = mod-eq-of-lt (omega arith)
 
     copy-taken : (opening : Bool) → Step (among opening closed e h group confirmed c copy false) (toWrite copy) good (among opening closed e h group confirmed (toWrite copy) (copy + 1) false)
-    unfolding decisionOf copies.commandOf replyOf answerOf meaningIn
+    unfolding decisionOf copies.commandOf replyOf replyBy meaningIn
     copy-taken true = record { free = refl; sized = refl; decided = rw room; replied = ap (λ n. accepting (among true closed e h group confirmed (toWrite copy) n false)) one-more }
     copy-taken false = record { free = refl; sized = refl; decided = rw room; replied = ap (λ n. accepting (among false closed e h group confirmed (toWrite copy) n false)) one-more }
 
@@ -132,12 +129,12 @@ module _ (closed : Bool) (e : Elements) (h : Header) (group confirmed : ℕ) (c 
 module _ (closed : Bool) (e : Elements) (h : Header) where
   -- READ POSITION finds nothing buffered: the second group follows the first, the next stage the second
   first-group-through : (b : Bool) (c : Command) → Step (among b closed e h 0 0 c 5 false) ReadPosition good (among b closed e h 1 5 ReadPosition 0 true)
-  unfolding decisionOf copies.commandOf replyOf answerOf copies.countedOf copies.onwardOf meaningIn
+  unfolding decisionOf copies.commandOf replyOf replyBy copies.countedOf copies.onwardOf meaningIn
   first-group-through true c = record { free = refl; sized = refl; decided = refl; replied = refl }
   first-group-through false c = record { free = refl; sized = refl; decided = refl; replied = refl }
 
   second-group-through : (b : Bool) (c : Command) → Step (among b closed e h 1 5 c 5 false) ReadPosition good (settledOf (behind b closed e h))
-  unfolding decisionOf copies.commandOf replyOf answerOf copies.countedOf copies.onwardOf meaningIn
+  unfolding decisionOf copies.commandOf replyOf replyBy copies.countedOf copies.onwardOf meaningIn
   second-group-through true c = record { free = refl; sized = refl; decided = refl; replied = refl }
   second-group-through false c = record { free = refl; sized = refl; decided = refl; replied = refl }
 
@@ -158,22 +155,22 @@ done-decided e h = refl
 module _ (window : List ℕ) (long : length window ≡ 32768) (accepted : List Element) (opening closed : Bool) (e : Elements) (h : Header) where
   module _ (group confirmed : ℕ) where
     copy-written : {cs : List Call} {u : World} (c : Command) (copy : ℕ) → copy < 5 → (t : Tape) (a : ℕ) (written : List ℕ) (fs : List (List ℕ))
-        → Runs (between window accepted (among opening closed e h group confirmed (Write (at (headerAddress group copy))) (copy + 1) false) (buffered t a written (fs ++ headerFrame h ∷ []))) cs u
+        → Runs (between window accepted (among opening closed e h group confirmed (Write (asAddress (headerAddress group copy))) (copy + 1) false) (buffered t a written (fs ++ headerFrame h ∷ []))) cs u
         → Runs (between window accepted (among opening closed e h group confirmed c copy false) (buffered t a written fs)) (fetch window frame ∷ reply good ∷ cs) u
     unfolding meaningIn
     copy-written c copy low t a written fs rest =
         let s : State = among opening closed e h group confirmed c copy false in
         let d : Drive = buffered t a written fs in
-        let w : Command = Write (at (headerAddress group copy)) in
+        let w : Command = Write (asAddress (headerAddress group copy)) in
         exchange window accepted s d long (copy-taken closed e h group confirmed c copy low opening)
-        (subst (λ x. Answers d (writtenFrame s window) w good (buffered t a written (fs ++ x ∷ []))) (copy-frame closed e h group confirmed c copy low opening window) (takes (at (headerAddress group copy)) good refl)) rest
+        (subst (λ x. Answers d (writtenFrame s window) w good (buffered t a written (fs ++ x ∷ []))) (copy-frame closed e h group confirmed c copy low opening window) (takes (asAddress (headerAddress group copy)) good refl)) rest
 
     copies-written : {cs : List Call} {u : World} (n copy : ℕ) → copy + n ≡ 5 → (c : Command) (t : Tape) (a : ℕ) (written : List ℕ) (fs : List (List ℕ))
         → ((last : Command) → Runs (between window accepted (among opening closed e h group confirmed last 5 false) (buffered t a written (appended (headerFrame h) n fs))) cs u)
         → Runs (between window accepted (among opening closed e h group confirmed c copy false) (buffered t a written fs)) (exchanges window n cs) u
     copies-written zero copy low c t a written fs rest = let five : copy ≡ 5 = omega arith in rw five (rest c)
     copies-written (suc n) copy low c t a written fs rest =
-        copy-written c copy (omega arith) t a written fs (copies-written n (copy + 1) (omega arith) (Write (at (headerAddress group copy))) t a written (fs ++ headerFrame h ∷ []) rest)
+        copy-written c copy (omega arith) t a written fs (copies-written n (copy + 1) (omega arith) (Write (asAddress (headerAddress group copy))) t a written (fs ++ headerFrame h ∷ []) rest)
 
     -- LOCATE and five writes, all of which the drive then has on tape
     group-written : {cs : List Call} {u : World} (c : Command) (d : Drive)
@@ -181,8 +178,8 @@ module _ (window : List ℕ) (long : length window ≡ 32768) (accepted : List E
         → Runs (between window accepted (among opening closed e h group confirmed c 0 true) d) (exchanges window 6 cs) u
     unfolding meaningIn
     group-written c d rest =
-        exchange window accepted (among opening closed e h group confirmed c 0 true) d long (group-located closed e h group confirmed c opening) (locates (at (headerAddress group 0)) good refl)
-        (copies-written 5 0 refl (Locate (at (headerAddress group 0))) (d .tape) (headerAddress group 0) (d .written) []
+        exchange window accepted (among opening closed e h group confirmed c 0 true) d long (group-located closed e h group confirmed c opening) (locates (asAddress (headerAddress group 0)) good refl)
+        (copies-written 5 0 refl (Locate (asAddress (headerAddress group 0))) (d .tape) (headerAddress group 0) (d .written) []
         (λ last. flush window accepted (among opening closed e h group confirmed last 5 false) (replicate 5 (headerFrame h)) (d .tape) (headerAddress group 0) (d .written) (rest last)))
 
   headers-written : {cs : List Call} {u : World} (d : Drive) → settledOf (behind opening closed e h) ≡ behind opening closed e h

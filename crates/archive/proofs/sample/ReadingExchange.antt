@@ -9,6 +9,7 @@ use native.Mathlib.Omega.{arith}
 use borrow.Author.Tests.{eq-eqb}
 use lib.Dec.{eqb, ltb}
 use lib.ListN.{length}
+use Rattle.geometry.specs.Place.{asAddress}
 use Rattle.frame.specs.Header.{headerFrame}
 use Rattle.frame.specs.declared.header.Header.{Header}
 use Rattle.frame.proofs.Frames.{header-length}
@@ -37,7 +38,6 @@ use Rattle.archive.specs.Readings as readings
 use Rattle.archive.specs.Sample.{geometry, frame, good, recovered, unreadable, endOfData}
 use Rattle.archive.proofs.tape.Stands.{telling}
 use Rattle.archive.proofs.sample.Exchange.{framed}
-use Rattle.archive.proofs.sample.Headers.{at}
 
 -- ---- one call, or one exchange
 
@@ -64,7 +64,7 @@ module _ (t : Tape) (deliveries : List Element) (n : ℕ) {cs : List Call} {u : 
   command-served {place} {to} {c} {r} {given} s fetched serve rest =
       let w : World = between place deliveries n s in
       let p : afterFetching w (fetch.fetchOf s) ≡ world place deliveries n (fetch.awaits s c) (sent (commandBy (commandCode c) (commandAddress c))) = ap (afterFetching w) fetched in
-      call (subst (λ (x : World). Calls w fetching x) p (fetches (inl (ap (λ (x : fetch.Fetching). fetchNumber (x .said)) fetched)))) (drive (serves c r given to (ap sent (command-by c)) serve) rest)
+      call (subst (λ (x : World). Calls w fetching x) p (fetches (inl (ap (λ (x : fetch.FetchedSaid). fetchNumber (x .said)) fetched)))) (drive (serves c r given to (ap sent (command-by c)) serve) rest)
 
   reply-taken : {place : ℕ} {r : Reply} {given : Option (List ℕ)} {lent : List ℕ} {said : reply.DeliverySaid} {next : Reading} (s : Reading)
       → LentWith given lent → reply.replyOf s r lent ≡ record { session = next; said = said } → replyNumber said ≡ 0 → endAfter said (s .finished) ≡ next .finished
@@ -75,7 +75,7 @@ module _ (t : Tape) (deliveries : List Element) (n : ℕ) {cs : List Call} {u : 
       let after : ℕ → Bool → World = λ k end. record { session = next; at = place; flight = readings.no-command; notes = record { deliveries = deliveries ++ delivered said lent; replies = repliesAfter r n; refused = refusedAfter k 0; end = end } } in
       let p : afterTaking v r lent (reply.replyOf s r lent) ≡ after (replyNumber said) (endAfter said (s .finished)) = ap (afterTaking v r lent) replied in
       let q : after (replyNumber said) (endAfter said (s .finished)) ≡ between place (deliveries ++ delivered said lent) (repliesAfter r n) next = ap (λ (k : ℕ). after k (endAfter said (s .finished))) small ∙ ap (λ (end : Bool). after 0 end) ends in
-      call (subst (λ (x : World). Calls v (replying r lent) x) (p ∙ q) (replies r given lent refl given-is (inl (ap (λ (x : reply.Taking). replyNumber (x .said)) replied ∙ small)))) rest
+      call (subst (λ (x : World). Calls v (replying r lent) x) (p ∙ q) (replies r given lent refl given-is (inl (ap (λ (x : reply.TakenSaid). replyNumber (x .said)) replied ∙ small)))) rest
 
   -- with a frame of another length the reply is refused with 1, and is brought again
   pub reply-refused : {place : ℕ} {r : Reply} {given : Option (List ℕ)} {lent : List ℕ} (s : Reading) → reply.replyOf s r lent ≡ reply.refusing s 1
@@ -83,8 +83,8 @@ module _ (t : Tape) (deliveries : List Element) (n : ℕ) {cs : List Call} {u : 
       → Runs t (world place deliveries n s (answered r given)) (replying r lent ∷ cs) u
   reply-refused {place} {r} {given} {lent} s refused rest =
       let v : World = world place deliveries n s (answered r given) in
-      let one : replyNumber (reply.replyOf s r lent .said) ≡ 1 = ap (λ (x : reply.Taking). replyNumber (x .said)) refused in
-      call (subst (λ (x : Reading). Calls v (replying r lent) (withSession v x)) (ap (λ (x : reply.Taking). x .session) refused) (refuses (replying r lent) (omega (arith, one)) (omega (arith, one)))) rest
+      let one : replyNumber (reply.replyOf s r lent .said) ≡ 1 = ap (λ (x : reply.TakenSaid). replyNumber (x .said)) refused in
+      call (subst (λ (x : Reading). Calls v (replying r lent) (withSession v x)) (ap (λ (x : reply.TakenSaid). x .session) refused) (refuses (replying r lent) (omega (arith, one)) (omega (arith, one)))) rest
 
 module _ (t : Tape) (deliveries : List Element) (n : ℕ) {cs : List Call} {u : World} where
   exchange : {place to : ℕ} {c : Command} {r : Reply} {given : Option (List ℕ)} {lent : List ℕ} {said : reply.DeliverySaid} {next : Reading} (s : Reading)
@@ -99,7 +99,7 @@ module _ (t : Tape) (deliveries : List Element) (n : ℕ) {cs : List Call} {u : 
 abbrev pub before : ℕ → Command → ℕ → Bool → ℕ → Bool → Reading
 before pass c next locate expected finished = record {
   told = telling 11999 pass;
-  next = at next;
+  next = asAddress next;
   locate = locate;
   expected = record { 0 = expected };
   exchange = record { command = c; awaiting = false; again = false };
@@ -114,38 +114,38 @@ bringing false = recovered
 
 module _ (pass : ℕ) (c : Command) (a expected : ℕ) (low : ltb 11999 a ≡ false) where
   abbrev locating : Reading
-  locating = fetch.awaits (before pass c a true expected false) (Locate (at a))
+  locating = fetch.awaits (before pass c a true expected false) (Locate (asAddress a))
 
   abbrev reading : Reading
-  reading = fetch.awaits (before pass c a false expected false) (Read (at a))
+  reading = fetch.awaits (before pass c a false expected false) (Read (asAddress a))
 
-  locate-fetched : fetch.fetchOf (before pass c a true expected false) ≡ fetch.sending (before pass c a true expected false) (Locate (at a))
+  locate-fetched : fetch.fetchOf (before pass c a true expected false) ≡ fetch.sending (before pass c a true expected false) (Locate (asAddress a))
   unfolding fetch.fetchOf fetch.commandOf
   locate-fetched = rw low
 
   locate-replied : reply.replyOf locating good frame ≡ reply.locatedOf locating
-  unfolding reply.replyOf reply.answerOf meaningIn
+  unfolding reply.replyOf reply.replyBy meaningIn
   locate-replied = rw (eq-eqb (length frame) 33280 framed)
 
   none-lent : reply.replyOf locating good [] ≡ reply.refusing locating 1
   unfolding reply.replyOf
   none-lent = refl
 
-  read-fetched : eqb a 2990 ≡ false → fetch.fetchOf (before pass c a false expected false) ≡ fetch.sending (before pass c a false expected false) (Read (at a))
+  read-fetched : eqb a 2990 ≡ false → fetch.fetchOf (before pass c a false expected false) ≡ fetch.sending (before pass c a false expected false) (Read (asAddress a))
   unfolding fetch.fetchOf fetch.commandOf
   read-fetched user = rw (low, user)
 
   frame-replied : (clean : Bool) (f : List ℕ) → length f ≡ 33280 → (j : judgement.JudgementSaid) → judgement.judgeFrame (telling 11999 pass) (record { 0 = expected }) f ≡ j → reply.replyOf reading (bringing clean) f ≡ reply.judgedBy j reading
-  unfolding reply.replyOf reply.answerOf reply.judgedOf meaningIn
+  unfolding reply.replyOf reply.replyBy reply.judgedOf meaningIn
   frame-replied true f long j judged = rw (eq-eqb (length f) 33280 long, judged)
   frame-replied false f long j judged = rw (eq-eqb (length f) 33280 long, judged)
 
   unreadable-replied : reply.replyOf reading unreadable frame ≡ reply.skippedOf reading
-  unfolding reply.replyOf reply.answerOf meaningIn
+  unfolding reply.replyOf reply.replyBy meaningIn
   unreadable-replied = rw (eq-eqb (length frame) 33280 framed)
 
   blank-replied : reply.replyOf reading endOfData frame ≡ reply.jumpedOf reading
-  unfolding reply.replyOf reply.answerOf meaningIn
+  unfolding reply.replyOf reply.replyBy meaningIn
   blank-replied = rw (eq-eqb (length frame) 33280 framed)
 
 brought : (clean : Bool) → Means (bringing clean) senses.good ⊎ Means (bringing clean) senses.recovered
@@ -172,7 +172,7 @@ module _ (t : Tape) (pass : ℕ) (deliveries : List Element) (n : ℕ) (c : Comm
   unfolding meaningIn
   address-located place rest =
       exchange t deliveries n (before pass c a true expected false) (record { fetched = locate-fetched pass c a expected low; replied = locate-replied pass c a expected low; taken = refl; ends = refl })
-      (locates (at a) good refl) (inl refl) rest
+      (locates (asAddress a) good refl) (inl refl) rest
 
   -- the reply is brought with no frame, which is refused, and again
   pub address-located-again : (place : ℕ)
@@ -180,7 +180,7 @@ module _ (t : Tape) (pass : ℕ) (deliveries : List Element) (n : ℕ) (c : Comm
       → Runs t (between place deliveries n (before pass c a true expected false)) (fetching ∷ replying good [] ∷ replying good frame ∷ cs) u
   unfolding meaningIn
   address-located-again place rest =
-      command-served t deliveries n (before pass c a true expected false) (locate-fetched pass c a expected low) (locates (at a) good refl)
+      command-served t deliveries n (before pass c a true expected false) (locate-fetched pass c a expected low) (locates (asAddress a) good refl)
       (reply-refused t deliveries n (locating pass c a expected low) (none-lent pass c a expected low)
       (reply-taken t deliveries n (locating pass c a expected low) (inl refl) (locate-replied pass c a expected low) refl refl rest))
 
@@ -192,7 +192,7 @@ module _ (t : Tape) (pass : ℕ) (deliveries : List Element) (n : ℕ) (c : Comm
         → Runs t (between a deliveries n (before pass c a false expected false)) (fetching ∷ replying (bringing clean) f ∷ cs) u
     frame-read clean f j reads long judged taken rest =
         exchange t deliveries n (before pass c a false expected false) (record { fetched = read-fetched pass c a expected low user; replied = frame-replied pass c a expected low clean f long j judged; taken = taken; ends = judged-ends j (reading pass c a expected low) })
-        (brings (at a) (bringing clean) f (brought clean) reads) (inr refl)
+        (brings (asAddress a) (bringing clean) f (brought clean) reads) (inr refl)
         (subst (λ (k : ℕ). Runs t (between (a + 1) (deliveries ++ delivered (reply.judgedBy j (reading pass c a expected low) .said) f) k (reply.judgedBy j (reading pass c a expected low) .session)) cs u) (sym (counted clean n)) rest)
 
     -- 03/11/00
@@ -202,7 +202,7 @@ module _ (t : Tape) (pass : ℕ) (deliveries : List Element) (n : ℕ) (c : Comm
     unfolding meaningIn
     unreadable-skipped reads rest =
         exchange t deliveries n (before pass c a false expected false) (record { fetched = read-fetched pass c a expected low user; replied = unreadable-replied pass c a expected low; taken = refl; ends = refl })
-        (misses (at a) unreadable refl reads) (inl refl) rest
+        (misses (asAddress a) unreadable refl reads) (inl refl) rest
 
     -- 08/00/05
     pub blank-jumped : ((b : ℕ) → a ≤ b → b < a + 32 → t b ≡ none)
@@ -211,7 +211,7 @@ module _ (t : Tape) (pass : ℕ) (deliveries : List Element) (n : ℕ) (c : Comm
     unfolding meaningIn
     blank-jumped nothing rest =
         exchange t deliveries n (before pass c a false expected false) (record { fetched = read-fetched pass c a expected low user; replied = blank-replied pass c a expected low; taken = refl; ends = refl })
-        (blanks (at a) endOfData a refl nothing) (inl refl) rest
+        (blanks (asAddress a) endOfData a refl nothing) (inl refl) rest
 
 -- the end, said again at each fetch
 module _ (t : Tape) (place : ℕ) (deliveries : List Element) (n : ℕ) (pass : ℕ) (c : Command) (next expected : ℕ) where
@@ -226,7 +226,7 @@ module _ (t : Tape) (place : ℕ) (deliveries : List Element) (n : ℕ) (pass : 
   end-said =
       call
       (subst (λ (x : World). Calls (between place deliveries n ended) fetching x) (ap (afterFetching (between place deliveries n ended)) end-fetched)
-      (fetches (inl (ap (λ (x : fetch.Fetching). fetchNumber (x .said)) end-fetched)))) stop
+      (fetches (inl (ap (λ (x : fetch.FetchedSaid). fetchNumber (x .said)) end-fetched)))) stop
 
 -- ---- the opening
 

@@ -8,6 +8,7 @@ use mathlib.Core.Option.{none, some}
 use native.Mathlib.Omega.{arith}
 use lib.Dec.{lit<, lit≤}
 use lib.ListN.{length}
+use Rattle.geometry.specs.Place.{asAddress}
 use Rattle.frame.specs.declared.element.Kind.the-variants.{Data}
 use Rattle.frame.specs.Frame.{blank, elementFrame}
 use Rattle.frame.specs.Header.{headerFrame}
@@ -16,13 +17,12 @@ use Rattle.archive.specs.Tape.{Tape, put}
 use Rattle.drive.specs.declared.command.Command.the-variants.{Read, Locate, ReadPosition}
 use Rattle.judgement.specs.Judgement as judgement
 use Rattle.judgement.proofs.Written.{judged-written, judged-other-pass}
-use Rattle.reading.specs.Open.{Result, fresh, openOf}
+use Rattle.reading.specs.Open.{OpenedSaid, fresh, openOf}
 use Rattle.archive.specs.Readings.{World, Runs, started}
 use Rattle.archive.specs.Demand.{Faithful}
 use Rattle.archive.specs.Sample.{geometry, firstBlock, secondOpening, secondElements, secondFilemark, secondEod, secondClosing, secondReading}
 use Rattle.archive.proofs.tape.Basics.{reads-itself}
 use Rattle.archive.proofs.tape.ScanLaws.{put-other}
-use Rattle.archive.proofs.sample.Headers.{at}
 use Rattle.archive.proofs.tape.Stands.{telling}
 use Rattle.archive.proofs.tape.WrittenFrames.{block-fits}
 use Rattle.archive.proofs.sample.Tapes.{same-reads, headers-elsewhere}
@@ -73,7 +73,7 @@ module _ (b : List ℕ) where
 
 -- the end, with seven replies taken in
 abbrev pub secondRead : World
-secondRead = between 46 secondElements 7 (before 2 (Read (at 45)) 46 false 1 true)
+secondRead = between 46 secondElements 7 (before 2 (Read (asAddress 45)) 46 false 1 true)
 
 module _ (b : List ℕ) (full : length b ≡ 32768) where
   block-passed-over : judgement.judgeFrame (telling 11999 2) (record { 0 = 1 }) (elementFrame firstBlock b) ≡ judgement.skipped
@@ -82,17 +82,17 @@ module _ (b : List ℕ) (full : length b ≡ 32768) where
   from-fresh : (place : ℕ) → Runs (left b) (started (fresh (telling 11999 2)) place) (secondReading b) secondRead
   from-fresh place =
       address-located (left b) 2 [] 0 ReadPosition 10 0 refl place
-      (frame-read (left b) 2 [] 1 (Locate (at 10)) 10 0 refl refl false (elementFrame secondFilemark blank) judgement.filemark (filemark-reads b) (element-length secondFilemark blank refl) filemark-found refl
-      (blank-jumped (left b) 2 secondElements 2 (Read (at 10)) 11 1 refl refl (λ a low high. still-empty b a low (omega arith))
-      (address-located (left b) 2 secondElements 3 (Read (at 11)) 43 1 refl 11
-      (unreadable-skipped (left b) 2 secondElements 4 (Locate (at 43)) 43 1 refl refl (still-empty b 43 (lit≤ tt) (lit< tt))
-      (frame-read (left b) 2 secondElements 5 (Read (at 43)) 44 1 refl refl true (elementFrame firstBlock b) judgement.skipped (block-reads b) (element-length firstBlock b (block-fits Data b full)) block-passed-over refl
-      (frame-read (left b) 2 secondElements 6 (Read (at 44)) 45 1 refl refl true (elementFrame secondEod blank) judgement.end (eod-reads b) (element-length secondEod blank refl) eod-found refl
-      (end-said (left b) 46 secondElements 7 2 (Read (at 45)) 46 1)))))))
+      (frame-read (left b) 2 [] 1 (Locate (asAddress 10)) 10 0 refl refl false (elementFrame secondFilemark blank) judgement.filemark (filemark-reads b) (element-length secondFilemark blank refl) filemark-found refl
+      (blank-jumped (left b) 2 secondElements 2 (Read (asAddress 10)) 11 1 refl refl (λ a low high. still-empty b a low (omega arith))
+      (address-located (left b) 2 secondElements 3 (Read (asAddress 11)) 43 1 refl 11
+      (unreadable-skipped (left b) 2 secondElements 4 (Locate (asAddress 43)) 43 1 refl refl (still-empty b 43 (lit≤ tt) (lit< tt))
+      (frame-read (left b) 2 secondElements 5 (Read (asAddress 43)) 44 1 refl refl true (elementFrame firstBlock b) judgement.skipped (block-reads b) (element-length firstBlock b (block-fits Data b full)) block-passed-over refl
+      (frame-read (left b) 2 secondElements 6 (Read (asAddress 44)) 45 1 refl refl true (elementFrame secondEod blank) judgement.end (eod-reads b) (element-length secondEod blank refl) eod-found refl
+      (end-said (left b) 46 secondElements 7 2 (Read (asAddress 45)) 46 1)))))))
 
   -- from the newest header of the cartridge: what the second recording accepted comes back, and the end
   pub second-read : (place : ℕ) → Runs (left b) (started (openOf geometry (headerFrame secondClosing) .session) place) (secondReading b) secondRead
-  second-read place = subst (λ (x : Result). Runs (left b) (started (x .session) place) (secondReading b) secondRead) (sym second-reading-opened) (from-fresh place)
+  second-read place = subst (λ (x : OpenedSaid). Runs (left b) (started (x .session) place) (secondReading b) secondRead) (sym second-reading-opened) (from-fresh place)
 
   -- and demand 3 speaks of this list
   pub second-faithful : Faithful 11999 secondElements secondRead

@@ -1,12 +1,13 @@
 -- The second sample recording, on the newest header that the first left, from its opening to done: every premise of demand 3 holds. Assumes nothing.
 use Prim.Native.Nat.{ℕ, _+_}
 use mathlib.Core.Path.{_≡_, refl, ap, sym, subst, _∙_}
-use mathlib.Core.Bool.{true, false}
+use mathlib.Core.Bool.{true}
 use mathlib.Core.List.{List, [], _∷_}
 use mathlib.Core.Option.{some}
 use native.Mathlib.Omega.{arith}
 use lib.Dec.{lit<, lit≤}
 use lib.ListN.{length}
+use Rattle.geometry.specs.Place.{asAddress}
 use Rattle.frame.specs.declared.element.Kind.the-variants.{Data}
 use Rattle.frame.specs.Frame.{blank, elementFrame}
 use Rattle.frame.specs.Header.{headerFrame}
@@ -25,7 +26,7 @@ use Rattle.drive.specs.declared.command.Command.the-variants.{Write, Locate, Re
 use Rattle.elements.specs.Elements as elements
 use Rattle.elements.specs.Trail.{trailOf}
 use Rattle.elements.specs.Due.{dueOf}
-use Rattle.elements.specs.Answer as answer
+use Rattle.elements.specs.Reply as reply
 use Rattle.elements.specs.declared.state.Elements.{Elements}
 use Rattle.copies.specs.Carried.{isExhausted, renewed}
 use Rattle.recording_state.specs.Open.{fresh, openWith, openFor, openOf}
@@ -33,14 +34,14 @@ use Rattle.recording_state.specs.Session.{accepting, settledOf}
 use Rattle.recording_state.specs.Accept.{filemarkOf, closeOf}
 use Rattle.recording_state.specs.Due.{decisionOf}
 use Rattle.recording_state.specs.Written.{writtenFrame, writtenElement, elementOf}
-use Rattle.recording_state.specs.Reply.{answerOf, replyOf}
+use Rattle.recording_state.specs.Reply.{replyBy, replyOf}
 use Rattle.archive.specs.Headers.{Newest}
 use Rattle.archive.specs.Recordings.{World, Call, accept-filemark, close, fetch, reply, Runs, started}
 use Rattle.archive.specs.Demand.{NoneBears, newPass, on-header, Promised, Readable, Demand3}
 use Rattle.archive.specs.Sample.{geometry, depth, blocks, good, stopped, firstOpening, window, frame, firstBlock, firstFilemark, firstEod, firstClosing, exchanges, secondOpening, secondElements, secondError, secondFilemark, secondEod, secondClosing, secondCalls}
 use Rattle.archive.proofs.sample.Exchange.{Step, between, reported, exchange, filemark-accepted, close-accepted}
 use Rattle.archive.proofs.sample.Flush.{buffered}
-use Rattle.archive.proofs.sample.Headers.{at, writing, ending, closing, finished, headersWritten, opening-written, closing-written}
+use Rattle.archive.proofs.sample.Headers.{writing, ending, closing, finished, headersWritten, opening-written, closing-written}
 use Rattle.archive.proofs.tape.WrittenFrames.{block-fits}
 use Rattle.archive.proofs.sample.Tapes.{frame-cartridge, frame-bears-none, same-cartridge, same-bears-none, headers-newest, headers-cartridge, headers-bear-none}
 use Rattle.archive.proofs.sample.Elements.{noneAccepted, element-written, element-failed}
@@ -61,31 +62,31 @@ abbrev filemarkAccepted : Elements
 filemarkAccepted = elements.acceptedOf noneAccepted true
 
 abbrev located : Elements
-located = answer.locatedOf filemarkAccepted (at 10)
+located = reply.locatedOf filemarkAccepted (asAddress 10)
 
 abbrev filemarkTaken : Elements
-filemarkTaken = answer.takenOf located
+filemarkTaken = reply.takenOf located
 
 abbrev filemarkOnTape : Elements
-filemarkOnTape = answer.confirmedOf filemarkTaken 1
+filemarkOnTape = reply.confirmedOf filemarkTaken 1
 
 abbrev eodDue : Elements
 eodDue = elements.eodDue filemarkOnTape
 
 abbrev eodTaken : Elements
-eodTaken = answer.takenOf eodDue
+eodTaken = reply.takenOf eodDue
 
 abbrev eodFailed : Elements
-eodFailed = answer.relocatedOf (answer.confirmedOf eodTaken 0) (at 45)
+eodFailed = reply.relocatedOf (reply.confirmedOf eodTaken 0) (asAddress 45)
 
 abbrev relocated : Elements
-relocated = answer.locatedOf eodFailed (at 45)
+relocated = reply.locatedOf eodFailed (asAddress 45)
 
 abbrev eodRetaken : Elements
-eodRetaken = answer.takenOf relocated
+eodRetaken = reply.takenOf relocated
 
 abbrev eodOnTape : Elements
-eodOnTape = answer.confirmedOf eodRetaken 1
+eodOnTape = reply.confirmedOf eodRetaken 1
 
 -- ---- the calls, by what happens
 
@@ -93,40 +94,40 @@ filemark-in-time : filemarkOf (writing secondOpening noneAccepted ReadPosition) 
 unfolding filemarkOf
 filemark-in-time = refl
 
-filemark-located : Step (writing secondOpening filemarkAccepted ReadPosition) (Locate (at 10)) good (writing secondOpening located (Locate (at 10)))
-unfolding decisionOf dueOf replyOf answerOf settledOf meaningIn
+filemark-located : Step (writing secondOpening filemarkAccepted ReadPosition) (Locate (asAddress 10)) good (writing secondOpening located (Locate (asAddress 10)))
+unfolding decisionOf dueOf replyOf replyBy settledOf meaningIn
 filemark-located = record { free = refl; sized = refl; decided = refl; replied = refl }
 
-filemark-taken : Step (writing secondOpening located (Locate (at 10))) (Write (at 10)) good (writing secondOpening filemarkTaken (Write (at 10)))
-unfolding decisionOf dueOf replyOf answerOf settledOf meaningIn
+filemark-taken : Step (writing secondOpening located (Locate (asAddress 10))) (Write (asAddress 10)) good (writing secondOpening filemarkTaken (Write (asAddress 10)))
+unfolding decisionOf dueOf replyOf replyBy settledOf meaningIn
 filemark-taken = record { free = refl; sized = refl; decided = refl; replied = refl }
 
-filemark-confirmed : Step (writing secondOpening filemarkTaken (Write (at 10))) ReadPosition good (writing secondOpening filemarkOnTape ReadPosition)
-unfolding decisionOf dueOf replyOf answerOf answer.countedOf answer.confirmedOf settledOf meaningIn
+filemark-confirmed : Step (writing secondOpening filemarkTaken (Write (asAddress 10))) ReadPosition good (writing secondOpening filemarkOnTape ReadPosition)
+unfolding decisionOf dueOf replyOf replyBy reply.countedOf reply.confirmedOf settledOf meaningIn
 filemark-confirmed = record { free = refl; sized = refl; decided = refl; replied = refl }
 
 close-called : closeOf (writing secondOpening filemarkOnTape ReadPosition) ≡ accepting (ending secondOpening eodDue ReadPosition)
-unfolding closeOf settledOf answer.confirmedOf
+unfolding closeOf settledOf reply.confirmedOf
 close-called = refl
 
-eod-taken : Step (ending secondOpening eodDue ReadPosition) (Write (at 11)) good (ending secondOpening eodTaken (Write (at 11)))
-unfolding decisionOf dueOf replyOf answerOf answer.confirmedOf settledOf meaningIn
+eod-taken : Step (ending secondOpening eodDue ReadPosition) (Write (asAddress 11)) good (ending secondOpening eodTaken (Write (asAddress 11)))
+unfolding decisionOf dueOf replyOf replyBy reply.confirmedOf settledOf meaningIn
 eod-taken = record { free = refl; sized = refl; decided = refl; replied = refl }
 
-eod-failed : Step (ending secondOpening eodTaken (Write (at 11))) ReadPosition secondError (ending secondOpening eodFailed ReadPosition)
-unfolding decisionOf dueOf replyOf answerOf answer.failedOf answer.confirmedOf trailOf settledOf meaningIn
+eod-failed : Step (ending secondOpening eodTaken (Write (asAddress 11))) ReadPosition secondError (ending secondOpening eodFailed ReadPosition)
+unfolding decisionOf dueOf replyOf replyBy reply.failedOf reply.confirmedOf trailOf settledOf meaningIn
 eod-failed = record { free = refl; sized = refl; decided = refl; replied = refl }
 
-eod-relocated : Step (ending secondOpening eodFailed ReadPosition) (Locate (at 45)) good (ending secondOpening relocated (Locate (at 45)))
-unfolding decisionOf dueOf replyOf answerOf answer.confirmedOf settledOf meaningIn
+eod-relocated : Step (ending secondOpening eodFailed ReadPosition) (Locate (asAddress 45)) good (ending secondOpening relocated (Locate (asAddress 45)))
+unfolding decisionOf dueOf replyOf replyBy reply.confirmedOf settledOf meaningIn
 eod-relocated = record { free = refl; sized = refl; decided = refl; replied = refl }
 
-eod-retaken : Step (ending secondOpening relocated (Locate (at 45))) (Write (at 45)) good (ending secondOpening eodRetaken (Write (at 45)))
-unfolding decisionOf dueOf replyOf answerOf answer.confirmedOf settledOf meaningIn
+eod-retaken : Step (ending secondOpening relocated (Locate (asAddress 45))) (Write (asAddress 45)) good (ending secondOpening eodRetaken (Write (asAddress 45)))
+unfolding decisionOf dueOf replyOf replyBy reply.confirmedOf settledOf meaningIn
 eod-retaken = record { free = refl; sized = refl; decided = refl; replied = refl }
 
-eod-confirmed : Step (ending secondOpening eodRetaken (Write (at 45))) ReadPosition good (closing secondClosing eodOnTape)
-unfolding decisionOf dueOf replyOf answerOf answer.countedOf answer.confirmedOf settledOf meaningIn
+eod-confirmed : Step (ending secondOpening eodRetaken (Write (asAddress 45))) ReadPosition good (closing secondClosing eodOnTape)
+unfolding decisionOf dueOf replyOf replyBy reply.countedOf reply.confirmedOf settledOf meaningIn
 eod-confirmed = record { free = refl; sized = refl; decided = refl; replied = refl }
 
 -- ---- the tape, by what was written
@@ -160,12 +161,12 @@ secondEnd b = reported window secondElements (finished secondClosing eodOnTape) 
 
 -- ---- the list
 
-filemark-frame : writtenFrame (writing secondOpening located (Locate (at 10))) window ≡ elementFrame secondFilemark blank
+filemark-frame : writtenFrame (writing secondOpening located (Locate (asAddress 10))) window ≡ elementFrame secondFilemark blank
 unfolding writtenFrame writtenElement elementOf elementFrame trailOf
 filemark-frame = refl
 
-eod-frame : writtenFrame (ending secondOpening relocated (Locate (at 45))) window ≡ elementFrame secondEod blank
-unfolding writtenFrame writtenElement elementOf elementFrame answer.confirmedOf trailOf
+eod-frame : writtenFrame (ending secondOpening relocated (Locate (asAddress 45))) window ≡ elementFrame secondEod blank
+unfolding writtenFrame writtenElement elementOf elementFrame reply.confirmedOf trailOf
 eod-frame = refl
 
 module _ (t : Tape) (past : List ℕ) {cs : List Call} {u : World} where
@@ -175,7 +176,7 @@ module _ (t : Tape) (past : List ℕ) {cs : List Call} {u : World} where
   unfolding meaningIn
   filemark-written place rest =
       filemark-accepted window [] (writing secondOpening noneAccepted ReadPosition) (buffered t place past []) filemark-in-time
-      (exchange window secondElements (writing secondOpening filemarkAccepted ReadPosition) (buffered t place past []) window-long filemark-located (locates (at 10) good refl)
+      (exchange window secondElements (writing secondOpening filemarkAccepted ReadPosition) (buffered t place past []) window-long filemark-located (locates (asAddress 10) good refl)
       (element-written window window-long secondElements t past 10 (elementFrame secondFilemark blank) filemark-frame filemark-taken filemark-confirmed rest))
 
   eod-written :

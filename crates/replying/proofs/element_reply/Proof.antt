@@ -5,7 +5,7 @@ use borrow.Author.Needs.{needs}
 use lib.Dec.{eqb}
 use Rattle.recording_state.specs.Session.{accepting, settledOf}
 use Rattle.recording_state.specs.Reply.{elementReplyBy}
-use Rattle.elements.specs.Answer.{steppedSaid}
+use Rattle.elements.specs.Reply.{steppedSaid}
 use Rattle.geometry.specs.Refused.{refusalNumber}
 use Rattle.geometry.specs.declared.refusal.Refusal.{Refusal}
 use Rattle.geometry.specs.declared.refusal.Refusal.the-variants as R

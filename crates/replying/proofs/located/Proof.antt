@@ -1,7 +1,7 @@
 -- `replying::located` meets its contract: by what the header copies and the elements promise. Assumes nothing.
 use mathlib.Core.Path.{ap, _∙_}
 use Rattle.copies.specs.Copies as copies
-use Rattle.elements.specs.Answer as answer
+use Rattle.elements.specs.Reply as reply
 use Rattle.recording_state.proofs.ReplyView.{stage-alike}
 use Rattle.replying.proofs.located.Statement.{statement}
 use Rattle.replying.proofs.located.Tie as tie
@@ -26,7 +26,7 @@ returns c =
     let s = c .before .before .before .before .before .before .before .args .s in
     c .stage-reply .ensures
     ∙ stage-alike s (ap copies.more (c .before .before .before .before .located .ensures))
-    (c .before .keep .ensures ∙ ap answer.kept (c .before .before .located2 .ensures ∙ ap (answer.locatedOf (s .elements)) (c .before .before .before .address .ensures)))
+    (c .before .keep .ensures ∙ ap reply.kept (c .before .before .located2 .ensures ∙ ap (reply.locatedOf (s .elements)) (c .before .before .before .address .ensures)))
 
 pub located-spec : {M : Type 1} → statement M
 located-spec = tie.close (tie.spec located-requires address-requires located-requires-2 keep-requires stage-reply-requires returns)

@@ -1,6 +1,6 @@
 -- `replying::overflowed` meets its contract: by what the elements promise; to the header copies it is refusal 8. Assumes nothing.
 use mathlib.Core.Path.{refl, ap, _∙_}
-use Rattle.elements.specs.Answer as answer
+use Rattle.elements.specs.Reply as reply
 use Rattle.recording_state.proofs.ReplyView.{stage-alike}
 use Rattle.replying.proofs.overflowed.Statement.{statement}
 use Rattle.replying.proofs.overflowed.Tie as tie
@@ -22,7 +22,7 @@ returns c =
     let s = c .before .before .before .before .before .args .s in
     c .stage-reply .ensures
     ∙ stage-alike s refl
-    (c .before .keep .ensures ∙ ap answer.kept (c .before .before .overflowed .ensures ∙ ap (answer.overflowedOf (s .elements)) (c .before .before .before .address .ensures)))
+    (c .before .keep .ensures ∙ ap reply.kept (c .before .before .overflowed .ensures ∙ ap (reply.overflowedOf (s .elements)) (c .before .before .before .address .ensures)))
 
 pub overflowed-spec : {M : Type 1} → statement M
 overflowed-spec = tie.close (tie.spec address-requires overflowed-requires keep-requires stage-reply-requires returns)

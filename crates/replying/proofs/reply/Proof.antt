@@ -4,7 +4,7 @@ use mathlib.Core.Logic.{⊎-elim, inl, inr}
 use borrow.Author.Tests.{ne-eqb}
 use Rattle.geometry.proofs.TestLaws.{neither}
 use Rattle.geometry.proofs.PickLaws.{pick-t, pick-f}
-use Rattle.recording_state.specs.Reply.{answerOf, replyOf}
+use Rattle.recording_state.specs.Reply.{replyBy, replyOf}
 use Rattle.recording_state.specs.Session.{accepting}
 use Rattle.recording_state.proofs.ReplyView.{reply-so}
 use Rattle.replying.proofs.reply.Statement.{statement}
@@ -45,35 +45,35 @@ end-requires : tie.Need-end-requires
 end-requires c κs = tt
 
 returns-2 : tie.Need-returns-2
-unfolding answerOf
+unfolding replyBy
 returns-2 c =
     let answer = c .accepted .ensures ∙ ap accepting (c .before .repeated .ensures) in
     ⊎-elim (λ k. answer ∙ sym (reply-so (c .before .before .before .before .before .before .before .before .args .s) (c .before .before .before .before .before .before .before .before .args .reply) (c .before .before .before .before .if1 .left) (sym (c .before .before .before .case-of .ensures) ∙ k)))
     (⊎-elim (λ k. answer ∙ sym (reply-so (c .before .before .before .before .before .before .before .before .args .s) (c .before .before .before .before .before .before .before .before .args .reply) (c .before .before .before .before .if1 .left) (sym (c .before .before .before .case-of .ensures) ∙ k))) (λ k. answer ∙ sym (reply-so (c .before .before .before .before .before .before .before .before .args .s) (c .before .before .before .before .before .before .before .before .args .reply) (c .before .before .before .before .if1 .left) (sym (c .before .before .before .case-of .ensures) ∙ k)))) (c .before .before .match .keys1)
 
 returns-3 : tie.Need-returns-3
-unfolding answerOf
+unfolding replyBy
 returns-3 c = c .located .ensures ∙ sym (reply-so (c .before .before .before .before .before .before .before .args .s) (c .before .before .before .before .before .before .before .args .reply) (c .before .before .before .if1 .left) (sym (c .before .before .case-of .ensures) ∙ c .before .match .keys2))
 
 returns-4 : tie.Need-returns-4
-unfolding answerOf
+unfolding replyBy
 returns-4 c = c .taken .ensures ∙ sym (reply-so (c .before .before .before .before .before .before .before .args .s) (c .before .before .before .before .before .before .before .args .reply) (c .before .before .before .if1 .left) (sym (c .before .before .case-of .ensures) ∙ c .before .match .keys3))
 
 returns-5 : tie.Need-returns-5
-unfolding answerOf
+unfolding replyBy
 returns-5 c = c .counted .ensures ∙ sym (reply-so (c .before .before .before .before .before .before .before .args .s) (c .before .before .before .before .before .before .before .args .reply) (c .before .before .before .if1 .left) (sym (c .before .before .case-of .ensures) ∙ c .before .match .keys4))
 
 returns-6 : tie.Need-returns-6
-unfolding answerOf
+unfolding replyBy
 returns-6 c =
     ⊎-elim (λ k. c .failed .ensures ∙ sym (reply-so (c .before .before .before .before .before .before .before .before .args .s) (c .before .before .before .before .before .before .before .before .args .reply) (c .before .before .before .before .if1 .left) (sym (c .before .before .before .case-of .ensures) ∙ k))) (λ k. c .failed .ensures ∙ sym (reply-so (c .before .before .before .before .before .before .before .before .args .s) (c .before .before .before .before .before .before .before .before .args .reply) (c .before .before .before .before .if1 .left) (sym (c .before .before .before .case-of .ensures) ∙ k))) (c .before .before .match .keys5)
 
 returns-7 : tie.Need-returns-7
-unfolding answerOf
+unfolding replyBy
 returns-7 c = c .overflowed .ensures ∙ sym (reply-so (c .before .before .before .before .before .before .before .args .s) (c .before .before .before .before .before .before .before .args .reply) (c .before .before .before .if1 .left) (sym (c .before .before .case-of .ensures) ∙ c .before .match .keys6))
 
 returns-8 : tie.Need-returns-8
-unfolding answerOf
+unfolding replyBy
 returns-8 c =
     let n = c .before .match .rest in
     c .end .ensures

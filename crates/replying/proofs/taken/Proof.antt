@@ -1,7 +1,7 @@
 -- `replying::taken` meets its contract: by what the header copies and the elements promise. Assumes nothing.
 use mathlib.Core.Path.{ap, _∙_}
 use Rattle.copies.specs.Copies as copies
-use Rattle.elements.specs.Answer as answer
+use Rattle.elements.specs.Reply as reply
 use Rattle.recording_state.proofs.ReplyView.{stage-alike}
 use Rattle.replying.proofs.taken.Statement.{statement}
 use Rattle.replying.proofs.taken.Tie as tie
@@ -21,7 +21,7 @@ stage-reply-requires c κs = tt
 returns : tie.Need-returns
 returns c =
     c .stage-reply .ensures
-    ∙ stage-alike (c .before .before .before .before .before .before .args .s) (ap copies.more (c .before .before .before .taken .ensures)) (c .before .keep .ensures ∙ ap answer.kept (c .before .before .taken2 .ensures))
+    ∙ stage-alike (c .before .before .before .before .before .before .args .s) (ap copies.more (c .before .before .before .taken .ensures)) (c .before .keep .ensures ∙ ap reply.kept (c .before .before .taken2 .ensures))
 
 pub taken-spec : {M : Type 1} → statement M
 taken-spec = tie.close (tie.spec taken-requires taken-requires-2 keep-requires stage-reply-requires returns)

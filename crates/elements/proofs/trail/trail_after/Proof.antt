@@ -3,8 +3,8 @@ use Prim.Native.Nat.{ℕ, _≤_, _+_, _-_, _%_, _^_}
 use mathlib.Core.Logic.{⊎-elim}
 use mathlib.Core.Path.{_≡_, _∙_, sym, ap, refl}
 use native.Mathlib.Omega.{arith}
+use Rattle.geometry.specs.Place.{asAddress}
 use Rattle.geometry.proofs.PickLaws.{pick-t, pick-f}
-use Rattle.elements.specs.Elements.{at}
 use Rattle.elements.specs.Trail.{trailOf, marked}
 use Rattle.elements.specs.declared.trail.Trail.{Trail}
 use Rattle.elements.proofs.TrailLaws.{trail-step, mark-same}
@@ -12,7 +12,7 @@ use Rattle.elements.proofs.trail.trail_after.Statement.{statement}
 use Rattle.elements.proofs.trail.trail_after.Tie as tie
 
 abbrev stands : ℕ → ℕ → Trail
-stands n a = record { filemarks = n; marker = at a }
+stands n a = record { filemarks = n; marker = asAddress a }
 
 -- a turn that passes a filemark
 turn : (n a n' a' b : ℕ) (t : Trail) → stands n a ≡ t → n' ≡ (n + 1) % 2 ^ 32 → a' ≡ b → stands n' a' ≡ marked t b

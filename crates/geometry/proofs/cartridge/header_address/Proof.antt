@@ -1,4 +1,5 @@
 -- The table has the address that its rule gives, at each of its ten places. Assumes nothing.
+use Rattle.geometry.specs.Place.{asAddress}
 use Rattle.geometry.proofs.Table.{upto, at-index}
 use Rattle.geometry.specs.Pick.{pick}
 use Rattle.geometry.specs.declared.address.Address.{Address}
@@ -12,18 +13,15 @@ use borrow.Author.Needs.{needs}
 use Rattle.geometry.proofs.cartridge.header_address.Statement.{statement}
 use Rattle.geometry.proofs.cartridge.header_address.Tie as tie
 
-abbrev at : ℕ → Address
-at n = record { 0 = n }
-
 -- the table, and its rule
 abbrev headers : List (List Address)
 headers =
-    (at 5 ∷ at 6 ∷ at 7 ∷ at 8 ∷ at 9 ∷ [])
-    ∷ (at 2990 ∷ at 2991 ∷ at 2992 ∷ at 2993 ∷ at 2994 ∷ [])
+    (asAddress 5 ∷ asAddress 6 ∷ asAddress 7 ∷ asAddress 8 ∷ asAddress 9 ∷ [])
+    ∷ (asAddress 2990 ∷ asAddress 2991 ∷ asAddress 2992 ∷ asAddress 2993 ∷ asAddress 2994 ∷ [])
     ∷ []
 
 right : ℕ → ℕ → Bool
-right g c = eqb (getD (getD headers g []) c (at 0) .0) (pick (eqb g 0) 5 2990 + c)
+right g c = eqb (getD (getD headers g []) c (asAddress 0) .0) (pick (eqb g 0) 5 2990 + c)
 
 cast-g : tie.Need-cast-g
 cast-g c = search needs

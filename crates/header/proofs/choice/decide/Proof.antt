@@ -3,7 +3,7 @@ use Rattle.header.proofs.ReadLaws.{taken-long}
 -- Each pair of arms is the case of the definition for what the parts are. Assumes nothing.
 use Rattle.header.proofs.Choices.{by-checked}
 use Rattle.header.specs.Read.{checkedSaid}
-use Rattle.header.specs.Choice.{none}
+use Rattle.header.specs.Choice.{neither}
 use mathlib.Core.Path.{ap, sym, _∙_}
 use borrow.Author.Needs.{needs}
 use Rattle.header.proofs.choice.decide.Statement.{statement}
@@ -55,7 +55,7 @@ returns-3 : tie.Need-returns-3
 returns-3 c = c .give-way2 .ensures ∙ by-checked _ _ _ (ap checkedSaid (sym (c .before .before .before .before .one .given .1)) ∙ c .before .before .before .before .before .before .before .read-header .ensures) (ap checkedSaid (sym (c .before .enum-told3 .given .1)) ∙ c .before .before .before .before .before .before .read-header2 .ensures)
 
 returns-4 : tie.Need-returns-4
-returns-4 c = ap none (c .lower .ensures) ∙ by-checked _ _ _ (ap checkedSaid (sym (c .before .before .before .before .before .one .given .1)) ∙ c .before .before .before .before .before .before .before .before .read-header .ensures) (ap checkedSaid (sym (c .before .before .other2 .given .1)) ∙ c .before .before .before .before .before .before .before .read-header2 .ensures)
+returns-4 c = ap neither (c .lower .ensures) ∙ by-checked _ _ _ (ap checkedSaid (sym (c .before .before .before .before .before .one .given .1)) ∙ c .before .before .before .before .before .before .before .before .read-header .ensures) (ap checkedSaid (sym (c .before .before .other2 .given .1)) ∙ c .before .before .before .before .before .before .before .read-header2 .ensures)
 
 pub decide-spec : {M : Type 1} → statement M
 decide-spec =

@@ -3,7 +3,7 @@ use Prim.Native.Nat.{ℕ}
 use mathlib.Core.Path.{ap}
 use native.Mathlib.Omega.{arith}
 use Rattle.geometry.specs.declared.address.Seq.{Seq}
-use Rattle.elements.specs.Answer.{confirmedOf}
+use Rattle.elements.specs.Reply.{confirmedOf}
 use Rattle.elements.proofs.state.Elements.confirmed.Statement.{statement}
 use Rattle.elements.proofs.state.Elements.confirmed.Tie as tie
 

@@ -3,7 +3,7 @@ use mathlib.Core.Path.{_∙_, sym, ap}
 use native.Mathlib.Omega.{arith}
 use borrow.Author.Tests.{lt-ltb, le-ltb}
 use Rattle.geometry.proofs.PickLaws.{pick-t, pick-f}
-use Rattle.elements.specs.Answer.{kept, countedOf}
+use Rattle.elements.specs.Reply.{kept, countedOf}
 use Rattle.elements.proofs.state.Elements.counted.Statement.{statement}
 use Rattle.elements.proofs.state.Elements.counted.Tie as tie
 

@@ -10,7 +10,7 @@ use Rattle.geometry.specs.WriteError.{targetOf}
 use Rattle.geometry.proofs.PickLaws.{pick-t, pick-f}
 use Rattle.elements.specs.declared.state.Elements.{Elements}
 use Rattle.elements.specs.Elements.{baseOf, limitOf}
-use Rattle.elements.specs.Answer.{kept, refusing, notedOf, failedTo, failedOf}
+use Rattle.elements.specs.Reply.{kept, refusing, notedOf, failedTo, failedOf}
 use Rattle.elements.proofs.state.Elements.failed.Statement.{statement}
 use Rattle.elements.proofs.state.Elements.failed.Tie as tie
 

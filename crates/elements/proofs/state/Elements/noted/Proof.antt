@@ -3,8 +3,9 @@ use Prim.Native.Nat.{ℕ, _-_}
 use mathlib.Core.Path.{_∙_, ap}
 use native.Mathlib.Omega.{arith}
 use borrow.Author.Needs.{needs}
-use Rattle.elements.specs.Answer.{confirmedOf, relocatedOf}
-use Rattle.elements.specs.Elements.{at, baseOf}
+use Rattle.geometry.specs.Place.{asAddress}
+use Rattle.elements.specs.Reply.{confirmedOf, relocatedOf}
+use Rattle.elements.specs.Elements.{baseOf}
 use Rattle.elements.specs.declared.state.Elements.{Elements}
 use Rattle.elements.proofs.state.Elements.noted.Statement.{statement}
 use Rattle.elements.proofs.state.Elements.noted.Tie as tie
@@ -28,7 +29,7 @@ relocated-requires : tie.Need-relocated-requires
 relocated-requires c κs = search needs
 
 returns : tie.Need-returns
-returns c = c .relocated .ensures ∙ ap (λ (e : Elements). relocatedOf e (c .before .before .before .before .target-address .result)) (c .before .confirmed .ensures ∙ ap (λ (n : ℕ). confirmedOf (c .before .before .before .before .before .before .args .self) (c .before .before .before .before .before .before .args .p .0 - n)) (c .before .before .before .before .before .base .ensures)) ∙ ap (λ (n : ℕ). relocatedOf (confirmedOf (c .before .before .before .before .before .before .args .self) (c .before .before .before .before .before .before .args .p .0 - baseOf (c .before .before .before .before .before .before .args .self))) (at n)) (c .before .before .before .before .target-address .ensures)
+returns c = c .relocated .ensures ∙ ap (λ (e : Elements). relocatedOf e (c .before .before .before .before .target-address .result)) (c .before .confirmed .ensures ∙ ap (λ (n : ℕ). confirmedOf (c .before .before .before .before .before .before .args .self) (c .before .before .before .before .before .before .args .p .0 - n)) (c .before .before .before .before .before .base .ensures)) ∙ ap (λ (n : ℕ). relocatedOf (confirmedOf (c .before .before .before .before .before .before .args .self) (c .before .before .before .before .before .before .args .p .0 - baseOf (c .before .before .before .before .before .before .args .self))) (asAddress n)) (c .before .before .before .before .target-address .ensures)
 
 pub noted-spec : {M : Type 1} → statement M
 noted-spec =

@@ -12,17 +12,17 @@ use Rattle.geometry.proofs.PickLaws.{pick-t, pick-f}
 use Rattle.geometry.proofs.TestLaws.{neither}
 use Rattle.drive.specs.declared.reply.Reply.{Reply}
 use Rattle.reading.specs.declared.session.Reading.{Reading}
-use Rattle.reading.specs.Reply.{nothing, Taking, answering, caseOf, answerOf, replyOf}
+use Rattle.reading.specs.Reply.{nothing, TakenSaid, answering, caseOf, replyBy, replyOf}
 use Rattle.reading.proofs.session.Reading.reply.Statement.{statement}
 use Rattle.reading.proofs.session.Reading.reply.Tie as tie
 
 -- what answers the case of an arm answers the reply
 module _ (s : Reading) (r : Reply) (frame : List ℕ) {case : ℕ} (phase : (s .ended || not (s .exchange .awaiting)) ≡ false) (long : length frame ≡ 33280) (told : case ≡ caseOf s r) where
-  arm : {n : ℕ} {t : Taking} → case ≡ n → t ≡ answerOf s n frame → t ≡ replyOf s r frame
+  arm : {n : ℕ} {t : TakenSaid} → case ≡ n → t ≡ replyBy s n frame → t ≡ replyOf s r frame
   unfolding replyOf
-  arm key answer = answer ∙ sym (pick-f _ phase ∙ pick-t _ (eq-eqb _ _ long) ∙ ap (λ k. answerOf s k frame) (sym told ∙ key))
+  arm key answer = answer ∙ sym (pick-f _ phase ∙ pick-t _ (eq-eqb _ _ long) ∙ ap (λ k. replyBy s k frame) (sym told ∙ key))
 
-  arm-of-two : {m n : ℕ} {t : Taking} → (case ≡ m) ⊎ (case ≡ n) → t ≡ answerOf s m frame → t ≡ answerOf s n frame → t ≡ replyOf s r frame
+  arm-of-two : {m n : ℕ} {t : TakenSaid} → (case ≡ m) ⊎ (case ≡ n) → t ≡ replyBy s m frame → t ≡ replyBy s n frame → t ≡ replyOf s r frame
   arm-of-two (inl key) first second = arm key first
   arm-of-two (inr key) first second = arm key second
 
@@ -68,45 +68,45 @@ end-requires-2 : tie.Need-end-requires-2
 end-requires-2 c κs = search needs
 
 returns-3 : tie.Need-returns-3
-unfolding answerOf
+unfolding replyBy
 returns-3 c =
     let a = c .before .before .before .before .before .before .before .before .before .before .args in
     let answer = c .taken .ensures ∙ ap (λ s. answering s nothing) (c .before .repeated .ensures) in
     arm-of-two (a .self) (a .reply) (now (a .frame)) (c .before .before .before .before .before .before .if1 .left) (c .before .before .before .before .before .if2 .left) (c .before .before .before .case-of .ensures) (c .before .before .match .keys1) answer answer
 
 returns-4 : tie.Need-returns-4
-unfolding answerOf
+unfolding replyBy
 returns-4 c =
     let a = c .before .before .before .before .before .before .before .before .before .args in
     arm (a .self) (a .reply) (now (a .frame)) (c .before .before .before .before .before .if1 .left) (c .before .before .before .before .if2 .left) (c .before .before .case-of .ensures) (c .before .match .keys2) (c .located .ensures)
 
 returns-5 : tie.Need-returns-5
-unfolding answerOf
+unfolding replyBy
 returns-5 c =
     let a = c .before .before .before .before .before .before .before .before .before .args in
     let answer = c .judged .ensures in
     arm-of-two (a .self) (a .reply) (now (a .frame)) (c .before .before .before .before .before .if1 .left) (c .before .before .before .before .if2 .left) (c .before .before .case-of .ensures) (c .before .match .keys3) answer answer
 
 returns-6 : tie.Need-returns-6
-unfolding answerOf
+unfolding replyBy
 returns-6 c =
     let a = c .before .before .before .before .before .before .before .before .before .args in
     arm (a .self) (a .reply) (now (a .frame)) (c .before .before .before .before .before .if1 .left) (c .before .before .before .before .if2 .left) (c .before .before .case-of .ensures) (c .before .match .keys4) (c .skipped .ensures)
 
 returns-7 : tie.Need-returns-7
-unfolding answerOf
+unfolding replyBy
 returns-7 c =
     let a = c .before .before .before .before .before .before .before .before .before .args in
     arm (a .self) (a .reply) (now (a .frame)) (c .before .before .before .before .before .if1 .left) (c .before .before .before .before .if2 .left) (c .before .before .case-of .ensures) (c .before .match .keys5) (c .jumped .ensures)
 
 returns-8 : tie.Need-returns-8
-unfolding answerOf
+unfolding replyBy
 returns-8 c =
     let a = c .before .before .before .before .before .before .before .before .before .args in
     arm (a .self) (a .reply) (now (a .frame)) (c .before .before .before .before .before .if1 .left) (c .before .before .before .before .if2 .left) (c .before .before .case-of .ensures) (c .before .match .keys6) (c .end .ensures)
 
 returns-9 : tie.Need-returns-9
-unfolding answerOf
+unfolding replyBy
 returns-9 c =
     let a = c .before .before .before .before .before .before .before .before .before .args in
     let n = c .before .match .rest in

@@ -3,12 +3,12 @@ use Prim.Native.Nat.{ℕ}
 use mathlib.Core.Path.{_∙_, ap}
 use mathlib.Core.List.{List}
 use borrow.Author.Needs.{needs}
-use Rattle.recording_state.specs.Session.{Result}
+use Rattle.recording_state.specs.Session.{OutcomeSaid}
 use Rattle.recording_state.specs.Accept.{Stored}
 use Rattle.recording.proofs.recording.Recording.accept_block.Statement.{statement}
 use Rattle.recording.proofs.recording.Recording.accept_block.Tie as tie
 
-abbrev stored : Result → List ℕ → Stored
+abbrev stored : OutcomeSaid → List ℕ → Stored
 stored r window = record { result = r; window = window }
 
 accept-block-requires : tie.Need-accept-block-requires
@@ -22,7 +22,7 @@ same-length c = search needs
 
 returns : tie.Need-returns
 returns c =
-    ap (λ (x : Result). stored x (c .before .before .before .accept-block .last .1 .1 .0)) (c .of .ensures) ∙ c .before .before .before .accept-block .ensures
+    ap (λ (x : OutcomeSaid). stored x (c .before .before .before .accept-block .last .1 .1 .0)) (c .of .ensures) ∙ c .before .before .before .accept-block .ensures
 
 pub accept-block-spec : {M : Type 1} → statement M
 accept-block-spec = tie.close (tie.spec accept-block-requires of-requires same-length returns)

@@ -2,28 +2,29 @@
 use Prim.Native.Nat.{ℕ, _+_, _-_, _%_, _^_}
 use mathlib.Core.Bool.{true, false}
 use lib.Dec.{ltb, leb}
+use Rattle.geometry.specs.Place.{asAddress}
 use Rattle.geometry.specs.Pick.{pick}
 use Rattle.geometry.specs.Refused.{verdictNumber}
 use Rattle.geometry.specs.Place as place
 use Rattle.geometry.specs.WriteError.{targetAddress, targetOf}
 use Rattle.geometry.specs.declared.address.Address.{Address}
 use Rattle.elements.specs.declared.state.Elements.{Elements}
-use Rattle.elements.specs.declared.answer.Stepped.{Stepped}
-use Rattle.elements.specs.Elements.{at, numberOf, baseOf, limitOf}
+use Rattle.elements.specs.declared.reply.Stepped.{Stepped}
+use Rattle.elements.specs.Elements.{numberOf, baseOf, limitOf}
 use Rattle.elements.specs.Trail.{trailOf}
 
 -- the elements after a reply, and the number of its refusal, 0 if it is not refused
-pub record Step : Type 0 where
+pub record SteppedSaid : Type 0 where
   pub elements : Elements
   pub number : ℕ
 
-abbrev pub steppedSaid : Stepped → Step
+abbrev pub steppedSaid : Stepped → SteppedSaid
 steppedSaid s = record { elements = s .elements; number = verdictNumber (s .verdict) }
 
-abbrev pub kept : Elements → Step
+abbrev pub kept : Elements → SteppedSaid
 kept e = record { elements = e; number = 0 }
 
-abbrev pub refusing : Elements → ℕ → Step
+abbrev pub refusing : Elements → ℕ → SteppedSaid
 refusing e n = record { elements = e; number = n }
 
 -- a LOCATE answered good: writing goes on at its address
@@ -32,7 +33,7 @@ locatedOf e a = record { first = e .first; pending = e .pending; outstanding = e
 
 -- a WRITE answered good: the frame is outstanding
 abbrev pub takenOf : Elements → Elements
-takenOf e = record { first = e .first; pending = e .pending; outstanding = (e .outstanding + 1) % 2 ^ 16; next = at ((e .next .0 + 1) % 2 ^ 32); limit = e .limit; relocate = e .relocate; target = e .target; eod = e .eod; trail = e .trail; marks = e .marks }
+takenOf e = record { first = e .first; pending = e .pending; outstanding = (e .outstanding + 1) % 2 ^ 16; next = asAddress ((e .next .0 + 1) % 2 ^ 32); limit = e .limit; relocate = e .relocate; target = e .target; eod = e .eod; trail = e .trail; marks = e .marks }
 
 -- the oldest n are on tape
 unfoldable pub confirmedOf : Elements → ℕ → Elements
@@ -54,20 +55,20 @@ abbrev pub relocatedOf : Elements → Address → Elements
 relocatedOf e t = record { first = e .first; pending = e .pending; outstanding = 0; next = e .next; limit = e .limit; relocate = true; target = t; eod = e .eod; trail = e .trail; marks = e .marks }
 
 -- READ POSITION answered good, with f frames still buffered: outstanding becomes f, oldest confirmed first
-unfoldable pub countedOf : Elements → ℕ → Step
+unfoldable pub countedOf : Elements → ℕ → SteppedSaid
 countedOf e f = pick (ltb (e .outstanding) f) (refusing e 8) (kept (confirmedOf e (e .outstanding - f)))
 
 -- a write error at p is noted: frames before p are confirmed, from p on they are due again, at the target
 abbrev pub notedOf : Elements → ℕ → ℕ → Elements
-notedOf e p skip = relocatedOf (confirmedOf e (p - baseOf e)) (at (targetAddress p skip % 2 ^ 32))
+notedOf e p skip = relocatedOf (confirmedOf e (p - baseOf e)) (asAddress (targetAddress p skip % 2 ^ 32))
 
 -- no room at the target: refusal 9, the error noted all the same
-abbrev pub failedTo : Elements → place.PlaceSaid → Step
+abbrev pub failedTo : Elements → place.PlaceSaid → SteppedSaid
 failedTo e (place.address t) = kept e
 failedTo e (place.refused n) = refusing e n
 
 -- p must be outstanding
-unfoldable pub failedOf : Elements → ℕ → ℕ → Step
+unfoldable pub failedOf : Elements → ℕ → ℕ → SteppedSaid
 failedOf e p skip =
     pick (ltb p (baseOf e)) (refusing e 8)
     (pick (leb (e .next .0) p) (refusing e 8)

@@ -3,7 +3,7 @@ ghost use mathlib.Core.Path.{_≡_};
 ghost use Prim.Native.Nat.{_-_, _≤_, _<_};
 ghost use Rattle.geometry.specs.Refused.{refusalNumber};
 ghost use Rattle.elements.specs.Elements.{baseOf};
-ghost use Rattle.elements.specs.Answer.{steppedSaid, kept, refusing, locatedOf, takenOf, confirmedOf, relocatedOf, notedOf, countedOf, failedOf, overflowedOf};
+ghost use Rattle.elements.specs.Reply.{steppedSaid, kept, refusing, locatedOf, takenOf, confirmedOf, relocatedOf, notedOf, countedOf, failedOf, overflowedOf};
 use crate::state::Elements;
 use crate::trail::trail_after;
 use geometry::Address;

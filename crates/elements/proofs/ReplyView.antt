@@ -7,10 +7,10 @@ use Rattle.geometry.specs.WriteError.{targetAddress}
 use Rattle.geometry.proofs.PickLaws.{pick-by}
 use Rattle.elements.specs.declared.state.Elements.{Elements}
 use Rattle.elements.specs.Elements.{baseOf, limitOf}
-use Rattle.elements.specs.Answer.{Step, kept, refusing, confirmedOf, notedOf, failedTo, countedOf, failedOf}
+use Rattle.elements.specs.Reply.{SteppedSaid, kept, refusing, confirmedOf, notedOf, failedTo, countedOf, failedOf}
 
 -- READ POSITION answered good, with f frames still buffered
-pub data CountedView (e : Elements) (f : ℕ) : Step → Type 0 where
+pub data CountedView (e : Elements) (f : ℕ) : SteppedSaid → Type 0 where
   tooMany : e .outstanding < f → CountedView e f (refusing e 8)
   counted : f ≤ e .outstanding → CountedView e f (kept (confirmedOf e (e .outstanding - f)))
 
@@ -20,7 +20,7 @@ counted-view e f =
     pick-by (CountedView e f) (ltb (e .outstanding) f) (λ t. tooMany (ltb-true _ _ t)) (λ g. counted (ltb-false _ _ g))
 
 -- a write error at p
-pub data FailedView (e : Elements) (p skip : ℕ) : Step → Type 0 where
+pub data FailedView (e : Elements) (p skip : ℕ) : SteppedSaid → Type 0 where
   tooLow : p < baseOf e → FailedView e p skip (refusing e 8)
   tooHigh : e .next .0 ≤ p → FailedView e p skip (refusing e 8)
   failed : baseOf e ≤ p → p < e .next .0 → targetAddress p skip < limitOf e → FailedView e p skip (kept (notedOf e p skip))
