@@ -13,6 +13,7 @@ use Rattle.geometry.specs.Cartridge.{isUser}
 use Rattle.geometry.specs.Place as place
 use Rattle.geometry.specs.WriteError.{stepOf, targetAddress}
 use Rattle.geometry.specs.declared.address.Address.{Address}
+use Rattle.geometry.specs.declared.address.Seq.{Seq}
 use Rattle.geometry.proofs.PickLaws.{pick-by}
 use Rattle.archive.specs.Conduct.{Drive, AtRest, empty, stopped}
 use Rattle.elements.specs.Elements.{baseOf, limitOf, numberOf}
@@ -52,6 +53,24 @@ pub data Reached (last : ℕ) (s : State) (d : Drive) (k edge : ℕ) : reply.Ste
   full : (e : Elements) → Reached last s d k edge (refusing e 9)
 
 module _ (last : ℕ) (s : State) (d : Drive) (k edge : ℕ) (small : last + 65 < 2 ^ 32) (again : s .exchange .again ≡ false) (held : s .elements .outstanding ≤ s .elements .pending) (low : s .elements .pending ≤ 64) (room : s .elements .limit .0 ≤ last + 1) where
+  -- nothing is confirmed
+  unconfirmed : (e : Elements) → e .first ≡ s .elements .first → e .pending ≡ s .elements .pending → e .outstanding ≤ e .pending → e .limit .0 ≤ last + 1 → e .marks ≡ s .elements .marks → e .eod ≡ s .elements .eod
+      → Writing last (withElements (answeredOf s) e) d k edge recordings.no-command → Step last s d k edge e
+  unconfirmed e first pending out limit marks eod writing = record {
+    n = 0;
+    tried = edge;
+    further = le-refl edge;
+    confirmed = omega arith;
+    first-is = let f = ap (λ (x : Seq). x .0) first in omega arith;
+    pending-is = omega arith;
+    held = out;
+    room = limit;
+    marks-is = marks;
+    eod-is = eod;
+    writing = writing;
+    all = λ p z. absurd (omega arith);
+  }
+
   pub taken-step : s .elements .outstanding < s .elements .pending → Linked last (heldOf s) d k edge 1 → Step last s d k edge (takenOf (s .elements))
   taken-step due l =
       let roof = l .roof in
@@ -60,45 +79,21 @@ module _ (last : ℕ) (s : State) (d : Drive) (k edge : ℕ) (small : last + 65 
       let known = l .known in
       let out : (s .elements .outstanding + 1) % 2 ^ 16 ≡ s .elements .outstanding + 1 = mod-eq-of-lt (omega arith) in
       let next : (s .elements .next .0 + 1) % 2 ^ 32 ≡ s .elements .next .0 + 1 = mod-eq-of-lt (omega arith) in
-      record {
-        n = 0;
-        tried = edge;
-        further = le-refl edge;
-        confirmed = omega arith;
-        first-is = omega arith;
-        pending-is = omega arith;
-        held = omega (arith, out);
-        room = room;
-        marks-is = refl;
-        eod-is = refl;
-        writing = elements.at-place refl again (record {
-          placed = l .placed;
-          taken-is = omega (arith, out);
-          next-is = omega (arith, next);
-          known = omega (arith, out);
-          roof = omega (arith, next);
-          zone = ⊎-elim (λ z. inl (omega (arith, next))) (λ z. inr (omega (arith, out, next))) (l .zone);
-          spread = l .spread;
-          edge-is = l .edge-is;
-        });
-        all = λ p z. absurd (omega arith);
-      }
+      unconfirmed (takenOf (s .elements)) refl refl (omega (arith, out)) room refl refl (elements.at-place refl again (record {
+        placed = l .placed;
+        taken-is = omega (arith, out);
+        next-is = omega (arith, next);
+        known = omega (arith, out);
+        roof = omega (arith, next);
+        zone = ⊎-elim (λ z. inl (omega (arith, next))) (λ z. inr (omega (arith, out, next))) (l .zone);
+        spread = l .spread;
+        edge-is = l .edge-is;
+      }))
 
   pub filled-step : (a : Address) → a .0 ≤ last → Linked last (heldOf s) d k edge 0 → Step last s d k edge (overflowedOf (s .elements) a)
-  filled-step a below l = record {
-    n = 0;
-    tried = edge;
-    further = le-refl edge;
-    confirmed = omega arith;
-    first-is = omega arith;
-    pending-is = omega arith;
-    held = held;
-    room = omega arith;
-    marks-is = refl;
-    eod-is = refl;
-    writing = elements.at-place refl again (record { placed = l .placed; taken-is = l .taken-is; next-is = l .next-is; known = l .known; roof = l .roof; zone = l .zone; spread = l .spread; edge-is = l .edge-is });
-    all = λ p z. absurd (omega arith);
-  }
+  filled-step a below l =
+      unconfirmed (overflowedOf (s .elements) a) refl refl held (omega arith) refl refl
+      (elements.at-place refl again (record { placed = l .placed; taken-is = l .taken-is; next-is = l .next-is; known = l .known; roof = l .roof; zone = l .zone; spread = l .spread; edge-is = l .edge-is }))
 
   pub moved-step : (a : Address) → d .buffer ≡ [] → d .failed ≡ false → d .at ≡ a .0 → Moving last (heldOf s) d k edge (a .0) → Step last s d k edge (locatedOf (s .elements) a)
   moved-step a e f p m =
@@ -107,29 +102,16 @@ module _ (last : ℕ) (s : State) (d : Drive) (k edge : ℕ) (small : last + 65 
       let first-is = m .first-is in
       let roof = m .roof in
       let spread = m .spread in
-      record {
-        n = 0;
-        tried = edge;
-        further = le-refl edge;
-        confirmed = omega arith;
-        first-is = omega arith;
-        pending-is = omega arith;
-        held = held;
-        room = room;
-        marks-is = refl;
-        eod-is = refl;
-        writing = elements.at-place refl again (record {
-          placed = refl;
-          taken-is = omega arith;
-          next-is = omega arith;
-          known = omega arith;
-          roof = omega arith;
-          zone = ⊎-elim (λ z. inl (omega arith)) (λ z. inr (omega arith)) (m .zone);
-          spread = omega arith;
-          edge-is = m .edge-is ∙ sym p ∙ ap (λ (b : Bool). edgeOf b (d .at)) (sym f);
-        });
-        all = λ x z. absurd (omega arith);
-      }
+      unconfirmed (locatedOf (s .elements) a) refl refl held room refl refl (elements.at-place refl again (record {
+        placed = refl;
+        taken-is = omega arith;
+        next-is = omega arith;
+        known = omega arith;
+        roof = omega arith;
+        zone = ⊎-elim (λ z. inl (omega arith)) (λ z. inr (omega arith)) (m .zone);
+        spread = omega arith;
+        edge-is = m .edge-is ∙ sym p ∙ ap (λ (b : Bool). edgeOf b (d .at)) (sym f);
+      }))
 
   module _ (l : Linked last (heldOf s) d k edge 0) where
     exact : (n : ℕ) → n ≤ s .elements .outstanding → numberOf (s .elements) n ≡ s .elements .first .0 + n
@@ -140,6 +122,26 @@ module _ (last : ℕ) (s : State) (d : Drive) (k edge : ℕ) (small : last + 65 
         let known = l .known in
         let spread = l .spread in
         mod-eq-of-lt (omega arith)
+
+    -- n are confirmed, of which the others stay outstanding or are due again
+    confirms : (n tried : ℕ) (e : Elements) → e .first ≡ confirmedOf (s .elements) n .first → e .pending ≡ confirmedOf (s .elements) n .pending → e .outstanding ≤ confirmedOf (s .elements) n .outstanding → e .limit ≡ confirmedOf (s .elements) n .limit
+        → e .marks ≡ confirmedOf (s .elements) n .marks → e .eod ≡ confirmedOf (s .elements) n .eod → edge ≤ tried → n ≤ s .elements .outstanding → Writing last (withElements (answeredOf s) e) d k tried recordings.no-command
+        → (0 < s .elements .pending → e .pending ≡ 0 → (k ≡ e .first .0) × AtRest d × (isUser last (e .next .0 - 1) ≡ true) × (e .next .0 ≡ d .at)) → Step last s d k edge e
+    unfolding confirmedOf
+    confirms n tried e first pending out limit marks eod further few writing all = record {
+      n = n;
+      tried = tried;
+      further = further;
+      confirmed = few;
+      first-is = ap (λ (x : Seq). x .0) first ∙ exact n few;
+      pending-is = pending;
+      held = omega arith;
+      room = let x = ap (λ (y : Address). y .0) limit in omega arith;
+      marks-is = marks;
+      eod-is = eod;
+      writing = writing;
+      all = all;
+    }
 
     pub counted-step : (f : ℕ) → length (d .buffer) ≤ f → Reached last s d k edge (countedOf (s .elements) f)
     unfolding countedOf confirmedOf
@@ -154,30 +156,18 @@ module _ (last : ℕ) (s : State) (d : Drive) (k edge : ℕ) (small : last + 65 
         let next-is = l .next-is in
         let known = l .known in
         let spread = l .spread in
-        goes (confirmedOf (s .elements) n) (record {
-          n = n;
-          tried = edge;
-          further = le-refl edge;
-          confirmed = omega arith;
-          first-is = number;
-          pending-is = refl;
-          held = omega arith;
-          room = room;
-          marks-is = refl;
-          eod-is = refl;
-          writing = elements.at-place refl again (record {
-            placed = l .placed;
-            taken-is = omega arith;
-            next-is = l .next-is;
-            known = omega arith;
-            roof = l .roof;
-            zone = ⊎-elim inl (λ z. inr (omega arith)) (l .zone);
-            spread = l .spread;
-            edge-is = l .edge-is;
-          });
-          all = λ p z.
-              (omega arith, empty (no-frames (d .buffer) (omega arith)), ranges-user last (s .elements .next .0 - 1) (⊎-elim (λ y. inl (omega arith, omega arith)) (λ y. inr (omega arith, omega arith)) (l .zone)), omega arith);
+        goes (confirmedOf (s .elements) n)
+        (confirms n edge (confirmedOf (s .elements) n) refl refl (le-refl _) refl refl refl (le-refl edge) (omega arith) (elements.at-place refl again (record {
+          placed = l .placed;
+          taken-is = omega arith;
+          next-is = l .next-is;
+          known = omega arith;
+          roof = l .roof;
+          zone = ⊎-elim inl (λ z. inr (omega arith)) (l .zone);
+          spread = l .spread;
+          edge-is = l .edge-is;
         }))
+        (λ p z. (omega arith, empty (no-frames (d .buffer) (omega arith)), ranges-user last (s .elements .next .0 - 1) (⊎-elim (λ y. inl (omega arith, omega arith)) (λ y. inr (omega arith, omega arith)) (l .zone)), omega arith))))
 
     step-least : (skip : ℕ) → 1 ≤ stepOf skip
     step-least skip = pick-by (λ (n : ℕ). 1 ≤ n) (eqb skip 0) (λ _. omega arith) (λ e. let x = eqb-false skip 0 e in omega (arith, x))
@@ -205,28 +195,17 @@ module _ (last : ℕ) (s : State) (d : Drive) (k edge : ℕ) (small : last + 65 
             let least = past-reserved-least (p + stepOf skip) in
             let one = step-least skip in
             let edge-is : edge ≡ d .at + 1 = l .edge-is ∙ ap (λ (b : Bool). edgeOf b (d .at)) f in
-            goes (notedOf (s .elements) p skip) (record {
-              n = n;
-              tried = target;
-              further = omega arith;
-              confirmed = omega arith;
-              first-is = number;
-              pending-is = refl;
-              held = omega arith;
-              room = room;
-              marks-is = refl;
-              eod-is = refl;
-              writing = elements.to-locate refl again refl (record {
-                none-out = refl;
-                first-is = omega arith;
-                rests = stopped f;
-                roof = omega (arith, exactly);
-                zone = clear exactly (landing (p + stepOf skip));
-                spread = omega (arith, exactly);
-                edge-is = sym exactly;
-              });
-              all = λ q z. absurd (omega arith);
-            })
+            goes (notedOf (s .elements) p skip)
+            (confirms n target (notedOf (s .elements) p skip) refl refl (omega arith) refl refl refl (omega arith) (omega arith) (elements.to-locate refl again refl (record {
+              none-out = refl;
+              first-is = omega arith;
+              rests = stopped f;
+              roof = omega (arith, exactly);
+              zone = clear exactly (landing (p + stepOf skip));
+              spread = omega (arith, exactly);
+              edge-is = sym exactly;
+            }))
+            (λ q z. absurd (omega arith)))
           where
             clear : targetAddress p skip % 2 ^ 32 ≡ targetAddress p skip → Landing (p + stepOf skip) (targetAddress p skip) → (targetAddress p skip % 2 ^ 32 ≤ 2990) ⊎ (3000 ≤ targetAddress p skip % 2 ^ 32)
             clear q (before h e) = inl (omega arith)

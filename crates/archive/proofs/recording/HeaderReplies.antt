@@ -110,6 +110,37 @@ module _ {last pass : ℕ} {premises : Type 0} (w : World) (r : Reply) (set : Se
           };
     }
 
+  -- the copies are through: another stage
+  module _ (to : Stage) (spare : spareOf (w .session .stage) ≡ spareOf to) where
+    abbrev onward : State
+    onward = withStage (answeredOf (w .session)) to
+
+    staged-live : Course last (repliedWorld w onward) (l .k) (l .edge) → (w .notes .reported ≡ true → to ≡ S.Done) → (to ≡ S.Elements → w .drive .failed ≡ false → Queue last pass (w .notes .accepted) (l .k) (w .drive .buffer))
+        → (to ≡ S.Elements → w .session .elements .eod ≡ true → ⊥) → ((to ≡ S.ClosingHeaders) ⊎ (to ≡ S.Done) → w .session .stage ≡ S.ClosingHeaders) → Live last pass premises (repliedWorld w onward)
+    staged-live course reported queue unended named =
+        let c = l .counted in
+        record {
+          k = l .k;
+          edge = l .edge;
+          going = l .going;
+          counted = record { wide = c .wide; held = c .held; windowed = c .windowed; numbered = c .numbered; marks = c .marks; room = c .room };
+          carried = subst (λ (n : ℕ). Carried last pass n (w .session .copies .header)) spare (l .carried);
+          course = course;
+          reported = reported;
+          content = λ p u.
+              let x = l .content p u in
+              record {
+                tape = x .tape;
+                seen = x .seen;
+                below = x .below;
+                stored = x .stored;
+                queue = queue;
+                sent = λ _ _ _ z. none-sent z;
+                eod-written = λ el b _. absurd (unended el b);
+                eod-named = λ q. x .eod-named (inl (named q));
+              };
+        }
+
   -- ---- the opening headers
 
   module _ (q : w .session .stage ≡ S.OpeningHeaders) (v : w .session .elements .eod ≡ false) (t : inv.Unstarted last (w .session .elements) (l .k) (l .edge)) (again : w .session .exchange .again ≡ false) (asked : w .session .exchange .awaiting ≡ true) where
@@ -123,37 +154,18 @@ module _ {last pass : ℕ} {premises : Type 0} (w : World) (r : Reply) (set : Se
 
     opened-live : AtRest (w .drive) → Live last pass premises (repliedWorld w opened)
     opened-live rests =
-        let c = l .counted in
         let target = t .target-is in
-        record {
-          k = l .k;
-          edge = l .edge;
-          going = l .going;
-          counted = record { wide = c .wide; held = c .held; windowed = c .windowed; numbered = c .numbered; marks = c .marks; room = c .room };
-          carried = subst (λ (n : ℕ). Carried last pass n (w .session .copies .header)) (ap spareOf q) (l .carried);
-          course = inv.writing refl (inv.not-yet v) (elements.to-locate refl again (t .relocates) (record {
-            none-out = t .none-out;
-            first-is = t .first-is;
-            rests = rests;
-            roof = omega (arith, t .roof);
-            zone = ⊎-elim (λ z. inl (omega arith)) (λ z. inr (omega arith)) (t .zone);
-            spread = omega (arith, t .spread);
-            edge-is = sym (t .target-is);
-          }));
-          reported = λ e. never (let z = l .reported e in cc);
-          content = λ p u.
-              let x = l .content p u in
-              record {
-                tape = x .tape;
-                seen = x .seen;
-                below = x .below;
-                stored = x .stored;
-                queue = λ _ free. nothing-queued rests free;
-                sent = λ _ _ _ z. none-sent z;
-                eod-written = λ _ b _. clash b v;
-                eod-named = λ z. ⊎-elim (λ y. never (cc)) (λ y. never (cc)) z;
-              };
-        }
+        staged-live S.Elements (ap spareOf q)
+        (inv.writing refl (inv.not-yet v) (elements.to-locate refl again (t .relocates) (record {
+          none-out = t .none-out;
+          first-is = t .first-is;
+          rests = rests;
+          roof = omega (arith, t .roof);
+          zone = ⊎-elim (λ z. inl (omega arith)) (λ z. inr (omega arith)) (t .zone);
+          spread = omega (arith, t .spread);
+          edge-is = sym (t .target-is);
+        })))
+        (λ e. never (let z = l .reported e in cc)) (λ _ free. nothing-queued rests free) (λ _ b. clash b v) (λ z. ⊎-elim (λ y. never (cc)) (λ y. never (cc)) z)
 
     opening-next : {s : copying.ProgressSaid} → Next (w .session .copies .header) (w .drive) s → Safe last (w .drive) → After (headerReplyBy s (w .session))
     opening-next (next.at-place c e n p x) safe =
@@ -173,28 +185,7 @@ module _ {last pass : ℕ} {premises : Type 0} (w : World) (r : Reply) (set : Se
 
     done-live : AtRest (w .drive) → Copy (w .session .copies .header) (w .drive .tape) 2995 → Live last pass premises (repliedWorld w done)
     done-live rests copy =
-        let c = l .counted in
-        record {
-          k = l .k;
-          edge = l .edge;
-          going = l .going;
-          counted = record { wide = c .wide; held = c .held; windowed = c .windowed; numbered = c .numbered; marks = c .marks; room = c .room };
-          carried = subst (λ (n : ℕ). Carried last pass n (w .session .copies .header)) (ap spareOf q) (l .carried);
-          course = inv.finished refl v closed k0 e0 refl refl again rests (copy-higher (omega (arith, set .large)) copy);
-          reported = λ _. refl;
-          content = λ p u.
-              let x = l .content p u in
-              record {
-                tape = x .tape;
-                seen = x .seen;
-                below = x .below;
-                stored = x .stored;
-                queue = λ el _. never (cc);
-                sent = λ _ _ _ z. none-sent z;
-                eod-written = λ el _ _. never (cc);
-                eod-named = λ _. x .eod-named (inl q);
-              };
-        }
+        staged-live S.Done (ap spareOf q) (inv.finished refl v closed k0 e0 refl refl again rests (copy-higher (omega (arith, set .large)) copy)) (λ _. refl) (λ el _. never (cc)) (λ el _. never (cc)) (λ _. q)
 
     closing-next : {s : copying.ProgressSaid} → Next (w .session .copies .header) (w .drive) s → Safe last (w .drive) → After (headerReplyBy s (w .session))
     closing-next (next.at-place c e n p x) safe =
