@@ -6,6 +6,8 @@ use mathlib.Core.List.{List}
 use native.Mathlib.Omega.{arith}
 use lib.ListN.{length, getD, set}
 use lib.Seq.{getD-set-same, getD-set-other}
+use Rattle.geometry.specs.declared.address.Address.{Address}
+use Rattle.geometry.specs.declared.address.Seq.{Seq}
 use Rattle.elements.specs.declared.trail.Trail.{Trail}
 use Rattle.elements.specs.declared.state.Elements.{Elements}
 use Rattle.elements.specs.Elements.{acceptedOf, baseOf, isMark}
@@ -24,14 +26,14 @@ pub mark-kept : (marks : List Bool) (first i j : ℕ) (mark : Bool) → i < j �
 mark-kept marks first i j mark h k =
     getD-set-other marks ((first + j) % 64) ((first + i) % 64) mark false (places-apart first i j h k)
 
-pub trail-kept : (start : Trail) (marks : List Bool) (first base n j : ℕ) (mark : Bool) → n ≤ j → j < 64 → trailOf start (set marks ((first + j) % 64) mark) first base n ≡ trailOf start marks first base n
+pub trail-kept : (start : Trail) (marks : List Bool) (first : Seq) (base : Address) (n j : ℕ) (mark : Bool) → n ≤ j → j < 64 → trailOf start (set marks ((first .0 + j) % 64) mark) first base n ≡ trailOf start marks first base n
 unfolding trailOf
 trail-kept start marks first base zero j mark h k = refl
 trail-kept start marks first base (suc n) j mark h k =
-    rw (mark-kept marks first n j mark h (omega arith), trail-kept start marks first base n j mark (omega arith) k)
+    rw (mark-kept marks (first .0) n j mark h (omega arith), trail-kept start marks first base n j mark (omega arith) k)
 
 pub accepted-trail : (e : Elements) (mark : Bool) → e .outstanding ≤ e .pending → e .pending < 64 → trailBefore (acceptedOf e mark) ≡ trailBefore e
-accepted-trail e mark h k = trail-kept (e .trail) (e .marks) (e .first .0) (baseOf e) (e .outstanding) (e .pending) mark h k
+accepted-trail e mark h k = trail-kept (e .trail) (e .marks) (e .first) (baseOf e) (e .outstanding) (e .pending) mark h k
 
 pub accepted-mark : (e : Elements) (mark : Bool) → e .outstanding < e .pending → e .pending < 64 → isMark (acceptedOf e mark) ≡ isMark e
 accepted-mark e mark h k = mark-kept (e .marks) (e .first .0) (e .outstanding) (e .pending) mark h (omega arith)

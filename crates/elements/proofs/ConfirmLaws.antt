@@ -5,9 +5,12 @@ use mathlib.Core.Bool.{Bool, false}
 use mathlib.Core.List.{List}
 use native.Mathlib.Omega.{arith}
 use lib.ListN.{getD}
+use Rattle.geometry.specs.Place.{asAddress}
+use Rattle.geometry.specs.declared.address.Address.{Address}
+use Rattle.geometry.specs.declared.address.Seq.{Seq}
 use Rattle.elements.specs.declared.trail.Trail.{Trail}
 use Rattle.elements.specs.declared.state.Elements.{Elements}
-use Rattle.elements.specs.Elements.{baseOf, isMark}
+use Rattle.elements.specs.Elements.{numberOf, baseOf, isMark}
 use Rattle.elements.specs.Trail.{trailOf, trailBefore}
 use Rattle.elements.specs.Reply.{confirmedOf}
 
@@ -16,25 +19,25 @@ pub place-wrapped : (first i n : ℕ) → ((first + i) % 2 ^ 32 + n) % 64 ≡ (f
 place-wrapped first i n = omega arith
 
 -- the elements before the i-th, then n more
-pub trail-join : (start : Trail) (marks : List Bool) (first base i n : ℕ) → trailOf (trailOf start marks first base i) marks ((first + i) % 2 ^ 32) (base + i) n ≡ trailOf start marks first base (i + n)
+pub trail-join : (start : Trail) (marks : List Bool) (first : Seq) (base : Address) (i n : ℕ) → trailOf (trailOf start marks first base i) marks (record { 0 = (first .0 + i) % 2 ^ 32 }) (asAddress (base .0 + i)) n ≡ trailOf start marks first base (i + n)
 unfolding trailOf
 trail-join start marks first base i zero =
     let none : i ≡ i + 0 = omega arith in
     ap (λ k. trailOf start marks first base k) none
 trail-join start marks first base i (suc n) =
-    let address : base + i + n ≡ base + (i + n) = omega arith in
+    let address : base .0 + i + n ≡ base .0 + (i + n) = omega arith in
     let more : suc (i + n) ≡ i + suc n = omega arith in
-    rw (place-wrapped first i n, address, trail-join start marks first base i n) (ap (λ k. trailOf start marks first base k) more)
+    rw (place-wrapped (first .0) i n, address, trail-join start marks first base i n) (ap (λ k. trailOf start marks first base k) more)
 
 pub confirmed-trail : (e : Elements) (n : ℕ) → n ≤ e .outstanding → e .outstanding ≤ e .next .0 → trailBefore (confirmedOf e n) ≡ trailBefore e
 unfolding confirmedOf
 confirmed-trail e n h k =
-    let oldest : e .next .0 - (e .outstanding - n) ≡ baseOf e + n = omega arith in
+    let oldest : e .next .0 - (e .outstanding - n) ≡ baseOf e .0 + n = omega arith in
     let all : n + (e .outstanding - n) ≡ e .outstanding = omega arith in
-    let before = trailOf (e .trail) (e .marks) (e .first .0) (baseOf e) n in
-    ap (λ b. trailOf before (e .marks) ((e .first .0 + n) % 2 ^ 32) b (e .outstanding - n)) oldest
-    ∙ trail-join (e .trail) (e .marks) (e .first .0) (baseOf e) n (e .outstanding - n)
-    ∙ ap (λ i. trailOf (e .trail) (e .marks) (e .first .0) (baseOf e) i) all
+    let before = trailOf (e .trail) (e .marks) (e .first) (baseOf e) n in
+    ap (λ (b : ℕ). trailOf before (e .marks) (numberOf e n) (asAddress b) (e .outstanding - n)) oldest
+    ∙ trail-join (e .trail) (e .marks) (e .first) (baseOf e) n (e .outstanding - n)
+    ∙ ap (λ i. trailOf (e .trail) (e .marks) (e .first) (baseOf e) i) all
 
 pub confirmed-mark : (e : Elements) (n : ℕ) → n ≤ e .outstanding → isMark (confirmedOf e n) ≡ isMark e
 unfolding confirmedOf

@@ -3,11 +3,13 @@ use Prim.Native.Nat.{ℕ, _-_, _≤_, _<_}
 use borrow.Author.Tests.{ltb-true, ltb-false, leb-true, leb-false}
 use lib.Dec.{ltb, leb}
 use Rattle.geometry.specs.Place as place
+use Rattle.geometry.specs.Place.{asAddress}
+use Rattle.geometry.specs.declared.address.Address.{Address}
 use Rattle.geometry.specs.WriteError.{targetAddress}
 use Rattle.geometry.proofs.PickLaws.{pick-by}
 use Rattle.elements.specs.declared.state.Elements.{Elements}
 use Rattle.elements.specs.Elements.{baseOf, limitOf}
-use Rattle.elements.specs.Reply.{SteppedSaid, kept, refusing, confirmedOf, notedOf, failedTo, countedOf, failedOf}
+use Rattle.elements.specs.Reply.{SteppedSaid, kept, refusing, confirmedOf, notedOf, fullOf, failedTo, countedOf, failedOf}
 
 -- READ POSITION answered good, with f frames still buffered
 pub data CountedView (e : Elements) (f : ℕ) : SteppedSaid → Type 0 where
@@ -20,17 +22,17 @@ counted-view e f =
     pick-by (CountedView e f) (ltb (e .outstanding) f) (λ t. tooMany (ltb-true _ _ t)) (λ g. counted (ltb-false _ _ g))
 
 -- a write error at p
-pub data FailedView (e : Elements) (p skip : ℕ) : SteppedSaid → Type 0 where
-  tooLow : p < baseOf e → FailedView e p skip (refusing e 8)
-  tooHigh : e .next .0 ≤ p → FailedView e p skip (refusing e 8)
-  failed : baseOf e ≤ p → p < e .next .0 → targetAddress p skip < limitOf e → FailedView e p skip (kept (notedOf e p skip))
-  full : baseOf e ≤ p → p < e .next .0 → limitOf e ≤ targetAddress p skip → FailedView e p skip (refusing (notedOf e p skip) 9)
+pub data FailedView (e : Elements) (p : Address) (skip : ℕ) : SteppedSaid → Type 0 where
+  tooLow : p .0 < baseOf e .0 → FailedView e p skip (refusing e 8)
+  tooHigh : e .next .0 ≤ p .0 → FailedView e p skip (refusing e 8)
+  failed : baseOf e .0 ≤ p .0 → p .0 < e .next .0 → targetAddress p skip < limitOf e .0 → FailedView e p skip (kept (notedOf e p (asAddress (targetAddress p skip))))
+  full : baseOf e .0 ≤ p .0 → p .0 < e .next .0 → limitOf e .0 ≤ targetAddress p skip → FailedView e p skip (refusing (fullOf e p skip) 9)
 
-pub failed-view : (e : Elements) (p skip : ℕ) → FailedView e p skip (failedOf e p skip)
+pub failed-view : (e : Elements) (p : Address) (skip : ℕ) → FailedView e p skip (failedOf e p skip)
 unfolding failedOf
 failed-view e p skip =
-    pick-by (FailedView e p skip) (ltb p (baseOf e)) (λ t. tooLow (ltb-true _ _ t))
-    (λ f. pick-by (FailedView e p skip) (leb (e .next .0) p) (λ t. tooHigh (leb-true _ _ t))
-    (λ g. pick-by (λ (s : place.PlaceSaid). FailedView e p skip (failedTo (notedOf e p skip) s)) (ltb (targetAddress p skip) (limitOf e))
+    pick-by (FailedView e p skip) (ltb (p .0) (baseOf e .0)) (λ t. tooLow (ltb-true _ _ t))
+    (λ f. pick-by (FailedView e p skip) (leb (e .next .0) (p .0)) (λ t. tooHigh (leb-true _ _ t))
+    (λ g. pick-by (λ (s : place.PlaceSaid). FailedView e p skip (failedTo e p skip s)) (ltb (targetAddress p skip) (limitOf e .0))
     (λ t. failed (ltb-false _ _ f) (leb-false _ _ g) (ltb-true _ _ t))
     (λ t. full (ltb-false _ _ f) (leb-false _ _ g) (ltb-false _ _ t))))

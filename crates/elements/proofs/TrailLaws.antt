@@ -7,6 +7,8 @@ use native.Mathlib.Nat.{mod-add-mod}
 use native.Mathlib.Numerals.{add-one}
 use lib.ListN.{getD}
 use Rattle.geometry.specs.Pick.{pick}
+use Rattle.geometry.specs.declared.address.Address.{Address}
+use Rattle.geometry.specs.declared.address.Seq.{Seq}
 use Rattle.elements.specs.declared.trail.Trail.{Trail}
 use Rattle.elements.specs.Trail.{marked, trailOf}
 
@@ -14,10 +16,7 @@ use Rattle.elements.specs.Trail.{marked, trailOf}
 pub place-same : (first n : ℕ) → (first % 64 + n) % 64 ≡ (first + n) % 64
 place-same first n = mod-add-mod first 64 n
 
-pub mark-same : (marks : List Bool) (first n : ℕ) → getD marks ((first % 64 + n) % 64) false ≡ getD marks ((first + n) % 64) false
-mark-same marks first n = ap (λ k. getD marks k false) (place-same first n)
-
 -- one element more
-pub trail-step : (start : Trail) (marks : List Bool) (first base n : ℕ) → trailOf start marks first base (n + 1) ≡ pick (getD marks ((first + n) % 64) false) (marked (trailOf start marks first base n) (base + n)) (trailOf start marks first base n)
+pub trail-step : (start : Trail) (marks : List Bool) (first : Seq) (base : Address) (n : ℕ) → trailOf start marks first base (n + 1) ≡ pick (getD marks ((first .0 + n) % 64) false) (marked (trailOf start marks first base n) (base .0 + n)) (trailOf start marks first base n)
 unfolding trailOf
 trail-step start marks first base n = ap (λ k. trailOf start marks first base k) (add-one n)

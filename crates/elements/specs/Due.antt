@@ -23,7 +23,7 @@ dueSaid (D.Refused r) = refused (refusalNumber r)
 
 -- the next address is above END
 abbrev pub aboveEnd : Elements → Bool
-aboveEnd e = leb (limitOf e) (e .next .0)
+aboveEnd e = leb (limitOf e .0) (e .next .0)
 
 -- rule 3: outstanding is D, or some are outstanding and the next address is 2,990 or above END
 abbrev pub mustConfirm : ℕ → Elements → Bool

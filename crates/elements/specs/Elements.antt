@@ -1,4 +1,4 @@
--- 01, "A recording session": the elements. Pending ones are accepted and not known to be on tape; of these the outstanding ones are
+-- 01, "A recording session": the elements. Pending ones are accepted, or EOD, and not known to be on tape; of these the outstanding ones are
 -- taken by the drive and the others are due. All that is subtracted stops at 0.
 -- Numbers of 32 and 16 bits wrap in a session that no call returned; the remainders say how.
 use Prim.Native.Nat.{ℕ, _+_, _-_, _%_, _^_}
@@ -6,6 +6,8 @@ use mathlib.Core.Bool.{Bool, true, false}
 use lib.ListN.{getD, set, replicate}
 use Rattle.geometry.specs.Place.{asAddress}
 use Rattle.geometry.specs.Pick.{pick}
+use Rattle.geometry.specs.declared.address.Address.{Address}
+use Rattle.geometry.specs.declared.address.Seq.{Seq}
 use Rattle.frame.specs.declared.element.Kind.{Kind}
 use Rattle.frame.specs.declared.element.Kind.the-variants as K
 use Rattle.elements.specs.declared.trail.Trail.{Trail}
@@ -13,23 +15,23 @@ use Rattle.elements.specs.declared.state.Elements.{Elements}
 
 -- before the first element: its address, number and trail are given. The LOCATE of that address comes first, as rule 1's of a target.
 -- limit is END + 1, the address at which 0D/00/02 came; END starts as LAST
-abbrev pub startOf : ℕ → ℕ → ℕ → Trail → Elements
+abbrev pub startOf : Address → Address → Seq → Trail → Elements
 startOf last a number trail = record {
-  first = record { 0 = number };
+  first = number;
   pending = 0;
   outstanding = 0;
-  next = asAddress a;
-  limit = asAddress ((last + 1) % 2 ^ 32);
+  next = a;
+  limit = asAddress ((last .0 + 1) % 2 ^ 32);
   relocate = true;
-  target = asAddress a;
+  target = a;
   eod = false;
   trail = trail;
   marks = replicate 64 false;
 }
 
 -- the number of the element n behind the oldest that is not known to be on tape
-abbrev pub numberOf : Elements → ℕ → ℕ
-numberOf e n = (e .first .0 + n) % 2 ^ 32
+abbrev pub numberOf : Elements → ℕ → Seq
+numberOf e n = record { 0 = (e .first .0 + n) % 2 ^ 32 }
 
 -- one element more, a filemark or not
 abbrev pub acceptedOf : Elements → Bool → Elements
@@ -66,8 +68,8 @@ abbrev pub eodDue : Elements → Elements
 eodDue e = withEod (acceptedOf e false)
 
 -- the address of the oldest outstanding frame
-abbrev pub baseOf : Elements → ℕ
-baseOf e = e .next .0 - e .outstanding
+abbrev pub baseOf : Elements → Address
+baseOf e = asAddress (e .next .0 - e .outstanding)
 
 -- whether the next element to be written is a filemark
 abbrev pub isMark : Elements → Bool
@@ -78,5 +80,5 @@ abbrev pub kindOf : Elements → Kind
 kindOf e = pick (e .eod) K.Eod (pick (isMark e) K.Marker K.Data)
 
 -- the limit of what is due, one past the last address it may have: rules 3 and 4 and a write error's target stop there
-abbrev pub limitOf : Elements → ℕ
-limitOf e = e .limit .0
+abbrev pub limitOf : Elements → Address
+limitOf e = e .limit

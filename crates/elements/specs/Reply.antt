@@ -38,7 +38,7 @@ takenOf e = record { first = e .first; pending = e .pending; outstanding = (e .o
 -- the oldest n are on tape
 unfoldable pub confirmedOf : Elements → ℕ → Elements
 confirmedOf e n = record {
-  first = record { 0 = numberOf e n };
+  first = numberOf e n;
   pending = e .pending - n;
   outstanding = e .outstanding - n;
   next = e .next;
@@ -46,7 +46,7 @@ confirmedOf e n = record {
   relocate = e .relocate;
   target = e .target;
   eod = e .eod;
-  trail = trailOf (e .trail) (e .marks) (e .first .0) (baseOf e) n;
+  trail = trailOf (e .trail) (e .marks) (e .first) (baseOf e) n;
   marks = e .marks;
 }
 
@@ -58,21 +58,25 @@ relocatedOf e t = record { first = e .first; pending = e .pending; outstanding =
 unfoldable pub countedOf : Elements → ℕ → SteppedSaid
 countedOf e f = pick (ltb (e .outstanding) f) (refusing e 8) (kept (confirmedOf e (e .outstanding - f)))
 
--- a write error at p is noted: frames before p are confirmed, from p on they are due again, at the target
-abbrev pub notedOf : Elements → ℕ → ℕ → Elements
-notedOf e p skip = relocatedOf (confirmedOf e (p - baseOf e)) (asAddress (targetAddress p skip % 2 ^ 32))
+-- a write error at p with target t is noted: frames before p are confirmed, from p on they are due again, at t
+abbrev pub notedOf : Elements → Address → Address → Elements
+notedOf e p t = relocatedOf (confirmedOf e (p .0 - baseOf e .0)) t
 
--- no room at the target: refusal 9, the error noted all the same
-abbrev pub failedTo : Elements → place.PlaceSaid → SteppedSaid
-failedTo e (place.address t) = kept e
-failedTo e (place.refused n) = refusing e n
+-- the same where there is no room at the target, which is then kept as a number of 32 bits
+abbrev pub fullOf : Elements → Address → ℕ → Elements
+fullOf e p skip = notedOf e p (asAddress (targetAddress p skip % 2 ^ 32))
+
+-- no room at the target: refusal 9, behind the error noted
+abbrev pub failedTo : Elements → Address → ℕ → place.PlaceSaid → SteppedSaid
+failedTo e p skip (place.address t) = kept (notedOf e p (asAddress t))
+failedTo e p skip (place.refused n) = refusing (fullOf e p skip) n
 
 -- p must be outstanding
-unfoldable pub failedOf : Elements → ℕ → ℕ → SteppedSaid
+unfoldable pub failedOf : Elements → Address → ℕ → SteppedSaid
 failedOf e p skip =
-    pick (ltb p (baseOf e)) (refusing e 8)
-    (pick (leb (e .next .0) p) (refusing e 8)
-    (failedTo (notedOf e p skip) (targetOf p skip (limitOf e))))
+    pick (ltb (p .0) (baseOf e .0)) (refusing e 8)
+    (pick (leb (e .next .0) (p .0)) (refusing e 8)
+    (failedTo e p skip (targetOf p skip (limitOf e))))
 
 -- volume overflow on a WRITE at a: END becomes a − 1
 abbrev pub overflowedOf : Elements → Address → Elements

@@ -5,6 +5,8 @@ use mathlib.Core.List.{List}
 use lib.ListN.{getD}
 use Rattle.geometry.specs.Place.{asAddress}
 use Rattle.geometry.specs.Pick.{pick}
+use Rattle.geometry.specs.declared.address.Address.{Address}
+use Rattle.geometry.specs.declared.address.Seq.{Seq}
 use Rattle.elements.specs.declared.trail.Trail.{Trail}
 use Rattle.elements.specs.declared.state.Elements.{Elements}
 use Rattle.elements.specs.Elements.{baseOf}
@@ -18,11 +20,11 @@ abbrev pub marked : Trail → ℕ → Trail
 marked t a = record { filemarks = (t .filemarks + 1) % 2 ^ 32; marker = asAddress a }
 
 -- what stands before element first + n, given what stands before element first, where the elements between lie from an address on
-unfoldable pub trailOf : Trail → List Bool → ℕ → ℕ → ℕ → Trail
+unfoldable pub trailOf : Trail → List Bool → Seq → Address → ℕ → Trail
 trailOf start marks first base zero = start
 trailOf start marks first base (suc n) =
-    pick (getD marks ((first + n) % 64) false) (marked (trailOf start marks first base n) (base + n)) (trailOf start marks first base n)
+    pick (getD marks ((first .0 + n) % 64) false) (marked (trailOf start marks first base n) (base .0 + n)) (trailOf start marks first base n)
 
 -- what stands before the next element to be written: the outstanding ones count, at their present addresses
 abbrev pub trailBefore : Elements → Trail
-trailBefore e = trailOf (e .trail) (e .marks) (e .first .0) (baseOf e) (e .outstanding)
+trailBefore e = trailOf (e .trail) (e .marks) (e .first) (baseOf e) (e .outstanding)

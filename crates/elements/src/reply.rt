@@ -103,20 +103,19 @@ impl Elements {
         self.confirmed(n).keep()
     }
 
-    // A write error at p: frames before p are on tape, the others are due again at its target.
-    fn noted(self, p: Address, skip: u8) -> Elements
-        requires { ⌜ baseOf self ≤ p .0 ⌝ }
+    // A write error at p: frames before p are on tape, the others are due again from t on.
+    fn noted(self, p: Address, t: Address) -> Elements
+        requires { ⌜ baseOf self .0 ≤ p .0 ⌝ }
         requires { ⌜ p .0 < self .next .0 ⌝ }
-        ensures { λ r. ⌜ r ≡ notedOf self (p .0) skip ⌝ }
+        ensures { λ r. ⌜ r ≡ notedOf self p t ⌝ }
     {
         let base = self.base();
-        let t = target_address(p, skip);
         self.confirmed((p.0 - base.0) as u16).relocated(t)
     }
 
     // A write error at p, which must be outstanding.
     pub fn failed(self, p: Address, skip: u8) -> Stepped
-        ensures { λ r. ⌜ steppedSaid r ≡ failedOf self (p .0) skip ⌝ }
+        ensures { λ r. ⌜ steppedSaid r ≡ failedOf self p skip ⌝ }
     {
         let base = self.base();
         let next = self.next;
@@ -126,11 +125,10 @@ impl Elements {
         if next.0 <= p.0 {
             return self.refuse(Refusal::Reply);
         }
-        let noted = self.noted(p, skip);
         let place = target(p, skip, self.limit_due());
         match place {
-            Place::At(_) => noted.keep(),
-            Place::Refused(r) => noted.refuse(r),
+            Place::At(t) => self.noted(p, t).keep(),
+            Place::Refused(r) => self.noted(p, target_address(p, skip)).refuse(r),
         }
     }
 

@@ -3,6 +3,7 @@ ghost use mathlib.Core.Path.{_≡_};
 ghost use Rattle.elements.specs.Elements.{startOf, numberOf, acceptedOf, eodDue, baseOf, isMark, kindOf, limitOf};
 ghost use Rattle.elements.specs.Trail.{trailBefore};
 use crate::trail::Trail;
+use crate::trail::mark_place;
 use crate::trail::trail_after;
 use frame::Kind;
 use geometry::Address;
@@ -29,18 +30,18 @@ pub struct Elements {
 }
 
 impl Elements {
-    // Before the first element, which goes to `at` with this number and this trail, on a cartridge with this LAST.
-    pub fn start(last: Address, at: Address, number: Seq, trail: Trail) -> Elements
-        ensures { λ r. ⌜ r ≡ startOf (last .0) (at .0) (number .0) trail ⌝ }
+    // Before the first element, which goes to this address with this number and this trail, on a cartridge with this LAST.
+    pub fn start(last: Address, address: Address, number: Seq, trail: Trail) -> Elements
+        ensures { λ r. ⌜ r ≡ startOf last address number trail ⌝ }
     {
         Elements {
             first: number,
             pending: 0,
             outstanding: 0,
-            next: at,
+            next: address,
             limit: Address(std::num::wrapping_add_u32(last.0, 1)),
             relocate: true,
-            target: at,
+            target: address,
             eod: false,
             trail: trail,
             marks: [false; 64],
@@ -49,7 +50,7 @@ impl Elements {
 
     // The number of the element n behind the oldest that is not known to be on tape.
     pub fn number(self, n: u16) -> Seq
-        ensures { λ r. ⌜ r .0 ≡ numberOf self n ⌝ }
+        ensures { λ r. ⌜ r ≡ numberOf self n ⌝ }
     {
         Seq(std::num::wrapping_add_u32(self.first.0, n as u32))
     }
@@ -58,8 +59,8 @@ impl Elements {
     pub fn accept(mut self, mark: bool) -> Elements
         ensures { λ r. ⌜ r ≡ acceptedOf self mark ⌝ }
     {
-        let at = ((self.first.0 % 64 + (self.pending as u32)) % 64) as usize;
-        self.marks[at] = mark;
+        let place = mark_place(self.first, self.pending);
+        self.marks[place] = mark;
         self.pending = std::num::wrapping_add_u16(self.pending, 1);
         self
     }
@@ -75,14 +76,14 @@ impl Elements {
 
     // One past the last address that what is due may have.
     pub(crate) fn limit_due(self) -> Address
-        ensures { λ r. ⌜ r .0 ≡ limitOf self ⌝ }
+        ensures { λ r. ⌜ r ≡ limitOf self ⌝ }
     {
         self.limit
     }
 
     // The address of the oldest outstanding frame.
     pub(crate) fn base(self) -> Address
-        ensures { λ r. ⌜ r .0 ≡ baseOf self ⌝ }
+        ensures { λ r. ⌜ r ≡ baseOf self ⌝ }
     {
         let n = self.outstanding as u32;
         Address(if self.next.0 < n { 0 } else { self.next.0 - n })
@@ -93,8 +94,7 @@ impl Elements {
         ensures { λ r. ⌜ r ≡ isMark self ⌝ }
     {
         let marks = self.marks;
-        let at = ((self.first.0 % 64 + (self.outstanding as u32)) % 64) as usize;
-        marks[at]
+        marks[mark_place(self.first, self.outstanding)]
     }
 
     // What the next element to be written is.

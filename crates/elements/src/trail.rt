@@ -1,6 +1,6 @@
 // The filemarks before a frame.
 ghost use mathlib.Core.Path.{_≡_};
-ghost use Prim.Native.Nat.{_+_, _≤_, _^_};
+ghost use Prim.Native.Nat.{_+_, _%_, _≤_, _^_};
 ghost use Rattle.elements.specs.Trail.{noTrail, trailOf};
 use geometry::Address;
 use geometry::Seq;
@@ -21,8 +21,14 @@ pub fn no_trail() -> Trail
     }
 }
 
+// Where it is told whether the element n behind `first` is a filemark.
+pub(crate) fn mark_place(first: Seq, n: u16) -> usize
+    ensures { λ r. ⌜ r ≡ (first .0 + n) % 64 ⌝ }
+{
+    ((first.0 % 64 + (n as u32)) % 64) as usize
+}
+
 // What stands before element `first + n`, given what stands before element `first` and that the elements between lie from address `base` on.
-// marks[i % 64] tells whether element i is a filemark.
 pub(crate) fn trail_after(
     start: Trail,
     marks: [bool; 64],
@@ -31,14 +37,13 @@ pub(crate) fn trail_after(
     n: u16,
 ) -> Trail
     requires { ⌜ base .0 + n ≤ 2 ^ 32 ⌝ }
-    ensures { λ r. ⌜ r ≡ trailOf start marks (first .0) (base .0) n ⌝ }
+    ensures { λ r. ⌜ r ≡ trailOf start marks first base n ⌝ }
 {
     let mut filemarks = start.filemarks;
     let mut marker = start.marker.0;
     let mut i: u16 = 0;
     while i < n {
-        let k = ((first.0 % 64 + (i as u32)) % 64) as usize;
-        if marks[k] {
+        if marks[mark_place(first, i)] {
             filemarks = std::num::wrapping_add_u32(filemarks, 1);
             marker = base.0 + (i as u32);
         }

@@ -1,6 +1,9 @@
-// FetchedSaid the next command. The public calls are the methods of `recording`.
+// Fetching the next command. The public calls are the methods of `recording`.
 ghost use mathlib.Core.Path.{_≡_};
+ghost use Prim.Native.Nat.{ℕ};
+ghost use mathlib.Core.List.{List};
 ghost use lib.ListN.{length};
+ghost use Rattle.geometry.specs.Refused.{refusalNumber};
 ghost use Rattle.frame.specs.Lengths.{frameLength};
 ghost use Rattle.recording_state.specs.Session.{windowLength};
 ghost use Rattle.recording_state.specs.Due.{decisionSaid, headerDue, elementDue, decisionOf};
@@ -75,7 +78,7 @@ fn send(mut s: State, c: Command, window: &[u8], frame: &mut [u8]) -> Fetched
 }
 
 fn refuse_fetch(s: State, refusal: Refusal) -> Fetched
-    ensures { λ r. ⌜ r ≡ fetchRefused s refusal ⌝ }
+    ensures { λ r. ⌜ ((frame : List ℕ) → fetchedSaid r frame ≡ fetchRefused s (refusalNumber refusal) frame) ⌝ }
 {
     Fetched {
         session: s,

@@ -13,7 +13,7 @@ use frame::build_header;
 use recording_state::Stage;
 use recording_state::State;
 
-// The next element to be written, or EOD, for its present address.
+// The next element to be written, or EOD, with the filemarks before it at their present addresses.
 fn element(s: State) -> Element
     ensures { λ r. ⌜ r ≡ elementOf s ⌝ }
 {

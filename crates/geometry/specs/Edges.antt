@@ -3,7 +3,7 @@ use Prim.Native.Nat.{ℕ, _+_}
 use mathlib.Core.List.{List, [], _∷_}
 use Rattle.geometry.specs.declared.cartridge.LoadPoint.{LoadPoint}
 use Rattle.geometry.specs.declared.cartridge.LoadPoint.the-variants.{Beginning, Centre}
-use Rattle.geometry.specs.Place.{PlaceSaid, address, refused}
+use Rattle.geometry.specs.Place.{asAddress, PlaceSaid, address, refused}
 use Rattle.geometry.specs.Cartridge.{lastOf}
 use Rattle.geometry.specs.WriteError.{targetOf}
 
@@ -20,7 +20,7 @@ pub record Case : Type 0 where
 
 abbrev pub answer : Question → PlaceSaid
 answer (lastFor segtrk trks load) = lastOf (record { segtrk = segtrk; trks = trks; load = load })
-answer (targetFor p skip end) = targetOf p skip (end + 1)
+answer (targetFor p skip end) = targetOf (asAddress p) skip (asAddress (end + 1))
 
 abbrev case : Question → PlaceSaid → Case
 case q e = record { question = q; expected = e }

@@ -33,21 +33,21 @@ fn step(skip: u8) -> u8
 
 // The target of a write error at p, whether there is room or not.
 fn target_number(p: Address, skip: u8) -> u64
-    ensures { λ r. ⌜ r ≡ targetAddress (p .0) skip ⌝ }
+    ensures { λ r. ⌜ r ≡ targetAddress p skip ⌝ }
 {
     past_reserved((p.0 as u64) + (step(skip) as u64))
 }
 
 // The same as an address. No cartridge has so many frames that the remainder changes it.
 pub fn target_address(p: Address, skip: u8) -> Address
-    ensures { λ r. ⌜ r .0 ≡ targetAddress (p .0) skip % 2 ^ 32 ⌝ }
+    ensures { λ r. ⌜ r .0 ≡ targetAddress p skip % 2 ^ 32 ⌝ }
 {
     Address((target_number(p, skip) % 0x100000000) as u32)
 }
 
 // The target of a write error at p, if there is room. `limit` is the address one past END.
 pub fn target(p: Address, skip: u8, limit: Address) -> Place
-    ensures { λ r. ⌜ placeSaid r ≡ targetOf (p .0) skip (limit .0) ⌝ }
+    ensures { λ r. ⌜ placeSaid r ≡ targetOf p skip limit ⌝ }
 {
     let t = target_number(p, skip);
     if t < (limit.0 as u64) {

@@ -12,6 +12,7 @@ use elements::Elements;
 use elements::no_trail;
 use frame::Header;
 use geometry::Address;
+use geometry::FIRST_USER;
 use geometry::Geometry;
 use geometry::Place;
 use geometry::Refusal;
@@ -38,7 +39,7 @@ fn fresh_session(depth: u8, highest: u8, header: Header) -> State
         closed: false,
         ended: false,
         copies: Copies::start(header),
-        elements: Elements::start(last, Address(10), Seq(0), no_trail()),
+        elements: Elements::start(last, Address(FIRST_USER), Seq(0), no_trail()),
     }
 }
 
@@ -56,7 +57,7 @@ fn refuse_opening(refusal: Refusal) -> Outcome
     session.end(refusal)
 }
 
-// The sizes are looked at, then the opening's header is the old one's with a new pass.
+// Refusal 4 for the sizes, then 5; else a session with this header.
 fn open_with(depth: u8, window: u8, exhausted: bool, header: Header) -> Outcome
     ensures { λ r. ⌜ outcomeSaid r ≡ openWith depth window exhausted header ⌝ }
 {

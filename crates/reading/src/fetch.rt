@@ -1,4 +1,4 @@
-// FetchedSaid the next command.
+// Fetching the next command.
 ghost use mathlib.Core.Path.{_≡_};
 ghost use Rattle.reading.specs.Fetch.{commandOf, fetchedSaid, sending, fetchOf};
 use crate::session::Answer;

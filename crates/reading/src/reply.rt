@@ -1,4 +1,4 @@
-// TakenSaid in a reply. Of the lent frame only the AUX is looked at.
+// Taking in a reply. Of the lent frame only the AUX is looked at.
 ghost use mathlib.Core.Path.{_≡_};
 ghost use Prim.Native.Nat.{_%_, _^_};
 ghost use Rattle.geometry.specs.Refused.{refusalNumber};

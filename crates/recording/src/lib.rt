@@ -7,3 +7,4 @@ pub use recording::Recording;
 pub use recording_state::Answer;
 pub use recording_state::Setup;
 pub use recording_state::Stage;
+pub use recording_state::State;

@@ -1,8 +1,11 @@
 // The session that a host holds, and its calls. Each is the call of a crate below on the session's state.
+ghost use Prim.Native.Nat.{ℕ};
+ghost use mathlib.Core.List.{List};
 ghost use mathlib.Core.Path.{_≡_};
 ghost use Rattle.recording_state.specs.Session as state;
 ghost use Rattle.recording_state.specs.Open.{openOf, openBlankOf};
 ghost use Rattle.recording_state.specs.Accept.{filemarkOf, blockOf, closeOf};
+ghost use Rattle.recording_state.specs.Fetch as fetch;
 ghost use Rattle.recording_state.specs.Fetch.{fetchOf};
 ghost use Rattle.recording_state.specs.Reply.{replyOf};
 ghost use Rattle.recording.specs.Session.{outcomeSaid, blockSaid, fetchedSaid};
@@ -44,7 +47,7 @@ impl Outcome {
 impl Fetched {
     // The same for a fetch.
     fn of(f: recording_state::Fetched) -> Fetched
-        ensures { λ r. ⌜ (r .session .state ≡ f .session) × (r .answer ≡ f .answer) ⌝ }
+        ensures { λ r. ⌜ ((frame : List ℕ) → fetchedSaid r frame ≡ fetch.fetchedSaid f frame) ⌝ }
     {
         let s = f.session;
         let answer = f.answer;

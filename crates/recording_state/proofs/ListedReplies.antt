@@ -131,7 +131,7 @@ module _ (s : State) (r : Reply) where
   -- the numbers that a reply may bring, by stage
   pub record Lawful : Type 0 where
     pub in-headers : HeaderStage s → Possible (s .copies .outstanding) (oldestAddress (s .copies)) (nextAddress (s .copies))
-    pub in-elements : ElementStage s → Possible (s .elements .outstanding) (baseOf (s .elements)) (s .elements .next .0)
+    pub in-elements : ElementStage s → Possible (s .elements .outstanding) (baseOf (s .elements) .0) (s .elements .next .0)
 
   header-number : (x : copies.ProgressSaid) → (x ≡ copies.refused 8 → ⊥) → headerReplyBy x s .number ≡ 8 → ⊥
   header-number (copies.more _) h q = omega arith
@@ -154,7 +154,7 @@ module _ (s : State) (r : Reply) where
   elements-counted p (steps.tooMany l) q = omega (arith, p)
   elements-counted p (steps.counted _) q = omega arith
 
-  elements-failed : {x : reply.SteppedSaid} → baseOf (s .elements) ≤ r .position .0 → r .position .0 < s .elements .next .0 → steps.FailedView (s .elements) (r .position .0) (r .skip) x → x .number ≡ 8 → ⊥
+  elements-failed : {x : reply.SteppedSaid} → baseOf (s .elements) .0 ≤ r .position .0 → r .position .0 < s .elements .next .0 → steps.FailedView (s .elements) (r .position) (r .skip) x → x .number ≡ 8 → ⊥
   elements-failed p l (steps.tooLow h) q = omega (arith, p)
   elements-failed p l (steps.tooHigh h) q = omega (arith, l)
   elements-failed p l (steps.failed _ _ _) q = omega arith
@@ -183,6 +183,6 @@ module _ (s : State) (r : Reply) where
             (λ st. elements-counted (lawful .in-elements st .counted n) (steps.counted-view (s .elements) (r .buffered))) q
         go (view.failed n) q =
             stage-number _ _ (λ st. copies-failed (lawful .in-headers st .from n) (lawful .in-headers st .below n) (copying.failed-view (s .copies) (r .position .0)))
-            (λ st. elements-failed (lawful .in-elements st .from n) (lawful .in-elements st .below n) (steps.failed-view (s .elements) (r .position .0) (r .skip))) q
+            (λ st. elements-failed (lawful .in-elements st .from n) (lawful .in-elements st .below n) (steps.failed-view (s .elements) (r .position) (r .skip))) q
         go (view.overflowed n) q = stage-number _ _ (λ st _. no-overflow (s .exchange .command) meaning listed (on-headers st) n) (λ _ e. omega arith) q
         go (view.unlisted u) q = u (listed-case (s .exchange .command) meaning listed no-read)

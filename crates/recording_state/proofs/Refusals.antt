@@ -81,13 +81,13 @@ due-number (dues.writing _ _ _ _ _) q = never (cc)
 
 -- what a refused step has changed
 abbrev Stopped : Elements → Reply → reply.SteppedSaid → Type 0
-Stopped e r x = (x .number ≡ 0 → ⊥) → (8 ≤ x .number) × (x .elements ≡ pick (eqb (x .number) 9) (reply.notedOf e (r .position .0) (r .skip)) e)
+Stopped e r x = (x .number ≡ 0 → ⊥) → (8 ≤ x .number) × (x .elements ≡ pick (eqb (x .number) 9) (reply.fullOf e (r .position) (r .skip)) e)
 
 counted-step : {e : Elements} (r : Reply) {f : ℕ} {x : reply.SteppedSaid} → steps.CountedView e f x → Stopped e r x
 counted-step r (steps.tooMany _) h = (omega arith, refl)
 counted-step r (steps.counted _) h = absurd (h refl)
 
-failed-step : {e : Elements} (r : Reply) {x : reply.SteppedSaid} → steps.FailedView e (r .position .0) (r .skip) x → Stopped e r x
+failed-step : {e : Elements} (r : Reply) {x : reply.SteppedSaid} → steps.FailedView e (r .position) (r .skip) x → Stopped e r x
 failed-step r (steps.tooLow _) h = (omega arith, refl)
 failed-step r (steps.tooHigh _) h = (omega arith, refl)
 failed-step r (steps.failed _ _ _) h = absurd (h refl)
@@ -188,6 +188,6 @@ module _ (s : State) where
         go (replying.located _) = stage-left _ _ (λ m e. never (cc)) (λ h. absurd (h refl))
         go (replying.taken _) = stage-left _ _ (λ m e. never (cc)) (λ h. absurd (h refl))
         go (replying.counted _) = stage-left _ _ (λ m e. counted-number (copying.counted-view (s .copies) (r .buffered)) e) (counted-step r (steps.counted-view (s .elements) (r .buffered)))
-        go (replying.failed _) = stage-left _ _ (λ m e. failed-number (copying.failed-view (s .copies) (r .position .0)) e) (failed-step r (steps.failed-view (s .elements) (r .position .0) (r .skip)))
+        go (replying.failed _) = stage-left _ _ (λ m e. failed-number (copying.failed-view (s .copies) (r .position .0)) e) (failed-step r (steps.failed-view (s .elements) (r .position) (r .skip)))
         go (replying.overflowed _) = stage-left _ _ (λ m e. plain-8 (cc)) (λ h. absurd (h refl))
         go (replying.unlisted _) = plainly-ended 8 (plain-8 refl)

@@ -104,7 +104,7 @@ pub data ReplyView (s : State) (r : Reply) : OutcomeSaid → Type 0 where
   located : caseOf s r ≡ locateGood → ReplyView s r (locatedOf s)
   taken : caseOf s r ≡ writeGood → ReplyView s r (takenOf s)
   counted : caseOf s r ≡ positionGood → ReplyView s r (countedOf s (r .buffered))
-  failed : Failed (caseOf s r) → ReplyView s r (failedOf s (r .position .0) (r .skip))
+  failed : Failed (caseOf s r) → ReplyView s r (failedOf s (r .position) (r .skip))
   overflowed : caseOf s r ≡ writeOverflow → ReplyView s r (overflowedOf s)
   unlisted : (Foreseen (caseOf s r) → ⊥) → ReplyView s r (ending s 8)
 

@@ -32,7 +32,7 @@ filemarkOf s =
 
 -- element i uses window block i mod W
 abbrev pub placeOf : State → ℕ
-placeOf s = elements.numberOf (s .elements) (s .elements .pending) % windowOf s
+placeOf s = elements.numberOf (s .elements) (s .elements .pending) .0 % windowOf s
 
 -- a call's result, and the window that it leaves
 pub record Stored : Type 0 where

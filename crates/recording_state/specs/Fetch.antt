@@ -6,7 +6,6 @@ use lib.Dec.{eqb}
 use lib.ListN.{length}
 use Rattle.geometry.specs.Pick.{pick}
 use Rattle.geometry.specs.Refused.{refusalNumber}
-use Rattle.geometry.specs.declared.refusal.Refusal.{Refusal}
 use Rattle.frame.specs.Lengths.{frameLength}
 use Rattle.drive.specs.Command.{commandCode, commandAddress}
 use Rattle.drive.specs.Exchange.{sentOf}
@@ -61,20 +60,21 @@ sending s c window frame = record {
   frame = frameFor c s window frame;
 }
 
-abbrev pub fetchRefused : State → Refusal → Fetched
-fetchRefused s r = record { session = s; answer = A.Refused r }
+-- refused: the session as it is given, and the frame as it was lent
+abbrev pub fetchRefused : State → ℕ → List ℕ → FetchedSaid
+fetchRefused s n frame = record { session = s; said = refused n; frame = frame }
 
 -- idle and done await no reply; a refusal here is 9 and ends the session
 abbrev pub answering : due.Decision → State → List ℕ → List ℕ → FetchedSaid
 answering (due.send c) s window frame = sending s c window frame
 answering due.idle s window frame = record { session = s; said = idle; frame = frame }
 answering due.done s window frame = record { session = s; said = done; frame = frame }
-answering (due.refuse n) s window frame = record { session = endedOf s; said = refused n; frame = frame }
+answering (due.refuse n) s window frame = fetchRefused (endedOf s) n frame
 
 -- refusal 7 where the session has ended or a reply is awaited; 1 where a length is wrong
 unfoldable pub fetchOf : State → List ℕ → List ℕ → FetchedSaid
 fetchOf s window frame =
-    pick (s .ended || s .exchange .awaiting) (record { session = s; said = refused 7; frame = frame })
+    pick (s .ended || s .exchange .awaiting) (fetchRefused s 7 frame)
     (pick (eqb (length window) (windowLength s) && eqb (length frame) frameLength)
     (answering (decisionOf s) s window frame)
-    (record { session = s; said = refused 1; frame = frame }))
+    (fetchRefused s 1 frame))

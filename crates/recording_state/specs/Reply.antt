@@ -35,7 +35,7 @@ headerReplyBy (copies.more c) s = accepting (withCopies (answeredOf s) c)
 headerReplyBy copies.complete s = accepting (settledOf (completedOf (answeredOf s)))
 headerReplyBy (copies.refused n) s = ending s n
 
--- given the elements; a refusal too leaves what they are by then
+-- given the elements: refused with 8 they are as they were, with 9 the write error is noted
 abbrev pub elementReplyBy : reply.SteppedSaid → State → OutcomeSaid
 elementReplyBy x s =
     pick (eqb (x .number) 0) (accepting (settledOf (withElements (answeredOf s) (x .elements)))) (ending (withElements s (x .elements)) (x .number))
@@ -67,8 +67,8 @@ abbrev pub countedOf : State → ℕ → OutcomeSaid
 countedOf s f = stageReply s (copies.countedOf (s .copies) f) (reply.countedOf (s .elements) f)
 
 -- 03/0C/00 with position p; headers ignore the skip
-abbrev pub failedOf : State → ℕ → ℕ → OutcomeSaid
-failedOf s p skip = stageReply s (copies.failedOf (s .copies) p) (reply.failedOf (s .elements) p skip)
+abbrev pub failedOf : State → Address → ℕ → OutcomeSaid
+failedOf s p skip = stageReply s (copies.failedOf (s .copies) (p .0)) (reply.failedOf (s .elements) p skip)
 
 -- 0D/00/02 on a WRITE: listed for an element or EOD, not for a header
 abbrev pub overflowedOf : State → OutcomeSaid
@@ -77,11 +77,15 @@ overflowedOf s = stageReply s (copies.refused 8) (reply.kept (reply.overflowedOf
 -- by the command and the meaning of its reply
 unfoldable pub replyBy : State → ℕ → Reply → OutcomeSaid
 replyBy s n r =
+    -- busy: the same command again
     pick (eqb n writeBusy || (eqb n locateBusy || eqb n positionBusy)) (accepting (repeatedOf s))
+    -- good
     (pick (eqb n locateGood) (locatedOf s)
     (pick (eqb n writeGood) (takenOf s)
     (pick (eqb n positionGood) (countedOf s (r .buffered))
-    (pick (eqb n writeFailed || eqb n positionFailed) (failedOf s (r .position .0) (r .skip))
+    -- 03/0C/00
+    (pick (eqb n writeFailed || eqb n positionFailed) (failedOf s (r .position) (r .skip))
+    -- 0D/00/02
     (pick (eqb n writeOverflow) (overflowedOf s)
     -- anything else, or a reply unlisted for its command
     (ending s 8))))))
@@ -93,6 +97,6 @@ caseOf s r = cases.caseOf (s .exchange .command) r
 unfoldable pub replyOf : State → Reply → OutcomeSaid
 replyOf s r = pick (s .ended || not (s .exchange .awaiting)) (refusing s 7) (replyBy s (caseOf s r) r)
 
--- 01, "Refused calls": the session that a refused reply ends. Behind a 9 the write error is noted; every other finds it as it was
+-- 01, "Refused calls": the session that a refused reply ends. Behind a 9 its write error is noted; behind any other number the session is as it was
 abbrev pub endedFrom : State → Reply → ℕ → State
-endedFrom s r n = withElements s (pick (eqb n 9) (reply.notedOf (s .elements) (r .position .0) (r .skip)) (s .elements))
+endedFrom s r n = withElements s (pick (eqb n 9) (reply.fullOf (s .elements) (r .position) (r .skip)) (s .elements))

@@ -74,7 +74,7 @@ ending s n = record { session = endedOf s; number = n }
 abbrev pub eodDue : State → State
 eodDue s = withElements s (elements.eodDue (s .elements))
 
--- closing headers, behind EOD
+-- closing headers, behind EOD, which was the last frame taken: its address is the one before the next
 abbrev pub closingHeader : State → Header
 closingHeader s = closingOf (s .copies .header) (s .elements .next)
 

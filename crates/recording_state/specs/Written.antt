@@ -20,14 +20,14 @@ elementOf s = record {
   kind = elements.kindOf (s .elements);
   pass = s .copies .header .pass;
   last = s .copies .header .last;
-  seq = record { 0 = elements.numberOf (s .elements) (s .elements .outstanding) };
+  seq = elements.numberOf (s .elements) (s .elements .outstanding);
   filemarks = trailBefore (s .elements) .filemarks;
   marker = trailBefore (s .elements) .marker;
 }
 
 -- element i uses window block i mod W
 abbrev pub elementPlace : State → ℕ
-elementPlace s = elements.numberOf (s .elements) (s .elements .outstanding) % windowOf s
+elementPlace s = elements.numberOf (s .elements) (s .elements .outstanding) .0 % windowOf s
 
 unfoldable pub writtenElement : State → List ℕ → List ℕ
 writtenElement s window = elementFrame (elementOf s) (blockAt window (elementPlace s))

@@ -7,4 +7,3 @@ pub use state::Outcome;
 pub use state::Setup;
 pub use state::Stage;
 pub use state::State;
-pub use state::following;

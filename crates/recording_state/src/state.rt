@@ -1,6 +1,7 @@
 // The state of a session, what its calls return, and the steps that several of them take.
 ghost use mathlib.Core.Path.{_≡_};
 ghost use Rattle.geometry.specs.Refused.{refusalNumber};
+ghost use Rattle.recording_state.specs.Reply.{completedOf};
 ghost use Rattle.recording_state.specs.Session.{followingOf, windowOf, outcomeSaid, accepting, refusing, ending, eodDue, closingStarted, settledOf};
 use copies::Copies;
 use copies::closing_header;
@@ -19,7 +20,7 @@ pub enum Stage {
 }
 
 // The stage behind this one.
-pub fn following(stage: Stage) -> Stage
+fn following(stage: Stage) -> Stage
     ensures { λ r. ⌜ r ≡ followingOf stage ⌝ }
 {
     match stage {
@@ -104,6 +105,17 @@ impl State {
         Outcome {
             session: self,
             verdict: Verdict::Refused(refusal),
+        }
+    }
+
+    // The header copies of this stage are through.
+    pub fn complete(self) -> State
+        ensures { λ r. ⌜ r ≡ completedOf self ⌝ }
+    {
+        let stage = self.stage;
+        State {
+            stage: following(stage),
+            ..self
         }
     }
 

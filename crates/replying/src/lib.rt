@@ -1,9 +1,9 @@
-// TakenSaid in a reply. The public calls are the methods of `recording`.
+// Taking in a reply. The public calls are the methods of `recording`.
 ghost use mathlib.Core.Path.{_≡_};
 ghost use Rattle.copies.specs.Copies.{progressSaid};
 ghost use Rattle.elements.specs.Reply.{steppedSaid};
 ghost use Rattle.recording_state.specs.Session.{outcomeSaid};
-ghost use Rattle.recording_state.specs.Reply.{answeredOf, repeatedOf, completedOf, headerReplyBy, elementReplyBy, stageReply, addressOf, locatedOf, takenOf, countedOf, failedOf, overflowedOf, replyOf};
+ghost use Rattle.recording_state.specs.Reply.{answeredOf, repeatedOf, headerReplyBy, elementReplyBy, stageReply, addressOf, locatedOf, takenOf, countedOf, failedOf, overflowedOf, replyOf};
 use copies::Progress;
 use drive::LOCATE_BUSY;
 use drive::LOCATE_GOOD;
@@ -23,7 +23,6 @@ use geometry::Verdict;
 use recording_state::Outcome;
 use recording_state::Stage;
 use recording_state::State;
-use recording_state::following;
 
 fn answered(mut s: State) -> State
     ensures { λ r. ⌜ r ≡ answeredOf s ⌝ }
@@ -42,17 +41,6 @@ fn repeated(mut s: State) -> State
     s
 }
 
-// The header copies of this stage are through.
-fn completed(s: State) -> State
-    ensures { λ r. ⌜ r ≡ completedOf s ⌝ }
-{
-    let stage = s.stage;
-    State {
-        stage: following(stage),
-        ..s
-    }
-}
-
 // Goes on by how far the header copies are.
 fn header_reply(mut s: State, progress: Progress) -> Outcome
     ensures { λ r. ⌜ outcomeSaid r ≡ headerReplyBy (progressSaid progress) s ⌝ }
@@ -62,7 +50,7 @@ fn header_reply(mut s: State, progress: Progress) -> Outcome
             s.copies = c;
             answered(s).accepted()
         }
-        Progress::Complete => completed(answered(s)).settle().accepted(),
+        Progress::Complete => answered(s).complete().settle().accepted(),
         Progress::Refused(r) => s.end(r),
     }
 }
@@ -72,8 +60,8 @@ fn element_reply(mut s: State, stepped: Stepped) -> Outcome
     ensures { λ r. ⌜ outcomeSaid r ≡ elementReplyBy (steppedSaid stepped) s ⌝ }
 {
     let verdict = stepped.verdict;
-    let next = stepped.elements;
-    s.elements = next;
+    let elements = stepped.elements;
+    s.elements = elements;
     match verdict {
         Verdict::Accepted => answered(s).settle().accepted(),
         Verdict::Refused(r) => s.end(r),
@@ -90,6 +78,7 @@ fn address(s: State) -> Address
 }
 
 // By stage, the reply is to the header copies, or to the elements and EOD; when all is done none is awaited.
+// Both are worked out, so that the stage is looked at in one place.
 fn stage_reply(s: State, progress: Progress, stepped: Stepped) -> Outcome
     ensures { λ r. ⌜ outcomeSaid r ≡ stageReply s (progressSaid progress) (steppedSaid stepped) ⌝ }
 {
@@ -131,7 +120,7 @@ fn counted(s: State, buffered: u32) -> Outcome
 
 // Headers ignore the skip.
 fn failed(s: State, p: Address, skip: u8) -> Outcome
-    ensures { λ r. ⌜ outcomeSaid r ≡ failedOf s (p .0) skip ⌝ }
+    ensures { λ r. ⌜ outcomeSaid r ≡ failedOf s p skip ⌝ }
 {
     let copies = s.copies;
     let elements = s.elements;

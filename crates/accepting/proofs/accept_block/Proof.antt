@@ -9,6 +9,7 @@ use borrow.Author.Needs.{needs}
 use borrow.Author.Tests.{eq-eqb, ne-eqb}
 use lib.Dec.{eqb}
 use lib.ListN.{length}
+use Rattle.geometry.specs.declared.address.Seq.{Seq}
 use Rattle.geometry.proofs.PickLaws.{pick-t, pick-f}
 use Rattle.recording_state.specs.declared.state.State.{State}
 use Rattle.elements.specs.Elements.{numberOf}
@@ -119,8 +120,8 @@ returns-5 c =
     ap (stored (c .before .before .before .before .put-block .last .0)) (c .accepted .ensures ∙ ap accepting (c .before .with-element .ensures))
     ∙ ap (λ (w : List ℕ). stored w (accepting (withElement (a .s) false)))
     (c .before .before .before .before .put-block .ensures
-    ∙ ap (λ (n : ℕ). putBlock (a .window .now) (n % c .before .before .before .before .before .before .before .before .before .before .before .before .window .result) (a .block .now)) (c .before .before .before .before .before .before .before .number .ensures)
-    ∙ ap (λ (w : ℕ). putBlock (a .window .now) (numberOf (a .s .elements) (a .s .elements .pending) % w) (a .block .now)) (c .before .before .before .before .before .before .before .before .before .before .before .before .window .ensures))
+    ∙ ap (λ (n : Seq). putBlock (a .window .now) (n .0 % c .before .before .before .before .before .before .before .before .before .before .before .before .window .result) (a .block .now)) (c .before .before .before .before .before .before .before .number .ensures)
+    ∙ ap (λ (w : ℕ). putBlock (a .window .now) (numberOf (a .s .elements) (a .s .elements .pending) .0 % w) (a .block .now)) (c .before .before .before .before .before .before .before .before .before .before .before .before .window .ensures))
     ∙ sym
     (pick-f _ (sym (c .before .before .before .before .before .before .before .before .before .before .before .before .before .before .before .accepts-none .ensures) ∙ c .before .before .before .before .before .before .before .before .before .before .before .before .before .before .if1 .left)
     ∙ pick-t _ (both-lengths (a .s) (a .block .now) (a .window .now) (c .before .before .before .before .before .before .before .before .before .before .before .before .before .if2 .left) (eq-eqb _ _ alike))

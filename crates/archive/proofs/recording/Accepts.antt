@@ -293,7 +293,7 @@ keeps-block {last} {pass} {premises} w b lent set i te =
         let width = windowOf (w .session) in
         let exact : (first + pending) % 2 ^ 32 ≡ first + pending = mod-eq-of-lt (first-small w set l false (block b) acc (l .course)) in
         let place-is : placeOf (w .session) ≡ (first + pending) % width = ap (λ (n : ℕ). n % width) exact in
-        let room : placeOf (w .session) * 32768 + 32768 ≤ length lent = subst (λ (n : ℕ). placeOf (w .session) * 32768 + 32768 ≤ n) (sym (v .long)) (place-inside (elements.numberOf (w .session .elements) pending) (w .session .setup .highest)) in
+        let room : placeOf (w .session) * 32768 + 32768 ≤ length lent = subst (λ (n : ℕ). placeOf (w .session) * 32768 + 32768 ≤ n) (sym (v .long)) (place-inside (elements.numberOf (w .session .elements) pending .0) (w .session .setup .highest)) in
         live wr
         (live-more w set l false (block b) acc (putBlock lent (placeOf (w .session)) b) (w .notes .unaltered && agree lent (w .window))
         (λ u.

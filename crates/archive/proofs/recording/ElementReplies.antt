@@ -259,9 +259,9 @@ module _ {last pass : ℕ} {premises : Type 0} (w : World) (r : Reply) (set : Se
     element-replies c e (elements.counted m b x) =
         by positionGood (case-is (w .session) r (l .going) asked e m) (by-elements (w .session) _ _ st) (counted-step last (w .session) (w .drive) (l .k) (l .edge) small again (l .counted .held) low (l .counted .room) x (r .buffered) b) (link-safe x)
     element-replies c e (elements.failed-write a m f p x) =
-        by writeFailed (case-is (w .session) r (l .going) asked e m) (by-elements (w .session) _ _ st) (failed-step last (w .session) (w .drive) (l .k) (l .edge) small again (l .counted .held) low (l .counted .room) x (r .position .0) (r .skip) p f) (link-safe x)
+        by writeFailed (case-is (w .session) r (l .going) asked e m) (by-elements (w .session) _ _ st) (failed-step last (w .session) (w .drive) (l .k) (l .edge) small again (l .counted .held) low (l .counted .room) x (r .position) (r .skip) p f) (link-safe x)
     element-replies c e (elements.failed-position m f p x) =
-        by positionFailed (case-is (w .session) r (l .going) asked e m) (by-elements (w .session) _ _ st) (failed-step last (w .session) (w .drive) (l .k) (l .edge) small again (l .counted .held) low (l .counted .room) x (r .position .0) (r .skip) p f) (link-safe x)
+        by positionFailed (case-is (w .session) r (l .going) asked e m) (by-elements (w .session) _ _ st) (failed-step last (w .session) (w .drive) (l .k) (l .edge) small again (l .counted .held) low (l .counted .room) x (r .position) (r .skip) p f) (link-safe x)
     element-replies c e (elements.filled a m lo x) =
         by writeOverflow (case-is (w .session) r (l .going) asked e m) (by-elements (w .session) _ _ st ∙ ap (λ (y : Command). elementReplyBy (kept-short y) (w .session)) e) (steps.goes _ (filled-step last (w .session) (w .drive) (l .k) (l .edge) small again (l .counted .held) low (l .counted .room) a lo x)) (link-safe x)
       where

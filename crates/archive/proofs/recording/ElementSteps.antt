@@ -11,6 +11,7 @@ use lib.Dec.{eqb, ltb, leb}
 use lib.ListN.{length}
 use Rattle.geometry.specs.Cartridge.{isUser}
 use Rattle.geometry.specs.Place as place
+use Rattle.geometry.specs.Place.{asAddress}
 use Rattle.geometry.specs.WriteError.{stepOf, targetAddress}
 use Rattle.geometry.specs.declared.address.Address.{Address}
 use Rattle.geometry.specs.declared.address.Seq.{Seq}
@@ -18,7 +19,7 @@ use Rattle.geometry.proofs.PickLaws.{pick-by}
 use Rattle.archive.specs.Conduct.{Drive, AtRest, empty, stopped}
 use Rattle.elements.specs.Elements.{baseOf, limitOf, numberOf}
 use Rattle.elements.specs.Reply as reply
-use Rattle.elements.specs.Reply.{kept, refusing, locatedOf, takenOf, confirmedOf, overflowedOf, notedOf, failedTo, countedOf, failedOf}
+use Rattle.elements.specs.Reply.{kept, refusing, locatedOf, takenOf, confirmedOf, overflowedOf, notedOf, fullOf, failedTo, countedOf, failedOf}
 use Rattle.elements.specs.declared.state.Elements.{Elements}
 use Rattle.recording_state.specs.Session.{withElements}
 use Rattle.recording_state.specs.Reply.{answeredOf}
@@ -114,7 +115,7 @@ module _ (last : ℕ) (s : State) (d : Drive) (k edge : ℕ) (small : last + 65 
       }))
 
   module _ (l : Linked last (heldOf s) d k edge 0) where
-    exact : (n : ℕ) → n ≤ s .elements .outstanding → numberOf (s .elements) n ≡ s .elements .first .0 + n
+    exact : (n : ℕ) → n ≤ s .elements .outstanding → numberOf (s .elements) n .0 ≡ s .elements .first .0 + n
     exact n h =
         let roof = l .roof in
         let taken-is = l .taken-is in
@@ -172,42 +173,41 @@ module _ (last : ℕ) (s : State) (d : Drive) (k edge : ℕ) (small : last + 65 
     step-least : (skip : ℕ) → 1 ≤ stepOf skip
     step-least skip = pick-by (λ (n : ℕ). 1 ≤ n) (eqb skip 0) (λ _. omega arith) (λ e. let x = eqb-false skip 0 e in omega (arith, x))
 
-    pub failed-step : (p skip : ℕ) → p ≡ d .at → d .failed ≡ true → Reached last s d k edge (failedOf (s .elements) p skip)
+    pub failed-step : (p : Address) (skip : ℕ) → p .0 ≡ d .at → d .failed ≡ true → Reached last s d k edge (failedOf (s .elements) p skip)
     unfolding failedOf confirmedOf
     failed-step p skip at f =
-        pick-by (Reached last s d k edge) (ltb p (baseOf (s .elements))) (λ _. unlawful (s .elements))
-        (λ x. pick-by (Reached last s d k edge) (leb (s .elements .next .0) p) (λ _. unlawful (s .elements))
+        pick-by (Reached last s d k edge) (ltb (p .0) (baseOf (s .elements) .0)) (λ _. unlawful (s .elements))
+        (λ x. pick-by (Reached last s d k edge) (leb (s .elements .next .0) (p .0)) (λ _. unlawful (s .elements))
         (λ y.
-        let above = ltb-false p (baseOf (s .elements)) x in
-        let below = leb-false (s .elements .next .0) p y in
-        pick-by (λ (z : place.PlaceSaid). Reached last s d k edge (failedTo (notedOf (s .elements) p skip) z)) (ltb (targetAddress p skip) (limitOf (s .elements))) (λ fits. relocated above below (ltb-true _ _ fits)) (λ _. full (notedOf (s .elements) p skip))))
+        let above = ltb-false (p .0) (baseOf (s .elements) .0) x in
+        let below = leb-false (s .elements .next .0) (p .0) y in
+        pick-by (λ (z : place.PlaceSaid). Reached last s d k edge (failedTo (s .elements) p skip z)) (ltb (targetAddress p skip) (limitOf (s .elements) .0)) (λ fits. relocated above below (ltb-true _ _ fits)) (λ _. full (fullOf (s .elements) p skip))))
       where
-        relocated : baseOf (s .elements) ≤ p → p < s .elements .next .0 → targetAddress p skip < limitOf (s .elements) → Reached last s d k edge (kept (notedOf (s .elements) p skip))
+        relocated : baseOf (s .elements) .0 ≤ p .0 → p .0 < s .elements .next .0 → targetAddress p skip < limitOf (s .elements) .0 → Reached last s d k edge (kept (notedOf (s .elements) p (asAddress (targetAddress p skip))))
         relocated above below fits =
             let target = targetAddress p skip in
-            let exactly : target % 2 ^ 32 ≡ target = mod-eq-of-lt (omega (arith, small)) in
-            let n = p - baseOf (s .elements) in
+            let n = p .0 - baseOf (s .elements) .0 in
             let taken-is = l .taken-is in
             let next-is = l .next-is in
             let known = l .known in
             let spread = l .spread in
             let number = exact n (omega arith) in
-            let least = past-reserved-least (p + stepOf skip) in
+            let least = past-reserved-least (p .0 + stepOf skip) in
             let one = step-least skip in
             let edge-is : edge ≡ d .at + 1 = l .edge-is ∙ ap (λ (b : Bool). edgeOf b (d .at)) f in
-            goes (notedOf (s .elements) p skip)
-            (confirms n target (notedOf (s .elements) p skip) refl refl (omega arith) refl refl refl (omega arith) (omega arith) (elements.to-locate refl again refl (record {
+            goes (notedOf (s .elements) p (asAddress target))
+            (confirms n target (notedOf (s .elements) p (asAddress target)) refl refl (omega arith) refl refl refl (omega arith) (omega arith) (elements.to-locate refl again refl (record {
               none-out = refl;
               first-is = omega arith;
               rests = stopped f;
-              roof = omega (arith, exactly);
-              zone = clear exactly (landing (p + stepOf skip));
-              spread = omega (arith, exactly);
-              edge-is = sym exactly;
+              roof = omega arith;
+              zone = clear (landing (p .0 + stepOf skip));
+              spread = omega arith;
+              edge-is = refl;
             }))
             (λ q z. absurd (omega arith)))
           where
-            clear : targetAddress p skip % 2 ^ 32 ≡ targetAddress p skip → Landing (p + stepOf skip) (targetAddress p skip) → (targetAddress p skip % 2 ^ 32 ≤ 2990) ⊎ (3000 ≤ targetAddress p skip % 2 ^ 32)
-            clear q (before h e) = inl (omega arith)
-            clear q (across h g e) = inr (omega arith)
-            clear q (behind h e) = inr (omega arith)
+            clear : Landing (p .0 + stepOf skip) (targetAddress p skip) → (targetAddress p skip ≤ 2990) ⊎ (3000 ≤ targetAddress p skip)
+            clear (before h e) = inl (omega arith)
+            clear (across h g e) = inr (omega arith)
+            clear (behind h e) = inr (omega arith)

@@ -30,7 +30,7 @@ module _ (last pass : ℕ) (s : State) (window : List ℕ) (xs : List Element) (
   abbrev number : ℕ
   number = s .elements .first .0 + s .elements .outstanding
 
-  exact : elements.numberOf (s .elements) (s .elements .outstanding) ≡ s .elements .first .0 + s .elements .outstanding
+  exact : elements.numberOf (s .elements) (s .elements .outstanding) .0 ≡ s .elements .first .0 + s .elements .outstanding
   exact = mod-eq-of-lt small
 
   found : judgeFrame (telling last pass) (record { 0 = s .elements .first .0 + s .elements .outstanding }) (writtenElement s window) ≡ foundSaid (kindOf (s .elements))

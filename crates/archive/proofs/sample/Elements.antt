@@ -23,7 +23,7 @@ use Rattle.archive.proofs.sample.Flush.{buffered}
 
 -- no element yet: LOCATE 10 comes first
 abbrev pub noneAccepted : Elements
-noneAccepted = elements.startOf 11999 10 0 noTrail
+noneAccepted = elements.startOf (asAddress 11999) (asAddress 10) (record { 0 = 0 }) noTrail
 
 module _ (window : List ℕ) (long : length window ≡ 32768) (accepted : List Element) (t : Tape) (past : List ℕ) {cs : List Call} {u : World} where
   -- WRITE, the drive writes the frame as sent, READ POSITION finds nothing buffered

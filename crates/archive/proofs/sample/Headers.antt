@@ -138,7 +138,7 @@ module _ (closed : Bool) (e : Elements) (h : Header) where
   second-group-through true c = record { free = refl; sized = refl; decided = refl; replied = refl }
   second-group-through false c = record { free = refl; sized = refl; decided = refl; replied = refl }
 
-opening-settled : (h : Header) → settledOf (behind true false (elements.startOf (h .last .0) 10 0 noTrail) h) ≡ behind true false (elements.startOf (h .last .0) 10 0 noTrail) h
+opening-settled : (h : Header) → settledOf (behind true false (elements.startOf (h .last) (asAddress 10) (record { 0 = 0 }) noTrail) h) ≡ behind true false (elements.startOf (h .last) (asAddress 10) (record { 0 = 0 }) noTrail) h
 unfolding settledOf
 opening-settled h = refl
 
@@ -195,9 +195,9 @@ module _ (window : List ℕ) (long : length window ≡ 32768) (accepted : List E
 
 -- a session just opened writes its headers
 pub opening-written : (window : List ℕ) → length window ≡ 32768 → (h : Header) (d : Drive) {cs : List Call} {u : World}
-    → Runs (between window [] (writing h (elements.startOf (h .last .0) 10 0 noTrail) ReadPosition) (headersWritten h d)) cs u
+    → Runs (between window [] (writing h (elements.startOf (h .last) (asAddress 10) (record { 0 = 0 }) noTrail) ReadPosition) (headersWritten h d)) cs u
     → Runs (started (fresh depth 0 h) window d) (headerExchanges window cs) u
-opening-written window long h d rest = headers-written window long [] true false (elements.startOf (h .last .0) 10 0 noTrail) h d (opening-settled h) rest
+opening-written window long h d rest = headers-written window long [] true false (elements.startOf (h .last) (asAddress 10) (record { 0 = 0 }) noTrail) h d (opening-settled h) rest
 
 -- the closing headers, and a last fetch, which answers done
 pub closing-written : (window : List ℕ) → length window ≡ 32768 → (accepted : List Element) (e : Elements) (h : Header) (d : Drive)

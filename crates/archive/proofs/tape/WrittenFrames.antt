@@ -29,13 +29,13 @@ block-fits Eod b h = refl
 
 module _ (s : State) (window : List ℕ) (long : length window ≡ windowLength s) where
   inside : elementPlace s * 32768 + 32768 ≤ length window
-  inside = subst (λ (n : ℕ). elementPlace s * 32768 + 32768 ≤ n) (sym long) (place-inside (numberOf (s .elements) (s .elements .outstanding)) (s .setup .highest))
+  inside = subst (λ (n : ℕ). elementPlace s * 32768 + 32768 ≤ n) (sym long) (place-inside (numberOf (s .elements) (s .elements .outstanding) .0) (s .setup .highest))
 
   fitting : elementFits (kindOf (s .elements)) 33280 (length (blockAt window (elementPlace s))) ≡ true
   fitting = block-fits (kindOf (s .elements)) (blockAt window (elementPlace s)) (block-length window (elementPlace s) inside)
 
   pub written-judged : {r : List ℕ} → s .copies .header .pass < 2 ^ 16 → ReadsAs (writtenElement s window) r
-      → judgeFrame (telling (s .copies .header .last .0) (s .copies .header .pass)) (record { 0 = numberOf (s .elements) (s .elements .outstanding) }) r ≡ foundSaid (kindOf (s .elements))
+      → judgeFrame (telling (s .copies .header .last .0) (s .copies .header .pass)) (numberOf (s .elements) (s .elements .outstanding)) r ≡ foundSaid (kindOf (s .elements))
   unfolding writtenElement elementOf
   written-judged small reads =
       judged-written (elementOf s) small (mod-lt (s .elements .first .0 + s .elements .outstanding) (lit< tt)) (blockAt window (elementPlace s)) fitting reads

@@ -5,8 +5,7 @@ use mathlib.Core.Path.{_≡_, _∙_, sym, ap}
 use native.Mathlib.Omega.{arith}
 use Rattle.geometry.proofs.PickLaws.{pick-t}
 use Rattle.recording_state.specs.Due.{decisionSaid}
-use Rattle.recording_state.specs.Fetch.{fetchedSaid, fetchOf}
-use Rattle.recording_state.specs.declared.state.Fetched.{Fetched}
+use Rattle.recording_state.specs.Fetch.{fetchOf}
 use Rattle.recording_state.proofs.FetchView.{fetch-wrong-length, fetch-decided}
 use Rattle.fetching.proofs.fetch.Statement.{statement}
 use Rattle.fetching.proofs.fetch.Tie as tie
@@ -21,7 +20,7 @@ returns : tie.Need-returns
 unfolding fetchOf
 returns c =
     let a = c .before .before .before .before .before .before .before .args in
-    ap (λ (r : Fetched). fetchedSaid r (a .frame .now)) (c .refuse-fetch .ensures) ∙ sym (pick-t _ (c .before .if1 .taken))
+    c .refuse-fetch .ensures (a .frame .now) ∙ sym (pick-t _ (c .before .if1 .taken))
 
 window-requires : tie.Need-window-requires
 window-requires c κs = tt
@@ -35,7 +34,7 @@ refuse-fetch-requires-2 c κs = tt
 returns-2 : tie.Need-returns-2
 returns-2 c =
     let a = c .before .before .before .before .before .before .before .before .before .args in
-    ap (λ (r : Fetched). fetchedSaid r (a .frame .now)) (c .refuse-fetch2 .ensures)
+    c .refuse-fetch2 .ensures (a .frame .now)
     ∙ sym (fetch-wrong-length (a .s) (a .window .now) (a .frame .now) (c .before .before .before .if1 .left) (inl (λ e. c .before .if2 .taken (e ∙ ap (λ n. n * 32768) (sym (c .before .before .window .ensures))))))
 
 refuse-fetch-requires-3 : tie.Need-refuse-fetch-requires-3
@@ -44,7 +43,7 @@ refuse-fetch-requires-3 c κs = tt
 returns-3 : tie.Need-returns-3
 returns-3 c =
     let a = c .before .before .before .before .before .before .before .before .before .before .args in
-    ap (λ (r : Fetched). fetchedSaid r (a .frame .now)) (c .refuse-fetch3 .ensures)
+    c .refuse-fetch3 .ensures (a .frame .now)
     ∙ sym (fetch-wrong-length (a .s) (a .window .now) (a .frame .now) (c .before .before .before .before .if1 .left) (inr (c .before .if3 .taken)))
 
 decide-requires : tie.Need-decide-requires
@@ -91,7 +90,7 @@ returns-6 c =
 returns-7 : tie.Need-returns-7
 returns-7 c =
     let a = c .before .before .before .before .before .before .before .before .before .before .before .before .before .before .args in
-    ap (λ (r : Fetched). fetchedSaid r (a .frame .now)) (c .refuse-fetch4 .ensures)
+    c .refuse-fetch4 .ensures (a .frame .now)
     ∙ sym (fetch-decided (a .s) (a .window .now) (a .frame .now) (c .before .before .before .before .before .before .before .before .if1 .left) (right-window (c .before .before .before .before .before .before .before .window .ensures) (c .before .before .before .before .before .before .if2 .left)) (c .before .before .before .before .before .if3 .left) (sym (c .before .before .before .before .decide .ensures) ∙ ap decisionSaid (c .before .before .answer2 .given .1)))
 
 pub fetch-spec : {M : Type 1} → statement M

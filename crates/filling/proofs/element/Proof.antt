@@ -1,6 +1,6 @@
 -- `filling::element` meets its contract: by what its callees promise, field by field. Assumes nothing.
-use Prim.Native.Nat.{ℕ}
 use mathlib.Core.Path.{_∙_, ap}
+use Rattle.geometry.specs.declared.address.Seq.{Seq}
 use Rattle.frame.specs.declared.element.Kind.{Kind}
 use Rattle.frame.specs.declared.element.Element.{Element}
 use Rattle.elements.specs.Elements.{numberOf, kindOf}
@@ -10,12 +10,12 @@ use Rattle.recording_state.specs.declared.state.State.{State}
 use Rattle.filling.proofs.element.Statement.{statement}
 use Rattle.filling.proofs.element.Tie as tie
 
-abbrev made : State → Kind → ℕ → Trail → Element
+abbrev made : State → Kind → Seq → Trail → Element
 made s kind number trail = record {
   kind = kind;
   pass = s .copies .header .pass;
   last = s .copies .header .last;
-  seq = record { 0 = number };
+  seq = number;
   filemarks = trail .filemarks;
   marker = trail .marker;
 }
@@ -33,7 +33,7 @@ returns : tie.Need-returns
 unfolding elementOf
 returns c =
     let s = c .before .before .before .before .before .before .before .before .args .s in
-    ap (λ k. made s k (c .number .result .0) (c .before .before .before .trail .result)) (c .before .kind .ensures)
+    ap (λ k. made s k (c .number .result) (c .before .before .before .trail .result)) (c .before .kind .ensures)
     ∙ ap (λ n. made s (kindOf (s .elements)) n (c .before .before .before .trail .result)) (c .number .ensures)
     ∙ ap (made s (kindOf (s .elements)) (numberOf (s .elements) (s .elements .outstanding))) (c .before .before .before .trail .ensures)
 

@@ -2,6 +2,7 @@
 use Prim.Native.Nat.{_%_}
 use mathlib.Core.Path.{_∙_, ap}
 use native.Mathlib.Omega.{arith}
+use Rattle.geometry.specs.declared.address.Seq.{Seq}
 use Rattle.elements.specs.Elements.{numberOf}
 use Rattle.filling.proofs.element_place.Statement.{statement}
 use Rattle.filling.proofs.element_place.Tie as tie
@@ -21,8 +22,8 @@ rem-result c = omega arith
 returns : tie.Need-returns
 returns c =
     let e = c .before .before .before .before .args .s .elements in
-    ap (λ n. n % c .window .result) (c .before .before .number .ensures)
-    ∙ ap (λ w. numberOf e (e .outstanding) % w) (c .window .ensures)
+    ap (λ (n : Seq). n .0 % c .window .result) (c .before .before .number .ensures)
+    ∙ ap (λ w. numberOf e (e .outstanding) .0 % w) (c .window .ensures)
 
 pub element-place-spec : {M : Type 1} → statement M
 element-place-spec = tie.close (tie.spec number-requires cast-result window-requires rem-result returns)

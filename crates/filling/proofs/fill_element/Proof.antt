@@ -29,7 +29,7 @@ element-requires c κs = tt
 block-at-requires : tie.Need-block-at-requires
 block-at-requires c κs =
     let a = c .before .before .before .before .before .args in
-    let number = numberOf (a .s .elements) (a .s .elements .outstanding) in
+    let number = numberOf (a .s .elements) (a .s .elements .outstanding) .0 in
     (omega (arith, place-low number (a .s .setup .highest), c .before .before .element-place .ensures), omega (arith, place-inside number (a .s .setup .highest), c .before .before .element-place .ensures, c .before .before .before .before .before .pre .0))
 
 build-element-requires : tie.Need-build-element-requires
@@ -42,7 +42,7 @@ returns : tie.Need-returns
 unfolding writtenElement
 returns c =
     let a = c .before .before .before .before .before .before .before .before .before .args in
-    let number = numberOf (a .s .elements) (a .s .elements .outstanding) in
+    let number = numberOf (a .s .elements) (a .s .elements .outstanding) .0 in
     c .before .before .build-element .ensures .1
     ∙ pick-t _ (fits (c .before .before .before .before .element .result .kind) (c .before .before .before .before .before .before .before .before .before .pre .1) (ap length (c .before .before .before .block-at .ensures) ∙ block-length (a .window .now) (c .before .before .before .before .before .before .element-place .result) (omega (arith, place-inside number (a .s .setup .highest), c .before .before .before .before .before .before .element-place .ensures, c .before .before .before .before .before .before .before .before .before .pre .0))))
     ∙ ap (λ e. elementFrame e (c .before .before .before .block-at .result .now)) (c .before .before .before .before .element .ensures)

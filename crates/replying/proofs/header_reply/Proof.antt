@@ -21,8 +21,8 @@ enum-told c = c .match .keys2
 answered-requires-2 : tie.Need-answered-requires-2
 answered-requires-2 c κs = tt
 
-completed-requires : tie.Need-completed-requires
-completed-requires c κs = tt
+complete-requires : tie.Need-complete-requires
+complete-requires c κs = tt
 
 settle-requires : tie.Need-settle-requires
 settle-requires c κs = tt
@@ -45,7 +45,7 @@ returns c =
 returns-2 : tie.Need-returns-2
 returns-2 c =
     c .accepted2 .ensures
-    ∙ ap accepting (c .before .settle .ensures ∙ ap settledOf (c .before .before .completed .ensures ∙ ap completedOf (c .before .before .before .answered2 .ensures)))
+    ∙ ap accepting (c .before .settle .ensures ∙ ap settledOf (c .before .before .complete .ensures ∙ ap completedOf (c .before .before .before .answered2 .ensures)))
     ∙ sym (ap (λ p. headerReplyBy (progressSaid p) (c .before .before .before .before .before .before .args .s)) (c .before .before .before .before .enum-told .given .1))
 
 returns-3 : tie.Need-returns-3
@@ -62,7 +62,7 @@ header-reply-spec =
     accepted-requires
     enum-told
     answered-requires-2
-    completed-requires
+    complete-requires
     settle-requires
     accepted-requires-2
     enum-known-progress-2

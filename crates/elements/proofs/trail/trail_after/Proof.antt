@@ -1,13 +1,15 @@
 -- `elements::trail::trail_after` meets its contract: after i turns, what stands before element first + i. Assumes nothing.
 use Prim.Native.Nat.{ℕ, _≤_, _+_, _-_, _%_, _^_}
+use mathlib.Core.Bool.{false}
 use mathlib.Core.Logic.{⊎-elim}
 use mathlib.Core.Path.{_≡_, _∙_, sym, ap, refl}
 use native.Mathlib.Omega.{arith}
 use Rattle.geometry.specs.Place.{asAddress}
+use lib.ListN.{getD}
 use Rattle.geometry.proofs.PickLaws.{pick-t, pick-f}
 use Rattle.elements.specs.Trail.{trailOf, marked}
 use Rattle.elements.specs.declared.trail.Trail.{Trail}
-use Rattle.elements.proofs.TrailLaws.{trail-step, mark-same}
+use Rattle.elements.proofs.TrailLaws.{trail-step}
 use Rattle.elements.proofs.trail.trail_after.Statement.{statement}
 use Rattle.elements.proofs.trail.trail_after.Tie as tie
 
@@ -19,7 +21,7 @@ turn : (n a n' a' b : ℕ) (t : Trail) → stands n a ≡ t → n' ≡ (n + 1) %
 turn n a n' a' b t e en ea = ap (λ x. stands x a') en ∙ ap (λ x. stands ((n + 1) % 2 ^ 32) x) ea ∙ ap (λ u. marked u b) e
 
 abbrev Inv-loop : tie.InvT-loop
-Inv-loop first base n marks filemarks₀ marker₀ i₀ filemarks marker i = (i ≤ n) × (stands filemarks marker ≡ trailOf (stands filemarks₀ marker₀) marks (first .0) (base .0) i)
+Inv-loop first base n marks filemarks₀ marker₀ i₀ filemarks marker i = (i ≤ n) × (stands filemarks marker ≡ trailOf (stands filemarks₀ marker₀) marks first base i)
 
 abbrev μ-loop : tie.MeasureT-loop
 μ-loop first base n marks filemarks₀ marker₀ i₀ filemarks marker i = n - i
@@ -28,17 +30,11 @@ loop-holds : tie.Need-loop-holds Inv-loop μ-loop
 unfolding trailOf
 loop-holds c = (omega arith, refl)
 
-cast-k : tie.Need-cast-k Inv-loop μ-loop
-cast-k c = omega arith
-
-add-k : tie.Need-add-k Inv-loop μ-loop
-add-k c = omega arith
-
-cast-k-2 : tie.Need-cast-k-2 Inv-loop μ-loop
-cast-k-2 c = omega arith
+mark-place-requires : tie.Need-mark-place-requires Inv-loop μ-loop
+mark-place-requires c κs = tt
 
 array-read-if1 : tie.Need-array-read-if1 Inv-loop μ-loop
-array-read-if1 c = omega arith
+array-read-if1 c = omega (arith, c .mark-place .ensures)
 
 wrapping-add-u32-requires : tie.Need-wrapping-add-u32-requires Inv-loop μ-loop
 wrapping-add-u32-requires c κs = tt
@@ -59,8 +55,8 @@ loop-again : tie.Need-loop-again Inv-loop μ-loop
 loop-again c =
     let a = c .before .before .before .before .args in
     let l = c .before .before .before .loop in
-    let step = trail-step (a .start) (a .t2) (a .first .0) (a .base .0) (l .i) in
-    let same = mark-same (a .t2) (a .first .0) (l .i) in (
+    let step = trail-step (a .start) (a .t2) (a .first) (a .base) (l .i) in
+    let same = ap (λ (k : ℕ). getD (a .t2) k false) (c .before .mark-place .ensures) in (
       omega arith,
       ⊎-elim
           (λ w. turn _ _ _ _ _ _ (l .inv .1) (w .3 ∙ w .1 .ensures) (w .4) ∙ sym (step ∙ pick-t _ (sym same ∙ w .0 .taken)))
@@ -73,7 +69,7 @@ unfolding trailOf
 returns c =
     let a = c .before .before .args in
     let e : c .before .loop .i ≡ a .n = omega arith in
-    c .before .loop .inv .1 ∙ ap (λ n. trailOf (a .start) (a .t2) (a .first .0) (a .base .0) n) e
+    c .before .loop .inv .1 ∙ ap (λ n. trailOf (a .start) (a .t2) (a .first) (a .base) n) e
 
 pub trail-after-spec : {M : Type 1} → statement M
 trail-after-spec =
@@ -82,9 +78,7 @@ trail-after-spec =
     Inv-loop
     μ-loop
     loop-holds
-    cast-k
-    add-k
-    cast-k-2
+    mark-place-requires
     array-read-if1
     wrapping-add-u32-requires
     cast-marker

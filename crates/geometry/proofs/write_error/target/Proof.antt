@@ -1,6 +1,5 @@
 -- The target found is compared with the limit. Assumes nothing.
-use Prim.Native.Nat.{ℕ}
-use mathlib.Core.Path.{_≡_, sym, ap, _∙_}
+use mathlib.Core.Path.{sym, ap, _∙_}
 use native.Mathlib.Omega.{arith}
 use borrow.Author.Needs.{needs}
 use borrow.Author.Tests.{lt-ltb, le-ltb}
@@ -23,12 +22,12 @@ returns : tie.Need-returns
 returns c =
     let a = c .before .before .before .args in
     let f = c .before .before .target-number .ensures in
-    ap address f ∙ sym (pick-t _ (lt-ltb (targetAddress (a .p .0) (a .skip)) (a .limit .0) (omega (arith, f))))
+    ap address f ∙ sym (pick-t _ (lt-ltb (targetAddress (a .p) (a .skip)) (a .limit .0) (omega (arith, f))))
 
 returns-2 : tie.Need-returns-2
 returns-2 c =
     let a = c .before .before .before .args in
-    sym (pick-f _ (le-ltb (targetAddress (a .p .0) (a .skip)) (a .limit .0) (omega (arith, c .before .before .target-number .ensures))))
+    sym (pick-f _ (le-ltb (targetAddress (a .p) (a .skip)) (a .limit .0) (omega (arith, c .before .before .target-number .ensures))))
 
 pub target-spec : {M : Type 1} → statement M
 target-spec = tie.close (tie.spec target-number-requires cast-if1 cast-t7 returns returns-2)

@@ -1,20 +1,16 @@
 -- `elements::state::Elements::confirmed` meets its contract: by what its callees promise. Assumes nothing.
-use Prim.Native.Nat.{ℕ}
 use mathlib.Core.Path.{ap}
 use native.Mathlib.Omega.{arith}
-use Rattle.geometry.specs.declared.address.Seq.{Seq}
+use Rattle.geometry.specs.declared.address.Address.{Address}
 use Rattle.elements.specs.Reply.{confirmedOf}
 use Rattle.elements.proofs.state.Elements.confirmed.Statement.{statement}
 use Rattle.elements.proofs.state.Elements.confirmed.Tie as tie
-
-abbrev seq : ℕ → Seq
-seq n = record { 0 = n }
 
 base-requires : tie.Need-base-requires
 base-requires c κs = tt
 
 trail-after-requires : tie.Need-trail-after-requires
-trail-after-requires c κs = omega arith
+trail-after-requires c κs = omega (arith, ap (λ (a : Address). a .0) (c .base .ensures))
 
 number-requires : tie.Need-number-requires
 number-requires c κs = tt
@@ -27,7 +23,7 @@ sub-t10 c = omega arith
 
 returns : tie.Need-returns
 unfolding confirmedOf
-returns c = simp (ap seq (c .before .before .before .before .before .before .number .ensures), c .before .before .before .before .before .less .ensures, c .before .before .before .before .before .before .before .trail-after .ensures, c .before .before .before .before .before .before .before .before .base .ensures)
+returns c = simp (c .before .before .before .before .before .before .number .ensures, c .before .before .before .before .before .less .ensures, c .before .before .before .before .before .before .before .trail-after .ensures, c .before .before .before .before .before .before .before .before .base .ensures)
 
 pub confirmed-spec : {M : Type 1} → statement M
 confirmed-spec = tie.close (tie.spec base-requires trail-after-requires number-requires less-requires sub-t10 returns)

@@ -1,8 +1,9 @@
 -- `elements::state::Elements::due` meets its contract: each return is the rule whose tests were passed on the way. Assumes nothing.
-use mathlib.Core.Path.{_∙_, sym}
+use mathlib.Core.Path.{_∙_, sym, ap}
 use native.Mathlib.Omega.{arith}
 use borrow.Author.Tests.{le-leb, lt-leb, eq-eqb, ne-eqb}
 use borrow.Author.Needs.{needs}
+use Rattle.geometry.specs.declared.address.Address.{Address}
 use Rattle.elements.specs.Due.{dueOf}
 use Rattle.elements.specs.Elements.{limitOf}
 use Rattle.geometry.proofs.PickLaws.{pick-t, pick-f}
@@ -33,15 +34,15 @@ limit-due-requires c κs = search needs
 
 returns-5 : tie.Need-returns-5
 unfolding dueOf
-returns-5 c = sym (pick-f _ (c .before .before .before .before .before .before .before .before .if1 .left) ∙ pick-f _ (lt-leb _ _ (c .before .before .before .before .before .before .if2 .left)) ∙ pick-f _ (sym (c .before .before .before .before .before .must-confirm .ensures) ∙ c .before .before .before .before .if4 .left) ∙ pick-t _ (le-leb (limitOf (c .before .before .before .before .before .before .before .before .before .before .before .args .self)) (c .before .before .before .before .before .before .before .before .before .before .before .args .self .next .0) (omega (arith, c .before .before .before .limit-due .ensures, c .if5 .taken))))
+returns-5 c = sym (pick-f _ (c .before .before .before .before .before .before .before .before .if1 .left) ∙ pick-f _ (lt-leb _ _ (c .before .before .before .before .before .before .if2 .left)) ∙ pick-f _ (sym (c .before .before .before .before .before .must-confirm .ensures) ∙ c .before .before .before .before .if4 .left) ∙ pick-t _ (le-leb (limitOf (c .before .before .before .before .before .before .before .before .before .before .before .args .self) .0) (c .before .before .before .before .before .before .before .before .before .before .before .args .self .next .0) (omega (arith, ap (λ (a : Address). a .0) (c .before .before .before .limit-due .ensures), c .if5 .taken))))
 
 returns-6 : tie.Need-returns-6
 unfolding dueOf
-returns-6 c = sym (pick-f _ (c .before .before .before .before .before .before .before .before .before .before .if1 .left) ∙ pick-f _ (lt-leb _ _ (c .before .before .before .before .before .before .before .before .if2 .left)) ∙ pick-f _ (sym (c .before .before .before .before .before .before .before .must-confirm .ensures) ∙ c .before .before .before .before .before .before .if4 .left) ∙ pick-f _ (lt-leb (limitOf (c .before .before .before .before .before .before .before .before .before .before .before .before .before .args .self)) (c .before .before .before .before .before .before .before .before .before .before .before .before .before .args .self .next .0) (omega (arith, c .before .before .before .before .before .limit-due .ensures, c .before .before .if5 .left))) ∙ pick-t _ (eq-eqb _ _ (c .if6 .taken)))
+returns-6 c = sym (pick-f _ (c .before .before .before .before .before .before .before .before .before .before .if1 .left) ∙ pick-f _ (lt-leb _ _ (c .before .before .before .before .before .before .before .before .if2 .left)) ∙ pick-f _ (sym (c .before .before .before .before .before .before .before .must-confirm .ensures) ∙ c .before .before .before .before .before .before .if4 .left) ∙ pick-f _ (lt-leb (limitOf (c .before .before .before .before .before .before .before .before .before .before .before .before .before .args .self) .0) (c .before .before .before .before .before .before .before .before .before .before .before .before .before .args .self .next .0) (omega (arith, ap (λ (a : Address). a .0) (c .before .before .before .before .before .limit-due .ensures), c .before .before .if5 .left))) ∙ pick-t _ (eq-eqb _ _ (c .if6 .taken)))
 
 returns-7 : tie.Need-returns-7
 unfolding dueOf
-returns-7 c = sym (pick-f _ (c .before .before .before .before .before .before .before .before .before .before .if1 .left) ∙ pick-f _ (lt-leb _ _ (c .before .before .before .before .before .before .before .before .if2 .left)) ∙ pick-f _ (sym (c .before .before .before .before .before .before .before .must-confirm .ensures) ∙ c .before .before .before .before .before .before .if4 .left) ∙ pick-f _ (lt-leb (limitOf (c .before .before .before .before .before .before .before .before .before .before .before .before .before .args .self)) (c .before .before .before .before .before .before .before .before .before .before .before .before .before .args .self .next .0) (omega (arith, c .before .before .before .before .before .limit-due .ensures, c .before .before .if5 .left))) ∙ pick-f _ (ne-eqb _ _ (c .if6 .left)))
+returns-7 c = sym (pick-f _ (c .before .before .before .before .before .before .before .before .before .before .if1 .left) ∙ pick-f _ (lt-leb _ _ (c .before .before .before .before .before .before .before .before .if2 .left)) ∙ pick-f _ (sym (c .before .before .before .before .before .before .before .must-confirm .ensures) ∙ c .before .before .before .before .before .before .if4 .left) ∙ pick-f _ (lt-leb (limitOf (c .before .before .before .before .before .before .before .before .before .before .before .before .before .args .self) .0) (c .before .before .before .before .before .before .before .before .before .before .before .before .before .args .self .next .0) (omega (arith, ap (λ (a : Address). a .0) (c .before .before .before .before .before .limit-due .ensures), c .before .before .if5 .left))) ∙ pick-f _ (ne-eqb _ _ (c .if6 .left)))
 
 pub due-spec : {M : Type 1} → statement M
 due-spec =

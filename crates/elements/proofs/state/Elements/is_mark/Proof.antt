@@ -1,25 +1,21 @@
--- `elements::state::Elements::is_mark` meets its contract: the place of a mark, computed on remainders, is the definition's. Assumes nothing.
+-- `elements::state::Elements::is_mark` meets its contract: by where a mark stands. Assumes nothing.
+use Prim.Native.Nat.{ℕ}
+use mathlib.Core.Bool.{false}
+use mathlib.Core.Path.{ap}
 use native.Mathlib.Omega.{arith}
-use Rattle.elements.proofs.TrailLaws.{mark-same}
+use borrow.Author.Needs.{needs}
+use lib.ListN.{getD}
 use Rattle.elements.proofs.state.Elements.is_mark.Statement.{statement}
 use Rattle.elements.proofs.state.Elements.is_mark.Tie as tie
 
-cast-at : tie.Need-cast-at
-cast-at c = omega arith
-
-add-at : tie.Need-add-at
-add-at c = omega arith
-
-cast-at-2 : tie.Need-cast-at-2
-cast-at-2 c = omega arith
+mark-place-requires : tie.Need-mark-place-requires
+mark-place-requires c κs = search needs
 
 array-read-result : tie.Need-array-read-result
-array-read-result c = omega arith
+array-read-result c = omega (arith, c .mark-place .ensures)
 
 returns : tie.Need-returns
-returns c =
-    let s = c .before .before .before .args .self in
-    mark-same (s .marks) (s .first .0) (s .outstanding)
+returns c = ap (λ (n : ℕ). getD (c .before .before .args .self .marks) n false) (c .mark-place .ensures)
 
 pub is-mark-spec : {M : Type 1} → statement M
-is-mark-spec = tie.close (tie.spec cast-at add-at cast-at-2 array-read-result returns)
+is-mark-spec = tie.close (tie.spec mark-place-requires array-read-result returns)

@@ -1,4 +1,5 @@
 -- `recording::recording::Recording::fetch` meets its contract: by what the call below promises. Assumes nothing.
+use mathlib.Core.Path.{_∙_}
 use borrow.Author.Needs.{needs}
 use Rattle.recording.proofs.recording.Recording.fetch.Statement.{statement}
 use Rattle.recording.proofs.recording.Recording.fetch.Tie as tie
@@ -13,7 +14,7 @@ same-length : tie.Need-same-length
 same-length c = search needs
 
 returns : tie.Need-returns
-returns c = rw (c .of .ensures .0, c .of .ensures .1) (c .before .before .before .fetch .ensures)
+returns c = c .of .ensures _ ∙ c .before .before .before .fetch .ensures
 
 pub fetch-spec : {M : Type 1} → statement M
 fetch-spec = tie.close (tie.spec fetch-requires of-requires same-length returns)
