@@ -1,10 +1,19 @@
 -- What a refused call leaves. Assumes nothing.
 use Prim.Native.Nat.{ℕ, _≤_}
 use mathlib.Core.Path.{_≡_, refl, ap}
-use mathlib.Core.Bool.{true}
+use mathlib.Core.Bool.{Bool, true, false, _||_}
 use mathlib.Core.List.{List}
 use native.Mathlib.Omega.{arith}
+use lib.Dec.{eqb, ltb}
+use Rattle.geometry.specs.Place as place
+use Rattle.geometry.specs.Place.{PlaceSaid}
+use Rattle.geometry.specs.Cartridge.{lastOf}
+use Rattle.geometry.proofs.PickLaws.{pick-by}
+use Rattle.frame.specs.declared.header.Header.{Header}
+use Rattle.header.specs.Read.{CheckedSaid, valid, refused, readHeader}
+use Rattle.copies.specs.Carried.{openingHeader, isExhausted, renewed}
 use Rattle.drive.specs.declared.reply.Reply.{Reply}
+use Rattle.recording_state.specs.Open.{openWith, openFor, openOf, openBlankFor, openBlankOf}
 use Rattle.recording_state.specs.Session as session
 use Rattle.recording_state.specs.Fetch as fetch
 use Rattle.recording_state.specs.Fetch.{FetchedSaid, fetchOf}
@@ -12,6 +21,7 @@ use Rattle.recording_state.specs.declared.state.State.{State}
 use Rattle.recording_state.proofs.Ended as ended
 use Rattle.recording_state.proofs.FetchView as view
 use Rattle.recording_state.proofs.Refusals.{Leaves, refused-window, refused-block, refused-filemark, refused-close, refused-fetch, refused-reply}
+use Rattle.reading.specs.Open as opening
 use Rattle.reading.specs.Fetch as reading
 use Rattle.reading.specs.Reply as reply
 use Rattle.reading.specs.declared.session.Reading.{Reading}
@@ -19,7 +29,7 @@ use Rattle.reading.proofs.Ended as reading-ended
 use Rattle.reading.proofs.Refusals as read
 use Rattle.archive.specs.Recordings as recordings
 use Rattle.archive.specs.Readings as readings
-use Rattle.archive.specs.Refusals.{lentBy, leftBy, endedFromCall, RefusedCalls}
+use Rattle.archive.specs.Refusals.{lentBy, leftBy, endedFromCall, OpeningsRefused, RefusedCalls}
 
 -- ---- a recording
 
@@ -83,10 +93,42 @@ read-refused-7 : (s : Reading) (c : readings.Call) → s .ended ≡ true → rea
 read-refused-7 s readings.fetching e = ap (λ (x : reading.FetchedSaid). readings.fetchNumber (x .said)) (reading-ended.ended-fetch s e)
 read-refused-7 s (readings.replying r frame) e = ap (λ (x : reply.TakenSaid). readings.replyNumber (x .said)) (reading-ended.ended-reply s e r frame)
 
+-- ---- openings
+
+abbrev Ended : session.OutcomeSaid → Type 0
+Ended r = 1 ≤ r .number → r .session .ended ≡ true
+
+opened-with : (depth window : ℕ) (exhausted : Bool) (h : Header) → Ended (openWith depth window exhausted h)
+unfolding openWith
+opened-with depth window exhausted h =
+    pick-by Ended (eqb depth 0 || (eqb window 0 || ltb 64 window)) (λ _ _. refl)
+    (λ _. pick-by Ended exhausted (λ _ _. refl) (λ _ n. absurd (omega arith)))
+
+opened-for : (c : CheckedSaid) (depth window : ℕ) → Ended (openFor c depth window)
+opened-for (valid old) depth window = opened-with depth window (isExhausted old) (renewed old)
+opened-for (refused n) depth window = λ _. refl
+
+blank-for : (p : PlaceSaid) (depth window : ℕ) → Ended (openBlankFor p depth window)
+blank-for (place.address last) depth window = opened-with depth window false (openingHeader last 1 0)
+blank-for (place.refused n) depth window = λ _. refl
+
+read-opened : (c : CheckedSaid) → 1 ≤ opening.openFor c .number → opening.openFor c .session .ended ≡ true
+read-opened (valid h) l = absurd (omega arith)
+read-opened (refused n) l = refl
+
+openings : OpeningsRefused
+unfolding openOf openBlankOf opening.openOf
+openings = record {
+  recording = λ g depth window h. opened-for (readHeader g h) depth window;
+  blank = λ g depth window. blank-for (lastOf g) depth window;
+  reading = λ g h. read-opened (readHeader g h);
+}
+
 -- ---- both
 
 pub refused-calls : RefusedCalls
 refused-calls = record {
+  openings = openings;
   recording = λ s c. record {
     untouched = left-as-lent s c;
     unchanged = λ l h. leaves s c l .unchanged l h;

@@ -4,10 +4,13 @@ use mathlib.Core.Path.{_≡_}
 use mathlib.Core.Bool.{true}
 use mathlib.Core.List.{List, []}
 use Rattle.recording_state.specs.Session as recording
+use Rattle.geometry.specs.declared.cartridge.Geometry.{Geometry}
+use Rattle.recording_state.specs.Open.{openOf, openBlankOf}
 use Rattle.recording_state.specs.Accept.{blockOf}
 use Rattle.recording_state.specs.Fetch.{fetchOf}
 use Rattle.recording_state.specs.Reply.{endedFrom}
 use Rattle.recording_state.specs.declared.state.State.{State}
+use Rattle.reading.specs.Open as opening
 use Rattle.reading.specs.Session as reading
 use Rattle.reading.specs.declared.session.Reading.{Reading}
 use Rattle.archive.specs.Recordings as recordings
@@ -52,6 +55,13 @@ pub record ReadingRefused (s : Reading) (c : readings.Call) : Type 0 where
   pub ended : 8 ≤ readings.refusal s c → readings.returned s c ≡ reading.endedOf s
   pub only-7 : s .ended ≡ true → readings.refusal s c ≡ 7
 
+-- a refused opening returns a session that has ended, so that only 7 follows
+pub record OpeningsRefused : Type 0 where
+  pub recording : (g : Geometry) (depth window : ℕ) (h : List ℕ) → 1 ≤ openOf g depth window h .number → openOf g depth window h .session .ended ≡ true
+  pub blank : (g : Geometry) (depth window : ℕ) → 1 ≤ openBlankOf g depth window .number → openBlankOf g depth window .session .ended ≡ true
+  pub reading : (g : Geometry) (h : List ℕ) → 1 ≤ opening.openOf g h .number → opening.openOf g h .session .ended ≡ true
+
 pub record RefusedCalls : Type 0 where
+  pub openings : OpeningsRefused
   pub recording : (s : State) (c : recordings.Call) → RecordingRefused s c
   pub reading : (s : Reading) (c : readings.Call) → ReadingRefused s c
