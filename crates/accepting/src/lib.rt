@@ -2,8 +2,8 @@
 mod window;
 
 ghost use mathlib.Core.Path.{_≡_};
-ghost use Rattle.recording_state.specs.Session.{outcomeSaid};
-ghost use Rattle.recording_state.specs.Accept.{isFull, acceptsNone, withElement, filemarkOf, blockSaid, blockOf, closeOf};
+ghost use Rattle.recording_state.specs.State.{outcomeSaid};
+ghost use Rattle.recording_state.specs.Accept.{isFull, acceptsNone, withElement, filemarkOf, storedSaid, blockOf, closeOf};
 use crate::window::put_block;
 use frame::DATA_LENGTH;
 use geometry::Refusal;
@@ -49,7 +49,7 @@ pub fn accept_filemark(s: State) -> Outcome
 
 // Accepts a block and stores it in the window, where it stays until it is known to be on tape.
 pub fn accept_block(s: State, block: &[u8], window: &mut [u8]) -> Outcome
-    ensures { λ r. ⌜ blockSaid r (now (window .exit)) ≡ blockOf s (now (block .entry)) (now (window .entry)) ⌝ }
+    ensures { λ r. ⌜ storedSaid r (now (window .exit)) ≡ blockOf s (now (block .entry)) (now (window .entry)) ⌝ }
 {
     if accepts_none(s) {
         return s.refuse(Refusal::Phase);

@@ -14,7 +14,7 @@ use Rattle.header.specs.Valid.{headerOf}
 use Rattle.header.proofs.Facts.{valid-last}
 use Rattle.judgement.specs.Judgement.{judgeFrame, foundSaid}
 use Rattle.judgement.specs.declared.told.Told.{Told}
-use Rattle.recording_state.specs.Session.{accepting}
+use Rattle.recording_state.specs.State.{accepting}
 use Rattle.recording_state.specs.declared.state.State.{State}
 use Rattle.recording_state.specs.declared.state.Stage.the-variants as S
 use Rattle.archive.specs.Tape.{Tape, Cartridge}

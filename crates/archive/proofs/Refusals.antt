@@ -14,7 +14,7 @@ use Rattle.header.specs.Read.{CheckedSaid, valid, refused, readHeader}
 use Rattle.copies.specs.Carried.{openingHeader, isExhausted, renewed}
 use Rattle.drive.specs.declared.reply.Reply.{Reply}
 use Rattle.recording_state.specs.Open.{openWith, openFor, openOf, openBlankFor, openBlankOf}
-use Rattle.recording_state.specs.Session as session
+use Rattle.recording_state.specs.State as session
 use Rattle.recording_state.specs.Fetch as fetch
 use Rattle.recording_state.specs.Fetch.{FetchedSaid, fetchOf}
 use Rattle.recording_state.specs.declared.state.State.{State}

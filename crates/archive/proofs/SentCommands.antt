@@ -5,7 +5,7 @@ use mathlib.Core.List.{List}
 use Rattle.geometry.proofs.Impossible.{never}
 use Rattle.drive.specs.Command.{commandCode, commandAddress, commandBy, commandFor}
 use Rattle.drive.specs.declared.command.Command.{Command}
-use Rattle.drive.proofs.Cases.{command-by}
+use Rattle.drive.proofs.CaseLaws.{command-by}
 use Rattle.recording_state.specs.Fetch as recording
 use Rattle.recording_state.specs.Fetch.{sending}
 use Rattle.recording_state.specs.declared.state.State.{State}

@@ -12,7 +12,7 @@ use Rattle.geometry.specs.declared.cartridge.Geometry.{Geometry}
 use Rattle.frame.specs.Lengths.{frameLength}
 use Rattle.header.specs.Valid.{headerOf}
 use Rattle.drive.specs.declared.reply.Reply.{Reply}
-use Rattle.recording_state.specs.Session.{OutcomeSaid, accepting}
+use Rattle.recording_state.specs.State.{OutcomeSaid, accepting}
 use Rattle.recording_state.specs.Open.{openOf, openBlankOf}
 use Rattle.recording_state.specs.declared.state.State.{State}
 use Rattle.reading.specs.Open as reading

@@ -15,7 +15,7 @@ use Rattle.frame.specs.declared.element.Kind.the-variants.{Eod}
 use Rattle.frame.specs.declared.header.Header.{Header}
 use Rattle.header.specs.Valid.{headerOf}
 use Rattle.judgement.specs.Judgement.{judgeFrame, foundSaid}
-use Rattle.recording_state.specs.Session.{accepting}
+use Rattle.recording_state.specs.State.{accepting}
 use Rattle.recording_state.specs.declared.state.State.{State}
 use Rattle.recording_state.specs.declared.state.Stage.the-variants as S
 use Rattle.reading.specs.Open.{toldOf}

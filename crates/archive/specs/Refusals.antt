@@ -3,7 +3,7 @@ use Prim.Native.Nat.{ℕ, _≤_}
 use mathlib.Core.Path.{_≡_}
 use mathlib.Core.Bool.{true}
 use mathlib.Core.List.{List, []}
-use Rattle.recording_state.specs.Session as recording
+use Rattle.recording_state.specs.State as recording
 use Rattle.geometry.specs.declared.cartridge.Geometry.{Geometry}
 use Rattle.recording_state.specs.Open.{openOf, openBlankOf}
 use Rattle.recording_state.specs.Accept.{blockOf}

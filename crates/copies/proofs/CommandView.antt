@@ -7,12 +7,12 @@ use native.Mathlib.Omega.{arith}
 use lib.Dec.{ltb}
 use borrow.Author.Tests.{ltb-true, ltb-false}
 use Rattle.geometry.proofs.PickLaws.{pick-by}
-use Rattle.drive.specs.Command.{Sent, write, locate, readPosition}
-use Rattle.copies.specs.declared.state.Copies.{Copies}
+use Rattle.drive.specs.Command.{CommandSaid, write, locate, readPosition}
+use Rattle.copies.specs.declared.copies.Copies.{Copies}
 use Rattle.copies.specs.Copies.{headerAt, commandOf}
 use Rattle.geometry.proofs.TestLaws.{and-false}
 
-pub data CommandView (depth : ℕ) (c : Copies) : Sent → Type 0 where
+pub data CommandView (depth : ℕ) (c : Copies) : CommandSaid → Type 0 where
   locating : c .locate ≡ true → CommandView depth c (locate (headerAt c))
   writing : c .locate ≡ false → c .copy < 5 → c .outstanding < depth → CommandView depth c (write (headerAt c))
   asking : c .locate ≡ false → (5 ≤ c .copy) ⊎ (depth ≤ c .outstanding) → CommandView depth c readPosition
@@ -33,10 +33,10 @@ pub record WriteDue (depth : ℕ) (c : Copies) (a : ℕ) : Type 0 where
   pub room : c .outstanding < depth
   pub place : a ≡ headerAt c
 
-write-in-view : (depth : ℕ) (c : Copies) (a : ℕ) (k : Sent) → CommandView depth c k → k ≡ write a → WriteDue depth c a
-write-in-view depth c a _ (locating t) e = absurd (omega (arith, ap (λ (x : Sent). x .code) e))
-write-in-view depth c a _ (writing f left room) e = record { placed = f; left = left; room = room; place = ap (λ (x : Sent). x .address) (sym e) }
-write-in-view depth c a _ (asking f w) e = absurd (omega (arith, ap (λ (x : Sent). x .code) e))
+write-in-view : (depth : ℕ) (c : Copies) (a : ℕ) (k : CommandSaid) → CommandView depth c k → k ≡ write a → WriteDue depth c a
+write-in-view depth c a _ (locating t) e = absurd (omega (arith, ap (λ (x : CommandSaid). x .code) e))
+write-in-view depth c a _ (writing f left room) e = record { placed = f; left = left; room = room; place = ap (λ (x : CommandSaid). x .address) (sym e) }
+write-in-view depth c a _ (asking f w) e = absurd (omega (arith, ap (λ (x : CommandSaid). x .code) e))
 
 pub write-due : (depth : ℕ) (c : Copies) (a : ℕ) → commandOf depth c ≡ write a → WriteDue depth c a
 write-due depth c a e = write-in-view depth c a (commandOf depth c) (command-view depth c) e

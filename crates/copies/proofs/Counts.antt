@@ -4,7 +4,7 @@ use mathlib.Core.Path.{_≡_}
 use native.Mathlib.Omega.{arith}
 use Rattle.frame.specs.declared.header.Header.{Header}
 use Rattle.drive.specs.Command.{write}
-use Rattle.copies.specs.declared.state.Copies.{Copies}
+use Rattle.copies.specs.declared.copies.Copies.{Copies}
 use Rattle.copies.specs.Copies.{startOf, commandOf, ProgressSaid, more, complete, refused, locatedOf, takenOf, confirmedOf, onwardOf, failedAt, firstAddress, oldestAddress, nextAddress}
 use Rattle.copies.proofs.CommandView.{write-due}
 use Rattle.copies.proofs.ReplyView.{OnwardView, unfinished, turning, unwritten, through, onward-view}

@@ -5,8 +5,8 @@ use mathlib.Core.Bool.{Bool, true, false, false≢true}
 use mathlib.Core.Logic.{_⊎_, ⊎-elim}
 use native.Mathlib.Omega.{arith}
 use Rattle.frame.specs.declared.header.Header.{Header}
-use Rattle.drive.specs.Command.{Sent, write, locate}
-use Rattle.copies.specs.declared.state.Copies.{Copies}
+use Rattle.drive.specs.Command.{CommandSaid, write, locate}
+use Rattle.copies.specs.declared.copies.Copies.{Copies}
 use Rattle.copies.specs.Copies.{startOf, commandOf, ProgressSaid, more, complete, refused, onwardOf, nextAddress}
 use Rattle.copies.proofs.HeaderPlaces.{header-from-first}
 use Rattle.copies.proofs.CommandView.{CommandView, locating, writing, asking, command-view, write-due}
@@ -45,10 +45,10 @@ onward-placed c empty = onward-in-view c (onwardOf c) empty (onward-view c)
 pub write-address : (depth : ℕ) (c : Copies) (a : ℕ) → commandOf depth c ≡ write a → a ≡ nextAddress c
 write-address depth c a e = let due = write-due depth c a e in due .place ∙ header-from-first (c .group) (c .copy) (due .left)
 
-locate-in-view : (depth : ℕ) (c : Copies) (a : ℕ) (k : Sent) → PlacedOf c → CommandView depth c k → k ≡ locate a → a ≡ nextAddress c
-locate-in-view depth c a _ p (locating t) e = ap (λ (x : Sent). x .address) (sym e) ∙ header-from-first (c .group) (c .copy) (p .left t)
-locate-in-view depth c a _ p (writing f left room) e = absurd (omega (arith, ap (λ (x : Sent). x .code) e))
-locate-in-view depth c a _ p (asking f w) e = absurd (omega (arith, ap (λ (x : Sent). x .code) e))
+locate-in-view : (depth : ℕ) (c : Copies) (a : ℕ) (k : CommandSaid) → PlacedOf c → CommandView depth c k → k ≡ locate a → a ≡ nextAddress c
+locate-in-view depth c a _ p (locating t) e = ap (λ (x : CommandSaid). x .address) (sym e) ∙ header-from-first (c .group) (c .copy) (p .left t)
+locate-in-view depth c a _ p (writing f left room) e = absurd (omega (arith, ap (λ (x : CommandSaid). x .code) e))
+locate-in-view depth c a _ p (asking f w) e = absurd (omega (arith, ap (λ (x : CommandSaid). x .code) e))
 
 pub locate-address : (depth : ℕ) (c : Copies) (a : ℕ) → PlacedOf c → commandOf depth c ≡ locate a → a ≡ nextAddress c
 locate-address depth c a p e = locate-in-view depth c a (commandOf depth c) p (command-view depth c) e

@@ -7,7 +7,7 @@ use native.Mathlib.Omega.{arith}
 use lib.Dec.{eqb, ltb, leb}
 use borrow.Author.Tests.{ltb-true, ltb-false, leb-true, leb-false, eqb-true, eqb-false}
 use Rattle.geometry.proofs.PickLaws.{pick-by}
-use Rattle.copies.specs.declared.state.Copies.{Copies}
+use Rattle.copies.specs.declared.copies.Copies.{Copies}
 use Rattle.copies.specs.Copies.{ProgressSaid, more, complete, refused, confirmedOf, nextGroup, onwardOf, countedOf, failedAt, firstAddress, oldestAddress, nextAddress, failedOf}
 use Rattle.geometry.proofs.TestLaws.{or-true, or-false}
 

@@ -7,8 +7,8 @@ use Rattle.geometry.specs.Pick.{pick}
 use Rattle.geometry.specs.Refused.{refusalNumber}
 use Rattle.geometry.specs.Cartridge.{headerAddress}
 use Rattle.frame.specs.declared.header.Header.{Header}
-use Rattle.drive.specs.Command.{Sent, write, locate, readPosition}
-use Rattle.copies.specs.declared.state.Copies.{Copies}
+use Rattle.drive.specs.Command.{CommandSaid, write, locate, readPosition}
+use Rattle.copies.specs.declared.copies.Copies.{Copies}
 use Rattle.copies.specs.declared.reply.Progress.{Progress}
 use Rattle.copies.specs.declared.reply.Progress.the-variants.{More, Complete, Refused}
 
@@ -21,7 +21,7 @@ abbrev pub headerAt : Copies → ℕ
 headerAt c = headerAddress (c .group) (c .copy)
 
 -- the command that is due
-unfoldable pub commandOf : ℕ → Copies → Sent
+unfoldable pub commandOf : ℕ → Copies → CommandSaid
 commandOf depth c =
     pick (c .locate) (locate (headerAt c))
     (pick (ltb (c .copy) 5 && ltb (c .outstanding) depth) (write (headerAt c)) readPosition)

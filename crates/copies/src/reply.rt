@@ -2,7 +2,7 @@
 ghost use mathlib.Core.Path.{_≡_};
 ghost use Prim.Native.Nat.{_-_, _≤_, _<_};
 ghost use Rattle.copies.specs.Copies.{progressSaid, locatedOf, takenOf, confirmedOf, failedAt, nextGroup, onwardOf, countedOf, failedOf};
-use crate::state::Copies;
+use crate::copies::Copies;
 use geometry::Address;
 use geometry::Refusal;
 use geometry::header_address;

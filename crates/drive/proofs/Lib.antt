@@ -1,3 +1,3 @@
 pub mod SenseLaws
-pub mod Cases
+pub mod CaseLaws
 pub mod ListedCases

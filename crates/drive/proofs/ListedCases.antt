@@ -8,7 +8,7 @@ use Rattle.drive.specs.Senses.{meaningOf}
 use Rattle.drive.specs.declared.command.Command.{Command}
 use Rattle.drive.specs.declared.command.Command.the-variants.{Read, Write, Locate, ReadPosition}
 use Rattle.drive.specs.declared.reply.Reply.{Reply}
-use Rattle.drive.proofs.Cases.{case-parts, by-read, by-write, by-locate, by-position}
+use Rattle.drive.proofs.CaseLaws.{case-parts, by-read, by-write, by-locate, by-position}
 
 module _ (c : Command) (r : Reply) (m : ℕ) (low : m < 256) where
   abbrev Here : Type 0

@@ -26,22 +26,22 @@ commandBy code a =
     (pick (eqb code 0x2B) (Locate (record { 0 = a })) ReadPosition))
 
 -- a command as it is sent: operation code and address
-pub record Sent : Type 0 where
+pub record CommandSaid : Type 0 where
   pub code : ℕ
   pub address : ℕ
 
-abbrev pub commandSaid : Command → Sent
+abbrev pub commandSaid : Command → CommandSaid
 commandSaid c = record { code = commandCode c; address = commandAddress c }
 
-abbrev pub commandFor : Sent → Command
+abbrev pub commandFor : CommandSaid → Command
 commandFor x = commandBy (x .code) (x .address)
 
 -- those of a recording
-abbrev pub write : ℕ → Sent
+abbrev pub write : ℕ → CommandSaid
 write a = record { code = 0x0A; address = a }
 
-abbrev pub locate : ℕ → Sent
+abbrev pub locate : ℕ → CommandSaid
 locate a = record { code = 0x2B; address = a }
 
-abbrev pub readPosition : Sent
+abbrev pub readPosition : CommandSaid
 readPosition = record { code = 0x34; address = 0 }

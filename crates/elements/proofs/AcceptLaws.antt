@@ -9,12 +9,12 @@ use lib.Seq.{getD-set-same, getD-set-other}
 use Rattle.geometry.specs.declared.address.Address.{Address}
 use Rattle.geometry.specs.declared.address.Seq.{Seq}
 use Rattle.elements.specs.declared.trail.Trail.{Trail}
-use Rattle.elements.specs.declared.state.Elements.{Elements}
+use Rattle.elements.specs.declared.elements.Elements.{Elements}
 use Rattle.elements.specs.Elements.{acceptedOf, baseOf, isMark}
 use Rattle.elements.specs.Trail.{trailOf, trailBefore}
 
 -- the fields that stay
-pub accepted-same : (e : Elements) (mark : Bool) → (acceptedOf e mark .first ≡ e .first) × (acceptedOf e mark .outstanding ≡ e .outstanding) × (acceptedOf e mark .next ≡ e .next) × (acceptedOf e mark .limit ≡ e .limit) × (acceptedOf e mark .relocate ≡ e .relocate) × (acceptedOf e mark .target ≡ e .target) × (acceptedOf e mark .eod ≡ e .eod) × (acceptedOf e mark .trail ≡ e .trail)
+pub accepted-same : (e : Elements) (mark : Bool) → (acceptedOf e mark .first ≡ e .first) × (acceptedOf e mark .outstanding ≡ e .outstanding) × (acceptedOf e mark .next ≡ e .next) × (acceptedOf e mark .limit ≡ e .limit) × (acceptedOf e mark .locate ≡ e .locate) × (acceptedOf e mark .target ≡ e .target) × (acceptedOf e mark .eod ≡ e .eod) × (acceptedOf e mark .trail ≡ e .trail)
 accepted-same e mark = (refl, refl, refl, refl, refl, refl, refl, refl)
 
 -- two elements less than 64 apart have places of their own

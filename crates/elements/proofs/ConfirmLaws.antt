@@ -9,7 +9,7 @@ use Rattle.geometry.specs.Place.{asAddress}
 use Rattle.geometry.specs.declared.address.Address.{Address}
 use Rattle.geometry.specs.declared.address.Seq.{Seq}
 use Rattle.elements.specs.declared.trail.Trail.{Trail}
-use Rattle.elements.specs.declared.state.Elements.{Elements}
+use Rattle.elements.specs.declared.elements.Elements.{Elements}
 use Rattle.elements.specs.Elements.{numberOf, baseOf, isMark}
 use Rattle.elements.specs.Trail.{trailOf, trailBefore}
 use Rattle.elements.specs.Reply.{confirmedOf}

@@ -8,7 +8,7 @@ use borrow.Author.Tests.{ltb-true, ltb-false, leb-true, leb-false, eqb-true, eqb
 use lib.Dec.{eqb, ltb, leb}
 use Rattle.geometry.proofs.PickLaws.{pick-by}
 use Rattle.drive.specs.Command.{write, locate, readPosition}
-use Rattle.elements.specs.declared.state.Elements.{Elements}
+use Rattle.elements.specs.declared.elements.Elements.{Elements}
 use Rattle.elements.specs.Due.{DueSaid, send, idle, refused, aboveEnd, mustConfirm, dueOf}
 use Rattle.geometry.proofs.TestLaws.{or-true, or-false, either-left, either-right, and-true, not-both}
 
@@ -18,18 +18,18 @@ Waits depth e = (depth ≤ e .outstanding) ⊎ ((0 < e .outstanding) × ((e .nex
 
 pub data DueView (depth : ℕ) (e : Elements) : DueSaid → Type 0 where
   -- 1
-  relocating : e .relocate ≡ true → DueView depth e (send (locate (e .target .0)))
+  relocating : e .locate ≡ true → DueView depth e (send (locate (e .target .0)))
   -- 2
-  resting : e .relocate ≡ false → e .pending ≤ e .outstanding → e .outstanding ≡ 0 → DueView depth e idle
-  settling : e .relocate ≡ false → e .pending ≤ e .outstanding → 0 < e .outstanding → DueView depth e (send readPosition)
+  resting : e .locate ≡ false → e .pending ≤ e .outstanding → e .outstanding ≡ 0 → DueView depth e idle
+  settling : e .locate ≡ false → e .pending ≤ e .outstanding → 0 < e .outstanding → DueView depth e (send readPosition)
   -- 3
-  confirming : e .relocate ≡ false → e .outstanding < e .pending → Waits depth e → DueView depth e (send readPosition)
+  confirming : e .locate ≡ false → e .outstanding < e .pending → Waits depth e → DueView depth e (send readPosition)
   -- 4
-  full : e .relocate ≡ false → e .outstanding < e .pending → e .outstanding ≡ 0 → e .limit .0 ≤ e .next .0 → DueView depth e (refused 9)
+  full : e .locate ≡ false → e .outstanding < e .pending → e .outstanding ≡ 0 → e .limit .0 ≤ e .next .0 → DueView depth e (refused 9)
   -- 5
-  jumping : e .relocate ≡ false → e .outstanding < e .pending → e .outstanding ≡ 0 → e .next .0 < e .limit .0 → e .next .0 ≡ 2990 → DueView depth e (send (locate 3000))
+  jumping : e .locate ≡ false → e .outstanding < e .pending → e .outstanding ≡ 0 → e .next .0 < e .limit .0 → e .next .0 ≡ 2990 → DueView depth e (send (locate 3000))
   -- 6
-  writing : e .relocate ≡ false → e .outstanding < e .pending → e .outstanding < depth → e .next .0 < e .limit .0 → (e .next .0 ≡ 2990 → ⊥) → DueView depth e (send (write (e .next .0)))
+  writing : e .locate ≡ false → e .outstanding < e .pending → e .outstanding < depth → e .next .0 < e .limit .0 → (e .next .0 ≡ 2990 → ⊥) → DueView depth e (send (write (e .next .0)))
 
 module _ (depth : ℕ) (e : Elements) where
   -- the next address is 2,990 or above END
@@ -53,7 +53,7 @@ module _ (depth : ℕ) (e : Elements) where
   pub due-view : DueView depth e (dueOf depth e)
   unfolding dueOf
   due-view =
-      pick-by (DueView depth e) (e .relocate) relocating
+      pick-by (DueView depth e) (e .locate) relocating
       (λ r. pick-by (DueView depth e) (leb (e .pending) (e .outstanding))
       (λ p. pick-by (DueView depth e) (eqb (e .outstanding) 0) (λ z. resting r (leb-true _ _ p) (eqb-true _ _ z)) (λ z. settling r (leb-true _ _ p) (omega (arith, eqb-false (e .outstanding) 0 z))))
       (λ p. pick-by (DueView depth e) (mustConfirm depth e) (λ c. confirming r (leb-false _ _ p) (why-confirm c))

@@ -7,7 +7,7 @@ use Rattle.geometry.specs.Place.{asAddress}
 use Rattle.geometry.specs.declared.address.Address.{Address}
 use Rattle.geometry.specs.WriteError.{targetAddress}
 use Rattle.geometry.proofs.PickLaws.{pick-by}
-use Rattle.elements.specs.declared.state.Elements.{Elements}
+use Rattle.elements.specs.declared.elements.Elements.{Elements}
 use Rattle.elements.specs.Elements.{baseOf, limitOf}
 use Rattle.elements.specs.Reply.{SteppedSaid, kept, refusing, confirmedOf, notedOf, fullOf, failedTo, countedOf, failedOf}
 

@@ -5,14 +5,14 @@ use lib.Dec.{eqb, ltb, leb}
 use Rattle.geometry.specs.Pick.{pick}
 use Rattle.geometry.specs.Refused.{refusalNumber}
 use Rattle.geometry.specs.Cartridge.{secondGroup, secondUser}
-use Rattle.drive.specs.Command.{Sent, commandSaid, write, locate, readPosition}
-use Rattle.elements.specs.declared.state.Elements.{Elements}
+use Rattle.drive.specs.Command.{CommandSaid, commandSaid, write, locate, readPosition}
+use Rattle.elements.specs.declared.elements.Elements.{Elements}
 use Rattle.elements.specs.Elements.{limitOf}
 use Rattle.elements.specs.declared.due.Due.{Due}
 use Rattle.elements.specs.declared.due.Due.the-variants as D
 
 pub data DueSaid : Type 0 where
-  send : Sent → DueSaid
+  send : CommandSaid → DueSaid
   idle : DueSaid
   refused : ℕ → DueSaid
 
@@ -32,7 +32,7 @@ mustConfirm depth e = leb depth (e .outstanding) || (ltb 0 (e .outstanding) && (
 unfoldable pub dueOf : ℕ → Elements → DueSaid
 dueOf depth e =
     -- 1: a write error is noted: LOCATE its target
-    pick (e .relocate) (send (locate (e .target .0)))
+    pick (e .locate) (send (locate (e .target .0)))
     -- 2: nothing due: READ POSITION if any is outstanding, else idle
     (pick (leb (e .pending) (e .outstanding)) (pick (eqb (e .outstanding) 0) idle (send readPosition))
     -- 3

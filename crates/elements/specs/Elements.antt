@@ -11,7 +11,7 @@ use Rattle.geometry.specs.declared.address.Seq.{Seq}
 use Rattle.frame.specs.declared.element.Kind.{Kind}
 use Rattle.frame.specs.declared.element.Kind.the-variants as K
 use Rattle.elements.specs.declared.trail.Trail.{Trail}
-use Rattle.elements.specs.declared.state.Elements.{Elements}
+use Rattle.elements.specs.declared.elements.Elements.{Elements}
 
 -- before the first element: its address, number and trail are given. The LOCATE of that address comes first, as rule 1's of a target.
 -- limit is END + 1, the address at which 0D/00/02 came; END starts as LAST
@@ -22,7 +22,7 @@ startOf last a number trail = record {
   outstanding = 0;
   next = a;
   limit = asAddress ((last .0 + 1) % 2 ^ 32);
-  relocate = true;
+  locate = true;
   target = a;
   eod = false;
   trail = trail;
@@ -41,7 +41,7 @@ acceptedOf e mark = record {
   outstanding = e .outstanding;
   next = e .next;
   limit = e .limit;
-  relocate = e .relocate;
+  locate = e .locate;
   target = e .target;
   eod = e .eod;
   trail = e .trail;
@@ -56,7 +56,7 @@ withEod e = record {
   outstanding = e .outstanding;
   next = e .next;
   limit = e .limit;
-  relocate = e .relocate;
+  locate = e .locate;
   target = e .target;
   eod = true;
   trail = e .trail;

@@ -8,7 +8,7 @@ use Rattle.geometry.specs.Refused.{verdictNumber}
 use Rattle.geometry.specs.Place as place
 use Rattle.geometry.specs.WriteError.{targetAddress, targetOf}
 use Rattle.geometry.specs.declared.address.Address.{Address}
-use Rattle.elements.specs.declared.state.Elements.{Elements}
+use Rattle.elements.specs.declared.elements.Elements.{Elements}
 use Rattle.elements.specs.declared.reply.Stepped.{Stepped}
 use Rattle.elements.specs.Elements.{numberOf, baseOf, limitOf}
 use Rattle.elements.specs.Trail.{trailOf}
@@ -29,11 +29,11 @@ refusing e n = record { elements = e; number = n }
 
 -- a LOCATE answered good: writing goes on at its address
 abbrev pub locatedOf : Elements → Address → Elements
-locatedOf e a = record { first = e .first; pending = e .pending; outstanding = e .outstanding; next = a; limit = e .limit; relocate = false; target = e .target; eod = e .eod; trail = e .trail; marks = e .marks }
+locatedOf e a = record { first = e .first; pending = e .pending; outstanding = e .outstanding; next = a; limit = e .limit; locate = false; target = e .target; eod = e .eod; trail = e .trail; marks = e .marks }
 
 -- a WRITE answered good: the frame is outstanding
 abbrev pub takenOf : Elements → Elements
-takenOf e = record { first = e .first; pending = e .pending; outstanding = (e .outstanding + 1) % 2 ^ 16; next = asAddress ((e .next .0 + 1) % 2 ^ 32); limit = e .limit; relocate = e .relocate; target = e .target; eod = e .eod; trail = e .trail; marks = e .marks }
+takenOf e = record { first = e .first; pending = e .pending; outstanding = (e .outstanding + 1) % 2 ^ 16; next = asAddress ((e .next .0 + 1) % 2 ^ 32); limit = e .limit; locate = e .locate; target = e .target; eod = e .eod; trail = e .trail; marks = e .marks }
 
 -- the oldest n are on tape
 unfoldable pub confirmedOf : Elements → ℕ → Elements
@@ -43,7 +43,7 @@ confirmedOf e n = record {
   outstanding = e .outstanding - n;
   next = e .next;
   limit = e .limit;
-  relocate = e .relocate;
+  locate = e .locate;
   target = e .target;
   eod = e .eod;
   trail = trailOf (e .trail) (e .marks) (e .first) (baseOf e) n;
@@ -52,7 +52,7 @@ confirmedOf e n = record {
 
 -- all that the drive had taken is due again, and a LOCATE of the target comes first
 abbrev pub relocatedOf : Elements → Address → Elements
-relocatedOf e t = record { first = e .first; pending = e .pending; outstanding = 0; next = e .next; limit = e .limit; relocate = true; target = t; eod = e .eod; trail = e .trail; marks = e .marks }
+relocatedOf e t = record { first = e .first; pending = e .pending; outstanding = 0; next = e .next; limit = e .limit; locate = true; target = t; eod = e .eod; trail = e .trail; marks = e .marks }
 
 -- READ POSITION answered good, with f frames still buffered: outstanding becomes f, oldest confirmed first
 unfoldable pub countedOf : Elements → ℕ → SteppedSaid
@@ -80,4 +80,4 @@ failedOf e p skip =
 
 -- volume overflow on a WRITE at a: END becomes a − 1
 abbrev pub overflowedOf : Elements → Address → Elements
-overflowedOf e a = record { first = e .first; pending = e .pending; outstanding = e .outstanding; next = e .next; limit = a; relocate = e .relocate; target = e .target; eod = e .eod; trail = e .trail; marks = e .marks }
+overflowedOf e a = record { first = e .first; pending = e .pending; outstanding = e .outstanding; next = e .next; limit = a; locate = e .locate; target = e .target; eod = e .eod; trail = e .trail; marks = e .marks }

@@ -8,7 +8,7 @@ use Rattle.geometry.specs.Pick.{pick}
 use Rattle.geometry.specs.declared.address.Address.{Address}
 use Rattle.geometry.specs.declared.address.Seq.{Seq}
 use Rattle.elements.specs.declared.trail.Trail.{Trail}
-use Rattle.elements.specs.declared.state.Elements.{Elements}
+use Rattle.elements.specs.declared.elements.Elements.{Elements}
 use Rattle.elements.specs.Elements.{baseOf}
 
 -- before the first element of a fresh recording: no filemark

@@ -1,7 +1,7 @@
 // The six rules: what is due for elements and EOD.
 ghost use mathlib.Core.Path.{_≡_};
 ghost use Rattle.elements.specs.Due.{dueSaid, mustConfirm, dueOf};
-use crate::state::Elements;
+use crate::elements::Elements;
 use drive::Command;
 use geometry::Address;
 use geometry::Refusal;
@@ -32,7 +32,7 @@ impl Elements {
     {
         let target = self.target;
         let next = self.next;
-        if self.relocate {
+        if self.locate {
             return Due::Send(Command::Locate(target));
         }
         if self.pending <= self.outstanding {

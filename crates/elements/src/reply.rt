@@ -4,7 +4,7 @@ ghost use Prim.Native.Nat.{_-_, _≤_, _<_};
 ghost use Rattle.geometry.specs.Refused.{refusalNumber};
 ghost use Rattle.elements.specs.Elements.{baseOf};
 ghost use Rattle.elements.specs.Reply.{steppedSaid, kept, refusing, locatedOf, takenOf, confirmedOf, relocatedOf, notedOf, countedOf, failedOf, overflowedOf};
-use crate::state::Elements;
+use crate::elements::Elements;
 use crate::trail::trail_after;
 use geometry::Address;
 use geometry::Place;
@@ -45,7 +45,7 @@ impl Elements {
     {
         Elements {
             next: a,
-            relocate: false,
+            locate: false,
             ..self
         }
     }
@@ -86,7 +86,7 @@ impl Elements {
     {
         Elements {
             outstanding: 0,
-            relocate: true,
+            locate: true,
             target: t,
             ..self
         }

@@ -5,7 +5,7 @@ ghost use mathlib.Core.List.{List};
 ghost use lib.ListN.{length};
 ghost use Rattle.geometry.specs.Refused.{refusalNumber};
 ghost use Rattle.frame.specs.Lengths.{frameLength};
-ghost use Rattle.recording_state.specs.Session.{windowLength};
+ghost use Rattle.recording_state.specs.State.{windowLength};
 ghost use Rattle.recording_state.specs.Due.{decisionSaid, headerDue, elementDue, decisionOf};
 ghost use Rattle.recording_state.specs.Fetch.{fetchedSaid, sending, fetchRefused, fetchOf};
 use drive::Command;

@@ -4,7 +4,7 @@ mod window;
 ghost use mathlib.Core.Path.{_≡_};
 ghost use lib.ListN.{length};
 ghost use Rattle.frame.specs.Lengths.{frameLength};
-ghost use Rattle.recording_state.specs.Session.{windowLength};
+ghost use Rattle.recording_state.specs.State.{windowLength};
 ghost use Rattle.recording_state.specs.Written.{elementOf, elementPlace, writtenElement, writtenHeader, writtenFrame};
 use crate::window::block_at;
 use frame::Element;

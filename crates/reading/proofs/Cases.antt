@@ -4,7 +4,7 @@ use mathlib.Core.Path.{_≡_}
 use Rattle.drive.specs.Command.{commandCode}
 use Rattle.drive.specs.Senses.{meaningOf}
 use Rattle.drive.specs.declared.reply.Reply.{Reply}
-use Rattle.drive.proofs.Cases as cases
+use Rattle.drive.proofs.CaseLaws as cases
 use Rattle.reading.specs.declared.session.Reading.{Reading}
 use Rattle.reading.specs.Reply.{caseOf}
 

@@ -1,1 +1,1 @@
-pub mod Session
+pub mod Recording

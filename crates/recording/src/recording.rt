@@ -2,13 +2,13 @@
 ghost use Prim.Native.Nat.{ℕ};
 ghost use mathlib.Core.List.{List};
 ghost use mathlib.Core.Path.{_≡_};
-ghost use Rattle.recording_state.specs.Session as state;
+ghost use Rattle.recording_state.specs.State as state;
 ghost use Rattle.recording_state.specs.Open.{openOf, openBlankOf};
 ghost use Rattle.recording_state.specs.Accept.{filemarkOf, blockOf, closeOf};
 ghost use Rattle.recording_state.specs.Fetch as fetch;
 ghost use Rattle.recording_state.specs.Fetch.{fetchOf};
 ghost use Rattle.recording_state.specs.Reply.{replyOf};
-ghost use Rattle.recording.specs.Session.{outcomeSaid, blockSaid, fetchedSaid};
+ghost use Rattle.recording.specs.Recording.{outcomeSaid, storedSaid, fetchedSaid};
 use drive::Reply;
 use geometry::Geometry;
 use geometry::Verdict;
@@ -83,7 +83,7 @@ impl Recording {
 
     // Accepts a block and stores it in the window, where it stays until it is known to be on tape.
     pub fn accept_block(self, block: &[u8], window: &mut [u8]) -> Outcome
-        ensures { λ r. ⌜ blockSaid r (now (window .exit)) ≡ blockOf (self .state) (now (block .entry)) (now (window .entry)) ⌝ }
+        ensures { λ r. ⌜ storedSaid r (now (window .exit)) ≡ blockOf (self .state) (now (block .entry)) (now (window .entry)) ⌝ }
     {
         let s = self.state;
         Outcome::of(accepting::accept_block(s, block, window))

@@ -6,7 +6,7 @@ use Prim.Native.Nat.{ℕ}
 use Rattle.geometry.proofs.PickLaws.{pick-t}
 use Rattle.drive.specs.declared.reply.Reply.{Reply}
 use Rattle.recording_state.specs.declared.state.State.{State}
-use Rattle.recording_state.specs.Session.{refusing}
+use Rattle.recording_state.specs.State.{refusing}
 use Rattle.recording_state.specs.Accept.{filemarkOf, blockOf, closeOf}
 use Rattle.recording_state.specs.Fetch.{refused, fetchOf}
 use Rattle.recording_state.specs.Reply.{replyOf}

@@ -8,15 +8,15 @@ use lib.Dec.{eqb}
 use lib.ListN.{length}
 use borrow.Author.Tests.{eq-eqb, ne-eqb, eqb-true, eqb-false}
 use Rattle.geometry.proofs.PickLaws.{pick-t, pick-f, pick-by}
-use Rattle.drive.specs.Command.{Sent, commandFor}
+use Rattle.drive.specs.Command.{CommandSaid, commandFor}
 use Rattle.copies.specs.Copies as copies
 use Rattle.elements.specs.Due as due
 use Rattle.geometry.proofs.TestLaws.{or-true, or-false, and-true, and-false}
 use Rattle.recording_state.specs.declared.state.State.{State}
 use Rattle.recording_state.specs.declared.state.Stage.{Stage}
 use Rattle.recording_state.specs.declared.state.Stage.the-variants as S
-use Rattle.recording_state.specs.Session.{windowLength, endedOf}
-use Rattle.recording_state.specs.Due.{Decision, elementDueBy, decisionBy, decisionOf}
+use Rattle.recording_state.specs.State.{windowLength, endedOf}
+use Rattle.recording_state.specs.Due.{DecisionSaid, elementDueBy, decisionBy, decisionOf}
 use Rattle.recording_state.specs.Fetch.{idle, done, refused, FetchedSaid, sending, answering, fetchOf}
 use Rattle.recording_state.proofs.Stages.{HeaderStage, ElementStage}
 
@@ -35,7 +35,7 @@ pub data FetchView (s : State) (window frame : List ℕ) : FetchedSaid → Type 
   wrongLength : s .ended ≡ false → s .exchange .awaiting ≡ false → WrongLength s window frame → FetchView s window frame (record { session = s; said = refused 1; frame = frame })
   repeating : Ready s window frame → s .exchange .again ≡ true → FetchView s window frame (sending s (s .exchange .command) window frame)
   copying : Ready s window frame → s .exchange .again ≡ false → HeaderStage s → FetchView s window frame (sending s (commandFor (copies.commandOf (s .setup .depth) (s .copies))) window frame)
-  stepping : Ready s window frame → s .exchange .again ≡ false → ElementStage s → (x : Sent) → due.dueOf (s .setup .depth) (s .elements) ≡ due.send x → FetchView s window frame (sending s (commandFor x) window frame)
+  stepping : Ready s window frame → s .exchange .again ≡ false → ElementStage s → (x : CommandSaid) → due.dueOf (s .setup .depth) (s .elements) ≡ due.send x → FetchView s window frame (sending s (commandFor x) window frame)
   resting : Ready s window frame → s .exchange .again ≡ false → ElementStage s → due.dueOf (s .setup .depth) (s .elements) ≡ due.idle → FetchView s window frame (record { session = s; said = idle; frame = frame })
   stopping : Ready s window frame → s .exchange .again ≡ false → ElementStage s → (n : ℕ) → due.dueOf (s .setup .depth) (s .elements) ≡ due.refused n → FetchView s window frame (record { session = endedOf s; said = refused n; frame = frame })
   finished : Ready s window frame → s .exchange .again ≡ false → s .stage ≡ S.Done → FetchView s window frame (record { session = s; said = done; frame = frame })
@@ -57,7 +57,7 @@ module _ (s : State) (window frame : List ℕ) where
       pick-f _ f
       ∙ pick-f _ (⊎-elim (λ w. not-first (eqb (length frame) 33280) (ne-eqb _ _ w)) (λ w. not-second (eqb (length window) (windowLength s)) (ne-eqb _ _ w)) wrong)
 
-  pub fetch-decided : s .ended || s .exchange .awaiting ≡ false → length window ≡ windowLength s → length frame ≡ 33280 → {d : Decision} → decisionOf s ≡ d → fetchOf s window frame ≡ answering d s window frame
+  pub fetch-decided : s .ended || s .exchange .awaiting ≡ false → length window ≡ windowLength s → length frame ≡ 33280 → {d : DecisionSaid} → decisionOf s ≡ d → fetchOf s window frame ≡ answering d s window frame
   unfolding fetchOf
   fetch-decided f w g e =
       pick-f _ f ∙ pick-t _ (both (eq-eqb _ _ w) (eq-eqb _ _ g)) ∙ ap (λ d. answering d s window frame) e

@@ -17,8 +17,8 @@ use Rattle.recording_state.specs.declared.state.State.{State}
 use Rattle.recording_state.specs.declared.state.Setup.{Setup}
 use Rattle.recording_state.specs.declared.state.Stage.{Stage}
 use Rattle.recording_state.specs.declared.state.Stage.the-variants.{OpeningHeaders, Elements, ClosingHeaders, Done}
-use Rattle.recording_state.specs.Session.{windowLength, OutcomeSaid, closedOf, settledBy, settledOf}
-use Rattle.recording_state.specs.Accept.{acceptsNone, isFull, filemarkOf, Stored, blockOf, closeOf}
+use Rattle.recording_state.specs.State.{windowLength, OutcomeSaid, closedOf, settledBy, settledOf}
+use Rattle.recording_state.specs.Accept.{acceptsNone, isFull, filemarkOf, StoredSaid, blockOf, closeOf}
 
 -- the sizes, the command in flight, and the elements as the drive knows them
 pub record Held : Type 0 where
@@ -28,7 +28,7 @@ pub record Held : Type 0 where
   pub outstanding : ℕ
   pub next : Address
   pub limit : Address
-  pub relocate : Bool
+  pub locate : Bool
   pub target : Address
   pub trail : Trail
 
@@ -40,7 +40,7 @@ heldOf s = record {
   outstanding = s .elements .outstanding;
   next = s .elements .next;
   limit = s .elements .limit;
-  relocate = s .elements .relocate;
+  locate = s .elements .locate;
   target = s .elements .target;
   trail = s .elements .trail;
 }
@@ -55,7 +55,7 @@ filemark-keeps s =
     pick-by (Same s) (acceptsNone s) (λ _. (refl, refl))
     (λ _. pick-by (Same s) (isFull s) (λ _. (refl, refl)) (λ _. (refl, refl)))
 
-abbrev SameStored : State → Stored → Type 0
+abbrev SameStored : State → StoredSaid → Type 0
 SameStored s r = Same s (r .result)
 
 pub block-keeps : (s : State) (block window : List ℕ) → Same s (blockOf s block window .result)

@@ -25,7 +25,7 @@ use Rattle.copies.proofs.ReplyView as copying
 use Rattle.elements.specs.Elements.{baseOf}
 use Rattle.elements.specs.Reply as reply
 use Rattle.elements.proofs.ReplyView as steps
-use Rattle.recording_state.specs.Session.{OutcomeSaid}
+use Rattle.recording_state.specs.State.{OutcomeSaid}
 use Rattle.recording_state.specs.Reply.{headerReplyBy, elementReplyBy, stageReply, caseOf, replyOf}
 use Rattle.recording_state.specs.declared.state.State.{State}
 use Rattle.recording_state.proofs.Stages.{HeaderStage, ElementStage, header-not-done, element-not-done}

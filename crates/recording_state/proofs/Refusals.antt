@@ -14,16 +14,16 @@ use Rattle.drive.specs.declared.reply.Reply.{Reply}
 use Rattle.drive.specs.Command.{commandFor}
 use Rattle.drive.specs.declared.command.Command.{Command}
 use Rattle.copies.specs.Copies as copies
-use Rattle.copies.specs.declared.state.Copies.{Copies}
+use Rattle.copies.specs.declared.copies.Copies.{Copies}
 use Rattle.copies.proofs.ReplyView as copying
 use Rattle.elements.specs.Due as due
-use Rattle.elements.specs.declared.state.Elements.{Elements}
+use Rattle.elements.specs.declared.elements.Elements.{Elements}
 use Rattle.elements.specs.Reply as reply
 use Rattle.elements.proofs.DueView as dues
 use Rattle.elements.proofs.ReplyView as steps
 use Rattle.recording_state.specs.declared.state.State.{State}
-use Rattle.recording_state.specs.Session.{windowLength, OutcomeSaid, ending, endedOf, withElements}
-use Rattle.recording_state.specs.Accept.{acceptsNone, isFull, filemarkOf, Stored, blockOf, closeOf}
+use Rattle.recording_state.specs.State.{windowLength, OutcomeSaid, ending, endedOf, withElements}
+use Rattle.recording_state.specs.Accept.{acceptsNone, isFull, filemarkOf, StoredSaid, blockOf, closeOf}
 use Rattle.recording_state.specs.Fetch.{refused, FetchedSaid, sending, fetchOf}
 use Rattle.recording_state.specs.Reply.{headerReplyBy, elementReplyBy, stageReply, replyOf, endedFrom}
 use Rattle.recording_state.proofs.FetchView as fetching
@@ -110,7 +110,7 @@ module _ (s : State) where
       pick-by Left (acceptsNone s) (λ _. unchanged-by 7 (omega arith))
       (λ _. pick-by Left (isFull s) (λ _. unchanged-by 6 (omega arith)) (λ _. accepted-by))
 
-  abbrev LeftStored : Stored → Type 0
+  abbrev LeftStored : StoredSaid → Type 0
   LeftStored r = Left (r .result)
 
   pub refused-block : (block window : List ℕ) → LeftStored (blockOf s block window)
@@ -122,7 +122,7 @@ module _ (s : State) where
       (λ _. unchanged-by 1 (omega arith)))
 
   -- and it leaves the window as it was lent
-  abbrev Untouched : List ℕ → Stored → Type 0
+  abbrev Untouched : List ℕ → StoredSaid → Type 0
   Untouched window r = 1 ≤ r .result .number → r .window ≡ window
 
   pub refused-window : (block window : List ℕ) → Untouched window (blockOf s block window)

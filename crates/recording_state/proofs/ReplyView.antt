@@ -14,7 +14,7 @@ use Rattle.elements.specs.Reply as reply
 use Rattle.recording_state.specs.declared.state.State.{State}
 use Rattle.recording_state.specs.declared.state.Stage.{Stage}
 use Rattle.recording_state.specs.declared.state.Stage.the-variants as S
-use Rattle.recording_state.specs.Session.{OutcomeSaid, accepting, refusing, ending}
+use Rattle.recording_state.specs.State.{OutcomeSaid, accepting, refusing, ending}
 use Rattle.recording_state.specs.Reply.{repeatedOf, headerReplyBy, elementReplyBy, stageReplyBy, stageReply, locatedOf, takenOf, countedOf, failedOf, overflowedOf, replyBy, caseOf, replyOf}
 use Rattle.recording_state.proofs.Stages.{HeaderStage, ElementStage}
 

@@ -9,7 +9,7 @@ use Rattle.frame.specs.Lengths.{dataLength}
 use Rattle.elements.specs.Elements as elements
 use Rattle.recording_state.specs.declared.state.State.{State}
 use Rattle.recording_state.specs.declared.state.Outcome.{Outcome}
-use Rattle.recording_state.specs.Session.{windowOf, windowLength, OutcomeSaid, outcomeSaid, accepting, refusing, withElements, closedOf, settledOf}
+use Rattle.recording_state.specs.State.{windowOf, windowLength, OutcomeSaid, outcomeSaid, accepting, refusing, withElements, closedOf, settledOf}
 use Rattle.recording_state.specs.Window.{putBlock}
 
 -- refusal 7: the session has ended, or close was called
@@ -35,14 +35,14 @@ abbrev pub placeOf : State → ℕ
 placeOf s = elements.numberOf (s .elements) (s .elements .pending) .0 % windowOf s
 
 -- a call's result, and the window that it leaves
-pub record Stored : Type 0 where
+pub record StoredSaid : Type 0 where
   pub result : OutcomeSaid
   pub window : List ℕ
 
-abbrev pub blockSaid : Outcome → List ℕ → Stored
-blockSaid r window = record { result = outcomeSaid r; window = window }
+abbrev pub storedSaid : Outcome → List ℕ → StoredSaid
+storedSaid r window = record { result = outcomeSaid r; window = window }
 
-unfoldable pub blockOf : State → List ℕ → List ℕ → Stored
+unfoldable pub blockOf : State → List ℕ → List ℕ → StoredSaid
 blockOf s block window =
     pick (acceptsNone s) (record { result = refusing s 7; window = window })
     (pick (eqb (length block) dataLength && eqb (length window) (windowLength s))

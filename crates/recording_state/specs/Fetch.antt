@@ -15,7 +15,7 @@ use Rattle.recording_state.specs.declared.state.State.{State}
 use Rattle.recording_state.specs.declared.state.Fetched.{Fetched}
 use Rattle.recording_state.specs.declared.state.Answer.{Answer}
 use Rattle.recording_state.specs.declared.state.Answer.the-variants as A
-use Rattle.recording_state.specs.Session.{windowLength, endedOf, withExchange}
+use Rattle.recording_state.specs.State.{windowLength, endedOf, withExchange}
 use Rattle.recording_state.specs.Due as due
 use Rattle.recording_state.specs.Due.{decisionOf}
 use Rattle.recording_state.specs.Written.{writtenFrame}
@@ -65,7 +65,7 @@ abbrev pub fetchRefused : State → ℕ → List ℕ → FetchedSaid
 fetchRefused s n frame = record { session = s; said = refused n; frame = frame }
 
 -- idle and done await no reply; a refusal here is 9 and ends the session
-abbrev pub answering : due.Decision → State → List ℕ → List ℕ → FetchedSaid
+abbrev pub answering : due.DecisionSaid → State → List ℕ → List ℕ → FetchedSaid
 answering (due.send c) s window frame = sending s c window frame
 answering due.idle s window frame = record { session = s; said = idle; frame = frame }
 answering due.done s window frame = record { session = s; said = done; frame = frame }

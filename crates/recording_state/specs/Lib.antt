@@ -1,4 +1,4 @@
-pub mod Session
+pub mod State
 pub mod Open
 pub mod Window
 pub mod Accept

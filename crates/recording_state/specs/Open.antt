@@ -17,7 +17,7 @@ use Rattle.elements.specs.Elements as elements
 use Rattle.elements.specs.Trail.{noTrail}
 use Rattle.recording_state.specs.declared.state.State.{State}
 use Rattle.recording_state.specs.declared.state.Stage.the-variants as S
-use Rattle.recording_state.specs.Session.{OutcomeSaid, accepting, ending}
+use Rattle.recording_state.specs.State.{OutcomeSaid, accepting, ending}
 
 -- a session whose opening headers are due, and behind them its elements, from address 10 and number 0 on; highest is W − 1
 abbrev pub fresh : ℕ → ℕ → Header → State

@@ -15,7 +15,7 @@ use Rattle.elements.specs.Reply as reply
 use Rattle.recording_state.specs.declared.state.State.{State}
 use Rattle.recording_state.specs.declared.state.Stage.{Stage}
 use Rattle.recording_state.specs.declared.state.Stage.the-variants as S
-use Rattle.recording_state.specs.Session.{OutcomeSaid, accepting, refusing, ending, followingOf, withStage, withExchange, withCopies, withElements, settledOf}
+use Rattle.recording_state.specs.State.{OutcomeSaid, accepting, refusing, ending, followingOf, withStage, withExchange, withCopies, withElements, settledOf}
 
 -- the reply is taken in
 abbrev pub answeredOf : State → State

@@ -11,7 +11,7 @@ use Rattle.elements.specs.Trail.{trailBefore}
 use Rattle.recording_state.specs.declared.state.State.{State}
 use Rattle.recording_state.specs.declared.state.Stage.{Stage}
 use Rattle.recording_state.specs.declared.state.Stage.the-variants as S
-use Rattle.recording_state.specs.Session.{windowOf}
+use Rattle.recording_state.specs.State.{windowOf}
 use Rattle.recording_state.specs.Window.{blockAt}
 
 -- the next element to be written, or EOD, its AUX for the present position of the latest marker

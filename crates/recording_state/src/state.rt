@@ -2,7 +2,7 @@
 ghost use mathlib.Core.Path.{_≡_};
 ghost use Rattle.geometry.specs.Refused.{refusalNumber};
 ghost use Rattle.recording_state.specs.Reply.{completedOf};
-ghost use Rattle.recording_state.specs.Session.{followingOf, windowOf, outcomeSaid, accepting, refusing, ending, eodDue, closingStarted, settledOf};
+ghost use Rattle.recording_state.specs.State.{followingOf, windowOf, outcomeSaid, accepting, refusing, ending, eodDue, closingStarted, settledOf};
 use copies::Copies;
 use copies::closing_header;
 use drive::Command;

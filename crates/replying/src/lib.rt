@@ -2,7 +2,7 @@
 ghost use mathlib.Core.Path.{_≡_};
 ghost use Rattle.copies.specs.Copies.{progressSaid};
 ghost use Rattle.elements.specs.Reply.{steppedSaid};
-ghost use Rattle.recording_state.specs.Session.{outcomeSaid};
+ghost use Rattle.recording_state.specs.State.{outcomeSaid};
 ghost use Rattle.recording_state.specs.Reply.{answeredOf, repeatedOf, headerReplyBy, elementReplyBy, stageReply, addressOf, locatedOf, takenOf, countedOf, failedOf, overflowedOf, replyOf};
 use copies::Progress;
 use drive::LOCATE_BUSY;

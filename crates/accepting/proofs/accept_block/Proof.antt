@@ -13,14 +13,14 @@ use Rattle.geometry.specs.declared.address.Seq.{Seq}
 use Rattle.geometry.proofs.PickLaws.{pick-t, pick-f}
 use Rattle.recording_state.specs.declared.state.State.{State}
 use Rattle.elements.specs.Elements.{numberOf}
-use Rattle.recording_state.specs.Session.{windowLength, OutcomeSaid, accepting}
+use Rattle.recording_state.specs.State.{windowLength, OutcomeSaid, accepting}
 use Rattle.recording_state.specs.Window.{putBlock}
-use Rattle.recording_state.specs.Accept.{Stored, withElement, blockOf}
+use Rattle.recording_state.specs.Accept.{StoredSaid, withElement, blockOf}
 use Rattle.recording_state.proofs.BlockPlace.{place-low, place-inside}
 use Rattle.accepting.proofs.accept_block.Statement.{statement}
 use Rattle.accepting.proofs.accept_block.Tie as tie
 
-abbrev stored : List ℕ → OutcomeSaid → Stored
+abbrev stored : List ℕ → OutcomeSaid → StoredSaid
 stored window r = record { result = r; window = window }
 
 both-lengths : (s : State) (block window : List ℕ) {t : Bool} → length block ≡ 32768 → eqb (length window) (windowLength s) ≡ t → eqb (length block) 32768 && eqb (length window) (windowLength s) ≡ t

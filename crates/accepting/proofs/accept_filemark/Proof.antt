@@ -1,7 +1,7 @@
 -- `accepting::accept_filemark` meets its contract: each return is the rule whose tests were passed on the way. Assumes nothing.
 use mathlib.Core.Path.{_∙_, sym, ap}
 use Rattle.geometry.proofs.PickLaws.{pick-t, pick-f}
-use Rattle.recording_state.specs.Session.{accepting}
+use Rattle.recording_state.specs.State.{accepting}
 use Rattle.recording_state.specs.Accept.{filemarkOf}
 use Rattle.accepting.proofs.accept_filemark.Statement.{statement}
 use Rattle.accepting.proofs.accept_filemark.Tie as tie

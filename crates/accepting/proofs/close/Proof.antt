@@ -1,7 +1,7 @@
 -- `accepting::close` meets its contract: by what its callees promise, on either side of its test. Assumes nothing.
 use mathlib.Core.Path.{_∙_, sym, ap}
 use Rattle.geometry.proofs.PickLaws.{pick-t, pick-f}
-use Rattle.recording_state.specs.Session.{accepting}
+use Rattle.recording_state.specs.State.{accepting}
 use Rattle.recording_state.specs.Accept.{closeOf}
 use Rattle.accepting.proofs.close.Statement.{statement}
 use Rattle.accepting.proofs.close.Tie as tie

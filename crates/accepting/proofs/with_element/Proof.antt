@@ -1,7 +1,7 @@
 -- `accepting::with_element` meets its contract: by what the elements' accept promises. Assumes nothing.
 use mathlib.Core.Path.{ap}
-use Rattle.elements.specs.declared.state.Elements.{Elements}
-use Rattle.recording_state.specs.Session.{withElements}
+use Rattle.elements.specs.declared.elements.Elements.{Elements}
+use Rattle.recording_state.specs.State.{withElements}
 use Rattle.accepting.proofs.with_element.Statement.{statement}
 use Rattle.accepting.proofs.with_element.Tie as tie
 

@@ -12,7 +12,7 @@ use Rattle.geometry.proofs.TestLaws.{neither, either-right}
 use Rattle.drive.specs.Command.{commandCode}
 use Rattle.drive.specs.declared.command.Command.{Command}
 use Rattle.drive.specs.declared.command.Command.the-variants.{Read, Write, Locate, ReadPosition}
-use Rattle.drive.proofs.Cases.{command-by}
+use Rattle.drive.proofs.CaseLaws.{command-by}
 use Rattle.judgement.specs.declared.told.Told.{Told}
 use Rattle.reading.specs.Fetch as fetch
 use Rattle.reading.specs.declared.session.Reading.{Reading}

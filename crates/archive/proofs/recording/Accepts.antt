@@ -19,10 +19,10 @@ use Rattle.buffer.proofs.Agreement.{agree-is}
 use Rattle.drive.specs.Listed.{Listed}
 use Rattle.drive.specs.Senses.{meaningOf}
 use Rattle.elements.specs.Elements as elements
-use Rattle.elements.specs.declared.state.Elements.{Elements}
+use Rattle.elements.specs.declared.elements.Elements.{Elements}
 use Rattle.elements.proofs.AcceptLaws.{mark-kept, accepted-new}
-use Rattle.recording_state.specs.Accept.{acceptsNone, isFull, withElement, filemarkOf, placeOf, Stored, blockOf, closeOf}
-use Rattle.recording_state.specs.Session.{closedOf, OutcomeSaid, windowOf, windowLength, accepting, eodDue, closingStarted, settledBy, settledOf}
+use Rattle.recording_state.specs.Accept.{acceptsNone, isFull, withElement, filemarkOf, placeOf, StoredSaid, blockOf, closeOf}
+use Rattle.recording_state.specs.State.{closedOf, OutcomeSaid, windowOf, windowLength, accepting, eodDue, closingStarted, settledBy, settledOf}
 use Rattle.recording_state.specs.Window.{blockAt, putBlock}
 use Rattle.recording_state.specs.declared.state.State.{State}
 use Rattle.recording_state.specs.declared.state.Stage.{Stage}
@@ -59,7 +59,7 @@ filemark-view s =
     (λ a. pick-by (λ (r : OutcomeSaid). TakesEffect (r .number) → (r ≡ accepting (withElement s true)) × Accepting s) (isFull s) (λ _ te. no-effect (omega arith) (omega arith) te)
     (λ b te. (refl, accepting-so s a b)))
 
-pub record Storing (s : State) (b window : List ℕ) (r : Stored) : Type 0 where
+pub record Storing (s : State) (b window : List ℕ) (r : StoredSaid) : Type 0 where
   pub is : r ≡ record { result = accepting (withElement s false); window = putBlock window (placeOf s) b }
   pub accepting-it : Accepting s
   pub full : length b ≡ 32768
@@ -68,9 +68,9 @@ pub record Storing (s : State) (b window : List ℕ) (r : Stored) : Type 0 where
 pub block-view : (s : State) (b window : List ℕ) → TakesEffect (blockOf s b window .result .number) → Storing s b window (blockOf s b window)
 unfolding blockOf
 block-view s b window =
-    pick-by (λ (r : Stored). TakesEffect (r .result .number) → Storing s b window r) (acceptsNone s) (λ _ te. no-effect (omega arith) (omega arith) te)
-    (λ a. pick-by (λ (r : Stored). TakesEffect (r .result .number) → Storing s b window r) (eqb (length b) 32768 && eqb (length window) (windowLength s))
-    (λ l. pick-by (λ (r : Stored). TakesEffect (r .result .number) → Storing s b window r) (isFull s) (λ _ te. no-effect (omega arith) (omega arith) te)
+    pick-by (λ (r : StoredSaid). TakesEffect (r .result .number) → Storing s b window r) (acceptsNone s) (λ _ te. no-effect (omega arith) (omega arith) te)
+    (λ a. pick-by (λ (r : StoredSaid). TakesEffect (r .result .number) → Storing s b window r) (eqb (length b) 32768 && eqb (length window) (windowLength s))
+    (λ l. pick-by (λ (r : StoredSaid). TakesEffect (r .result .number) → Storing s b window r) (isFull s) (λ _ te. no-effect (omega arith) (omega arith) te)
     (λ f te.
     let lengths = and-true (eqb (length b) 32768) (eqb (length window) (windowLength s)) l in
     record { is = refl; accepting-it = accepting-so s a f; full = eqb-true (length b) 32768 (lengths .0); long = eqb-true (length window) (windowLength s) (lengths .1) }))
@@ -282,7 +282,7 @@ keeps-filemark {last} {pass} {premises} w set i te =
 pub keeps-block : {last pass : ℕ} {premises : Type 0} (w : World) (b lent : List ℕ) → Setting last pass → Inv last pass premises w → TakesEffect (blockOf (w .session) b lent .result .number) → Inv last pass premises (afterBlock w b lent)
 keeps-block {last} {pass} {premises} w b lent set i te =
     let v = block-view (w .session) b lent te in
-    subst (λ (r : Stored). Inv last pass premises (withAccepted w (r .result .session) (r .window) (w .notes .unaltered && agree lent (w .window)) (acceptedAfter (r .result .number) (w .notes .accepted) (block b)))) (sym (v .is)) (go v i)
+    subst (λ (r : StoredSaid). Inv last pass premises (withAccepted w (r .result .session) (r .window) (w .notes .unaltered && agree lent (w .window)) (acceptedAfter (r .result .number) (w .notes .accepted) (block b)))) (sym (v .is)) (go v i)
   where
     go : Storing (w .session) b lent (blockOf (w .session) b lent) → Inv last pass premises w
         → Inv last pass premises (acceptedWorld w (withElement (w .session) false) (putBlock lent (placeOf (w .session)) b) (w .notes .unaltered && agree lent (w .window)) (block b))

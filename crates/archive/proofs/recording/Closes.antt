@@ -10,7 +10,7 @@ use Rattle.drive.specs.Listed.{Listed}
 use Rattle.drive.specs.Senses.{meaningOf}
 use Rattle.elements.specs.Elements as elements
 use Rattle.recording_state.specs.Accept.{closeOf}
-use Rattle.recording_state.specs.Session.{closedOf, OutcomeSaid, windowOf, eodDue, closingStarted, settledOf}
+use Rattle.recording_state.specs.State.{closedOf, OutcomeSaid, windowOf, eodDue, closingStarted, settledOf}
 use Rattle.recording_state.specs.declared.state.State.{State}
 use Rattle.recording_state.specs.declared.state.Stage.the-variants as S
 use Rattle.recording_state.proofs.Stages.{ElementStage}

@@ -23,7 +23,7 @@ use Rattle.drive.specs.declared.command.Command.the-variants.{Write, Locate, Re
 use Rattle.drive.specs.declared.reply.Reply.{Reply}
 use Rattle.drive.specs.Listed.{Listed}
 use Rattle.copies.specs.Copies.{nextAddress}
-use Rattle.copies.specs.declared.state.Copies.{Copies}
+use Rattle.copies.specs.declared.copies.Copies.{Copies}
 use Rattle.copies.proofs.Counts.{CountsOf}
 use Rattle.copies.proofs.HeaderPlaces.{is-header, header-from-first}
 use Rattle.recording_state.specs.declared.state.State.{State}

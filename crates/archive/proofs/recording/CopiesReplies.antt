@@ -18,7 +18,7 @@ use Rattle.archive.specs.Conduct.{Drive, AtRest, empty, stopped}
 use Rattle.archive.specs.Tape.{Tape}
 use Rattle.copies.specs.Copies as copying
 use Rattle.copies.specs.Copies.{nextAddress, oldestAddress, firstAddress, takenOf, locatedOf, confirmedOf, failedAt, nextGroup, countedOf, failedOf}
-use Rattle.copies.specs.declared.state.Copies.{Copies}
+use Rattle.copies.specs.declared.copies.Copies.{Copies}
 use Rattle.copies.proofs.ReplyView as view
 use Rattle.copies.proofs.Counts.{CountsOf, taken-counts, taken-exact, confirmed-counts, confirmed-exact, failed-counts}
 use Rattle.copies.proofs.DueAddress.{Placed, PlacedOf}

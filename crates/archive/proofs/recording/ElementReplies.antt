@@ -24,8 +24,8 @@ use Rattle.drive.specs.declared.reply.Reply.{Reply}
 use Rattle.copies.proofs.Counts.{start-counts}
 use Rattle.copies.proofs.DueAddress.{start-placed}
 use Rattle.elements.specs.Reply as reply
-use Rattle.elements.specs.declared.state.Elements.{Elements}
-use Rattle.recording_state.specs.Session.{OutcomeSaid, windowOf, accepting, withElements, closingHeader, closingStarted, settledOf}
+use Rattle.elements.specs.declared.elements.Elements.{Elements}
+use Rattle.recording_state.specs.State.{OutcomeSaid, windowOf, accepting, withElements, closingHeader, closingStarted, settledOf}
 use Rattle.recording_state.specs.Reply.{caseOf, answeredOf, repeatedOf, elementReplyBy, replyBy, replyOf}
 use Rattle.recording_state.specs.declared.state.State.{State}
 use Rattle.recording_state.specs.declared.state.Stage.the-variants as S

@@ -20,8 +20,8 @@ use Rattle.archive.specs.Conduct.{Drive, AtRest, empty, stopped}
 use Rattle.elements.specs.Elements.{baseOf, limitOf, numberOf}
 use Rattle.elements.specs.Reply as reply
 use Rattle.elements.specs.Reply.{kept, refusing, locatedOf, takenOf, confirmedOf, overflowedOf, notedOf, fullOf, failedTo, countedOf, failedOf}
-use Rattle.elements.specs.declared.state.Elements.{Elements}
-use Rattle.recording_state.specs.Session.{withElements}
+use Rattle.elements.specs.declared.elements.Elements.{Elements}
+use Rattle.recording_state.specs.State.{withElements}
 use Rattle.recording_state.specs.Reply.{answeredOf}
 use Rattle.recording_state.specs.declared.state.State.{State}
 use Rattle.recording_state.proofs.Kept.{heldOf}

@@ -24,7 +24,7 @@ edgeOf false a = a
 
 -- the drive is where the session writes: k elements are on tape, and it has taken so many more than the session knows of
 pub record Linked (last : ℕ) (h : Held) (d : Drive) (k edge extra : ℕ) : Type 0 where
-  pub placed : h .relocate ≡ false
+  pub placed : h .locate ≡ false
   pub taken-is : h .first .0 + h .outstanding + extra ≡ k + length (d .buffer)
   pub next-is : h .next .0 + extra ≡ d .at + length (d .buffer)
   pub known : length (d .buffer) ≤ h .outstanding + extra
@@ -63,7 +63,7 @@ pub data Answered (last : ℕ) (h : Held) (pending : ℕ) (d : Drive) (k edge : 
 
 pub data Writing (last : ℕ) (s : State) (d : Drive) (k edge : ℕ) : Flight → Type 0 where
   at-place : s .exchange .awaiting ≡ false → s .exchange .again ≡ false → Linked last (heldOf s) d k edge 0 → Writing last s d k edge recordings.no-command
-  to-locate : s .exchange .awaiting ≡ false → s .exchange .again ≡ false → s .elements .relocate ≡ true → Moving last (heldOf s) d k edge (s .elements .target .0) → Writing last s d k edge recordings.no-command
+  to-locate : s .exchange .awaiting ≡ false → s .exchange .again ≡ false → s .elements .locate ≡ true → Moving last (heldOf s) d k edge (s .elements .target .0) → Writing last s d k edge recordings.no-command
   again : s .exchange .awaiting ≡ false → s .exchange .again ≡ true → Asks last (heldOf s) (s .elements .pending) d k edge (s .exchange .command) → Writing last s d k edge recordings.no-command
   under-way : (c : Command) (f : List ℕ) → s .exchange .awaiting ≡ true → s .exchange .again ≡ false → s .exchange .command ≡ c → Asks last (heldOf s) (s .elements .pending) d k edge c → Writing last s d k edge (recordings.sent c f)
   replied : (r : Reply) → s .exchange .awaiting ≡ true → s .exchange .again ≡ false → Answered last (heldOf s) (s .elements .pending) d k edge r (s .exchange .command) → Writing last s d k edge (recordings.answered r)

@@ -17,17 +17,17 @@ use Rattle.buffer.specs.Bytes.{agree}
 use Rattle.buffer.proofs.Agreement.{agree-is}
 use Rattle.frame.specs.Header.{headerFrame}
 use Rattle.archive.specs.Conduct.{Drive, empty}
-use Rattle.drive.specs.Command.{Sent, commandFor}
+use Rattle.drive.specs.Command.{CommandSaid, commandFor}
 use Rattle.drive.specs.declared.command.Command.{Command}
 use Rattle.drive.specs.declared.command.Command.the-variants.{Read, Write, Locate, ReadPosition}
-use Rattle.drive.proofs.Cases.{command-by}
+use Rattle.drive.proofs.CaseLaws.{command-by}
 use Rattle.copies.specs.Copies as copying
 use Rattle.copies.proofs.CommandView as command
 use Rattle.copies.proofs.DueAddress.{PlacedOf}
 use Rattle.copies.proofs.HeaderPlaces.{header-from-first}
 use Rattle.elements.specs.Due as due
 use Rattle.elements.proofs.DueView as rule
-use Rattle.recording_state.specs.Session.{windowOf, windowLength}
+use Rattle.recording_state.specs.State.{windowOf, windowLength}
 use Rattle.recording_state.specs.Written.{amongElements, writtenFrame}
 use Rattle.recording_state.specs.Fetch.{FetchedSaid, fetchOf, awaits, frameFor, sending}
 use Rattle.recording_state.specs.declared.state.State.{State}
@@ -58,7 +58,7 @@ use Rattle.archive.proofs.recording.Setting.{Setting}
 
 -- ---- the same elements, by another command
 
-pub relink : {last : ℕ} {d : Drive} {k edge extra : ℕ} (h v : Held) → v .first ≡ h .first → v .outstanding ≡ h .outstanding → v .next ≡ h .next → v .relocate ≡ h .relocate → Linked last h d k edge extra → Linked last v d k edge extra
+pub relink : {last : ℕ} {d : Drive} {k edge extra : ℕ} (h v : Held) → v .first ≡ h .first → v .outstanding ≡ h .outstanding → v .next ≡ h .next → v .locate ≡ h .locate → Linked last h d k edge extra → Linked last v d k edge extra
 relink h v a b c e l =
     let a0 = ap (λ (x : Seq). x .0) a in
     let c0 = ap (λ (x : Address). x .0) c in
@@ -82,7 +82,7 @@ remove h v a b m =
     let a0 = ap (λ (x : Seq). x .0) a in
     record { none-out = b ∙ m .none-out; first-is = a0 ∙ m .first-is; rests = m .rests; roof = m .roof; zone = m .zone; spread = m .spread; edge-is = m .edge-is }
 
-pub reask : {last pending : ℕ} {d : Drive} {k edge : ℕ} {c : Command} (h v : Held) → v .first ≡ h .first → v .outstanding ≡ h .outstanding → v .next ≡ h .next → v .relocate ≡ h .relocate → Asks last h pending d k edge c → Asks last v pending d k edge c
+pub reask : {last pending : ℕ} {d : Drive} {k edge : ℕ} {c : Command} (h v : Held) → v .first ≡ h .first → v .outstanding ≡ h .outstanding → v .next ≡ h .next → v .locate ≡ h .locate → Asks last h pending d k edge c → Asks last v pending d k edge c
 reask h v a b c e (elements.writes x p due off low l) =
     let c0 = ap (λ (y : Address). y .0) c in
     elements.writes x (p ∙ sym c) (omega arith) (λ q. off (sym c0 ∙ q)) (omega arith) (relink h v a b c e l)
@@ -183,7 +183,7 @@ module _ {last pass : ℕ} {premises : Type 0} (w : World) (lent frame : List �
         (goes-out c (l .edge) (course (record { counts = agree .counts; placed = agree .placed; copying = copies.under-way c (frameFor c (w .session) lent frame) refl refl refl (header-sent c) asked }))
         (λ p u same. content-out c p u same (l .content p u .seen) (λ _ _ el _. header-not-element (w .session) st el)))
 
-    asks-header : {x : Sent} → PlacedOf (w .session .copies) → command.CommandView (w .session .setup .depth) (w .session .copies) x → w .session .exchange .again ≡ false → Copying (w .session) (w .drive) recordings.no-command → CopyAsks (w .session .copies) (w .drive) (commandFor x)
+    asks-header : {x : CommandSaid} → PlacedOf (w .session .copies) → command.CommandView (w .session .setup .depth) (w .session .copies) x → w .session .exchange .again ≡ false → Copying (w .session) (w .drive) recordings.no-command → CopyAsks (w .session .copies) (w .drive) (commandFor x)
     asks-header pl (command.locating t) ag (copies.at-place a g x) = clash t (x .placed)
     asks-header pl (command.locating t) ag (copies.to-seek a g x) = copies.seeks (asAddress (copying.headerAt (w .session .copies))) (header-from-first (w .session .copies .group) (w .session .copies .copy) (pl .left t)) x
     asks-header pl (command.locating t) ag (copies.again a g x) = clash g ag
@@ -232,7 +232,7 @@ module _ {last pass : ℕ} {premises : Type 0} (w : World) (lent frame : List �
         });
       }
 
-  out-element : {x : Sent} → rule.DueView (w .session .setup .depth) (w .session .elements) (due.send x) → w .session .exchange .again ≡ false → Writing last (w .session) (w .drive) (l .k) (l .edge) recordings.no-command → Out (commandFor x)
+  out-element : {x : CommandSaid} → rule.DueView (w .session .setup .depth) (w .session .elements) (due.send x) → w .session .exchange .again ≡ false → Writing last (w .session) (w .drive) (l .k) (l .edge) recordings.no-command → Out (commandFor x)
   out-element (rule.relocating r) ag (elements.at-place a g x) = clash r (x .placed)
   out-element (rule.relocating r) ag (elements.to-locate a g q x) = record { edge = l .edge; further = le-refl (l .edge); asks = elements.moves (w .session .elements .target) x }
   out-element (rule.relocating r) ag (elements.again a g x) = clash g ag

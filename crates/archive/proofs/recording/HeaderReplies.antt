@@ -16,8 +16,8 @@ use Rattle.drive.specs.Cases.{locateGood, locateBusy, writeGood, writeBusy, wri
 use Rattle.drive.specs.declared.command.Command.{Command}
 use Rattle.drive.specs.declared.reply.Reply.{Reply}
 use Rattle.copies.specs.Copies as copying
-use Rattle.elements.specs.declared.state.Elements.{Elements}
-use Rattle.recording_state.specs.Session.{OutcomeSaid, accepting, ending, followingOf, withStage, withCopies, settledOf}
+use Rattle.elements.specs.declared.elements.Elements.{Elements}
+use Rattle.recording_state.specs.State.{OutcomeSaid, accepting, ending, followingOf, withStage, withCopies, settledOf}
 use Rattle.recording_state.specs.Reply.{caseOf, answeredOf, repeatedOf, headerReplyBy, replyBy, replyOf}
 use Rattle.recording_state.specs.declared.state.State.{State}
 use Rattle.recording_state.specs.declared.state.Stage.{Stage}

@@ -13,8 +13,8 @@ use Rattle.drive.specs.Senses.{meaningOf}
 use Rattle.archive.specs.Tape.{Cartridge}
 use Rattle.drive.specs.declared.command.Command.the-variants.{Write}
 use Rattle.drive.specs.declared.reply.Reply.{Reply}
-use Rattle.elements.specs.declared.state.Elements.{Elements}
-use Rattle.recording_state.specs.Session.{windowOf}
+use Rattle.elements.specs.declared.elements.Elements.{Elements}
+use Rattle.recording_state.specs.State.{windowOf}
 use Rattle.recording_state.specs.declared.state.State.{State}
 use Rattle.recording_state.specs.declared.state.Stage.{Stage}
 use Rattle.recording_state.specs.declared.state.Stage.the-variants as S
@@ -53,17 +53,17 @@ pub record Counted (last n : ℕ) (s : State) : Type 0 where
   pub room : s .elements .limit .0 ≤ last + 1
 
 -- before the first LOCATE of the elements, which are to start from a number and an address: 0 and 10 in a fresh recording
-pub record StartsFrom (last : ℕ) (first outstanding : ℕ) (relocate : Bool) (target : ℕ) (k edge : ℕ) : Type 0 where
+pub record StartsFrom (last : ℕ) (first outstanding : ℕ) (locate : Bool) (target : ℕ) (k edge : ℕ) : Type 0 where
   pub first-is : first ≡ k
   pub none-out : outstanding ≡ 0
-  pub relocates : relocate ≡ true
+  pub relocates : locate ≡ true
   pub target-is : target ≡ edge
   pub roof : edge ≤ last
   pub zone : (edge ≤ 2990) ⊎ (3000 ≤ edge)
   pub spread : k + 10 ≤ edge
 
 abbrev pub Unstarted : ℕ → Elements → ℕ → ℕ → Type 0
-Unstarted last e k edge = StartsFrom last (e .first .0) (e .outstanding) (e .relocate) (e .target .0) k edge
+Unstarted last e k edge = StartsFrom last (e .first .0) (e .outstanding) (e .locate) (e .target .0) k edge
 
 -- EOD is not due yet, or it is due alone
 pub data EodDue (e : Elements) (closed : Bool) : Type 0 where

@@ -11,7 +11,7 @@ use Rattle.archive.specs.Conduct.{Drive, AtRest, empty, stopped}
 use Rattle.drive.specs.declared.command.Command.{Command}
 use Rattle.drive.specs.declared.command.Command.the-variants.{Write}
 use Rattle.drive.specs.declared.reply.Reply.{Reply}
-use Rattle.copies.specs.declared.state.Copies.{Copies}
+use Rattle.copies.specs.declared.copies.Copies.{Copies}
 use Rattle.copies.proofs.Counts.{CountsOf}
 use Rattle.copies.proofs.DueAddress.{PlacedOf}
 use Rattle.recording_state.specs.declared.state.State.{State}
@@ -76,7 +76,7 @@ module _ (last : ℕ) (s v : State) (d : Drive) (k edge : ℕ) (h : heldOf v ≡
   pub writing-as : {f : Flight} → Writing last s d k edge f → Writing last v d k edge f
   writing-as (elements.at-place a g l) = elements.at-place (ap (λ (x : Held). x .exchange .awaiting) h ∙ a) (ap (λ (x : Held). x .exchange .again) h ∙ g) (subst (λ (y : Held). Linked last y d k edge 0) (sym h) l)
   writing-as (elements.to-locate a g r l) =
-      elements.to-locate (ap (λ (x : Held). x .exchange .awaiting) h ∙ a) (ap (λ (x : Held). x .exchange .again) h ∙ g) (ap (λ (x : Held). x .relocate) h ∙ r)
+      elements.to-locate (ap (λ (x : Held). x .exchange .awaiting) h ∙ a) (ap (λ (x : Held). x .exchange .again) h ∙ g) (ap (λ (x : Held). x .locate) h ∙ r)
       (subst (λ (y : Held). Moving last y d k edge (y .target .0)) (sym h) l)
   writing-as (elements.again a g x) =
       elements.again (ap (λ (y : Held). y .exchange .awaiting) h ∙ a) (ap (λ (y : Held). y .exchange .again) h ∙ g) (subst (λ (c : Command). Asks last (heldOf v) (v .elements .pending) d k edge c) (sym (ap (λ (y : Held). y .exchange .command) h)) (asks-as x))

@@ -14,7 +14,7 @@ use Rattle.drive.specs.Senses.{meaningOf}
 use Rattle.drive.specs.declared.command.Command.{Command}
 use Rattle.drive.specs.declared.command.Command.the-variants.{Read, Write}
 use Rattle.drive.specs.declared.reply.Reply.{Reply}
-use Rattle.copies.specs.declared.state.Copies.{Copies}
+use Rattle.copies.specs.declared.copies.Copies.{Copies}
 use Rattle.recording_state.specs.declared.state.State.{State}
 use Rattle.recording_state.proofs.Kept.{Held, heldOf}
 use Rattle.recording_state.proofs.ListedReplies.{OffHeaders, OnHeaders, Lawful, unlisted-refused, listed-taken}

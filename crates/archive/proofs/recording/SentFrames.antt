@@ -14,7 +14,7 @@ use Rattle.frame.specs.declared.element.Kind.the-variants.{Data, Marker}
 use Rattle.judgement.specs.Judgement.{judgeFrame, foundSaid}
 use Rattle.elements.specs.Elements as elements
 use Rattle.elements.specs.Elements.{kindOf}
-use Rattle.recording_state.specs.Session.{windowOf, windowLength}
+use Rattle.recording_state.specs.State.{windowOf, windowLength}
 use Rattle.recording_state.specs.Window.{blockAt}
 use Rattle.recording_state.specs.Written.{elementPlace, writtenElement, amongElements, writtenFrame}
 use Rattle.recording_state.specs.declared.state.State.{State}

@@ -26,7 +26,7 @@ use Rattle.archive.specs.Conduct.{Drive, AtRest}
 use Rattle.archive.specs.Tape.{Tape, Cartridge}
 use Rattle.copies.proofs.Counts.{start-counts}
 use Rattle.copies.proofs.DueAddress.{start-placed}
-use Rattle.recording_state.specs.Session.{OutcomeSaid, accepting}
+use Rattle.recording_state.specs.State.{OutcomeSaid, accepting}
 use Rattle.copies.specs.Carried.{isExhausted, renewed, openingHeader}
 use Rattle.recording_state.specs.Open.{fresh, openRefused, openWith, openFor, openOf, openBlankFor, openBlankOf}
 use Rattle.recording_state.specs.declared.state.State.{State}

@@ -12,7 +12,7 @@ use Rattle.archive.specs.Tape.{Tape, put}
 use Rattle.drive.specs.declared.command.Command.the-variants.{Write, Locate, ReadPosition}
 use Rattle.elements.specs.Elements as elements
 use Rattle.elements.specs.Trail.{noTrail}
-use Rattle.elements.specs.declared.state.Elements.{Elements}
+use Rattle.elements.specs.declared.elements.Elements.{Elements}
 use Rattle.recording_state.specs.Written.{writtenFrame}
 use Rattle.recording_state.specs.declared.state.State.{State}
 use Rattle.archive.specs.Recordings.{Element, World, Call, fetch, reply, Runs}
@@ -45,10 +45,10 @@ module _ (window : List ℕ) (long : length window ≡ 32768) (accepted : List E
       → Runs (between window accepted next (buffered (put t a (t a)) target (a ∷ past) [])) cs u
       → Runs (between window accepted s (buffered t a past [])) (exchanges window 1 (fetch window frame ∷ reply (writeError a skip) ∷ exchanges window 1 cs)) u
   unfolding meaningIn
-  element-failed a skip target {s} {taken} {failed} {next} write report relocate rest =
+  element-failed a skip target {s} {taken} {failed} {next} write report locate rest =
       let f : List ℕ = writtenFrame s window in
       let stopped : Drive = record { tape = put t a (t a); at = a; buffer = f ∷ []; failed = true; written = a ∷ past } in
       exchange window accepted s (buffered t a past []) long write (takes (asAddress a) good refl)
       (acting window accepted taken (buffered t a past (f ∷ [])) (fails f [] (t a) refl refl as-before)
       (exchange window accepted taken stopped long report (position-fails (writeError a skip) refl refl refl)
-      (exchange window accepted failed stopped long relocate (locates (asAddress target) good refl) rest)))
+      (exchange window accepted failed stopped long locate (locates (asAddress target) good refl) rest)))

@@ -12,9 +12,9 @@ use Rattle.frame.proofs.Frames.{header-length}
 use Rattle.archive.specs.Conduct.{Drive, Acts, Answers}
 use Rattle.drive.specs.declared.command.Command.{Command}
 use Rattle.drive.specs.declared.reply.Reply.{Reply}
-use Rattle.drive.proofs.Cases.{command-by}
-use Rattle.recording_state.specs.Session.{OutcomeSaid, windowLength, accepting, refusing}
-use Rattle.recording_state.specs.Accept.{Stored, blockOf, filemarkOf, closeOf}
+use Rattle.drive.proofs.CaseLaws.{command-by}
+use Rattle.recording_state.specs.State.{OutcomeSaid, windowLength, accepting, refusing}
+use Rattle.recording_state.specs.Accept.{StoredSaid, blockOf, filemarkOf, closeOf}
 use Rattle.recording_state.specs.Due as decision
 use Rattle.recording_state.specs.Due.{decisionOf, send}
 use Rattle.recording_state.specs.Fetch.{FetchedSaid, awaits, frameFor, sending, answering, fetchOf}
@@ -56,7 +56,7 @@ module _ (window : List ℕ) (accepted : List Element) where
   }
 
 module _ (window : List ℕ) (accepted : List Element) (s : State) (d : Drive) where
-  fetched : length window ≡ windowLength s → s .ended || s .exchange .awaiting ≡ false → (x : decision.Decision) → decisionOf s ≡ x → fetchNumber (answering x s window frame .said) ≡ 0
+  fetched : length window ≡ windowLength s → s .ended || s .exchange .awaiting ≡ false → (x : decision.DecisionSaid) → decisionOf s ≡ x → fetchNumber (answering x s window frame .said) ≡ 0
       → Calls (between window accepted s d) (fetch window frame) (fetchedWorld window accepted d true (answering x s window frame))
   fetched long free x decided small =
       let e : fetchOf s window frame ≡ answering x s window frame = fetch-decided s window frame free long framed decided in
@@ -69,7 +69,7 @@ module _ (window : List ℕ) (accepted : List Element) (s : State) (d : Drive) w
   done long free decided = call (fetched long free decision.done decided refl) stop
 
   -- the world after a block is stored
-  abbrev storedWorld : List ℕ → Bool → Stored → World
+  abbrev storedWorld : List ℕ → Bool → StoredSaid → World
   storedWorld b same x = record { session = x .result .session; window = x .window; drive = d; flight = no-command; notes = record { accepted = acceptedAfter (x .result .number) accepted (block b); unaltered = same; reported = false } }
 
 module _ (window : List ℕ) (accepted : List Element) (s : State) (d : Drive) {cs : List Call} {u : World} where
@@ -96,7 +96,7 @@ module _ (window : List ℕ) (accepted : List Element) (s : State) (d : Drive) {
       → Runs (between after (accepted ++ block b ∷ []) next d) cs u → Runs (between window accepted s d) (accept-block b window ∷ cs) u
   block-accepted {next} b after e rest =
       let p : storedWorld window accepted s d b (true && agree window window) (blockOf s b window) ≡ between after (accepted ++ block b ∷ []) next d = ap (λ t. storedWorld window accepted s d b t (blockOf s b window)) (agree-same window) ∙ ap (λ x. storedWorld window accepted s d b true x) e in
-      call (subst (λ v. Calls (between window accepted s d) (accept-block b window) v) p (accepts-block b window (inl (ap (λ (x : Stored). x .result .number) e)))) rest
+      call (subst (λ v. Calls (between window accepted s d) (accept-block b window) v) p (accepts-block b window (inl (ap (λ (x : StoredSaid). x .result .number) e)))) rest
 
   pub close-accepted : {next : State} → closeOf s ≡ accepting next → Runs (between window accepted next d) cs u → Runs (between window accepted s d) (close ∷ cs) u
   close-accepted {next} e rest =

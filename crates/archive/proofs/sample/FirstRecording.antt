@@ -24,9 +24,9 @@ use Rattle.elements.specs.Elements as elements
 use Rattle.elements.specs.Trail.{trailOf}
 use Rattle.elements.specs.Due.{dueOf}
 use Rattle.elements.specs.Reply as reply
-use Rattle.elements.specs.declared.state.Elements.{Elements}
+use Rattle.elements.specs.declared.elements.Elements.{Elements}
 use Rattle.recording_state.specs.Open.{fresh, openWith, openBlankOf}
-use Rattle.recording_state.specs.Session.{accepting, refusing, settledOf}
+use Rattle.recording_state.specs.State.{accepting, refusing, settledOf}
 use Rattle.recording_state.specs.Accept.{blockOf, filemarkOf, closeOf}
 use Rattle.recording_state.specs.Due.{decisionOf}
 use Rattle.recording_state.specs.Written.{writtenFrame, writtenElement, elementOf}

@@ -19,12 +19,12 @@ use Rattle.archive.specs.Tape.{Tape}
 use Rattle.drive.specs.declared.command.Command.{Command}
 use Rattle.drive.specs.declared.command.Command.the-variants.{Write, Locate, ReadPosition}
 use Rattle.copies.specs.Copies as copies
-use Rattle.copies.specs.declared.state.Copies.{Copies}
+use Rattle.copies.specs.declared.copies.Copies.{Copies}
 use Rattle.elements.specs.Elements as elements
 use Rattle.elements.specs.Trail.{noTrail}
-use Rattle.elements.specs.declared.state.Elements.{Elements}
+use Rattle.elements.specs.declared.elements.Elements.{Elements}
 use Rattle.recording_state.specs.Open.{fresh}
-use Rattle.recording_state.specs.Session.{accepting, settledOf}
+use Rattle.recording_state.specs.State.{accepting, settledOf}
 use Rattle.recording_state.specs.Due as decision
 use Rattle.recording_state.specs.Due.{decisionOf}
 use Rattle.recording_state.specs.Written.{writtenFrame}

@@ -26,7 +26,7 @@ use Rattle.archive.specs.Tape.{Tape}
 use Rattle.drive.specs.declared.command.Command.{Command}
 use Rattle.drive.specs.declared.command.Command.the-variants.{Read, Locate}
 use Rattle.drive.specs.declared.reply.Reply.{Reply}
-use Rattle.drive.proofs.Cases.{command-by}
+use Rattle.drive.proofs.CaseLaws.{command-by}
 use Rattle.judgement.specs.Judgement as judgement
 use Rattle.reading.specs.Open.{fresh, openFor, openOf}
 use Rattle.reading.specs.Fetch as fetch

@@ -15,7 +15,7 @@ use Rattle.frame.proofs.Frames.{element-length, element-data}
 use Rattle.judgement.specs.Judgement.{judgeFrame, foundSaid}
 use Rattle.judgement.proofs.Written.{judged-written}
 use Rattle.elements.specs.Elements.{numberOf, kindOf}
-use Rattle.recording_state.specs.Session.{windowLength}
+use Rattle.recording_state.specs.State.{windowLength}
 use Rattle.recording_state.specs.Window.{blockAt}
 use Rattle.recording_state.specs.Written.{elementOf, elementPlace, writtenElement}
 use Rattle.recording_state.proofs.BlockPlace.{place-inside, block-length}

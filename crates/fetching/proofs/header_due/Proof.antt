@@ -1,7 +1,7 @@
 -- `fetching::header_due` meets its contract: by what the header copies promise of the command. Assumes nothing.
 use mathlib.Core.Path.{sym, ap, _∙_}
 use Rattle.drive.specs.Command.{commandFor}
-use Rattle.drive.proofs.Cases.{command-by}
+use Rattle.drive.proofs.CaseLaws.{command-by}
 use Rattle.recording_state.specs.Due.{send}
 use Rattle.fetching.proofs.header_due.Statement.{statement}
 use Rattle.fetching.proofs.header_due.Tie as tie

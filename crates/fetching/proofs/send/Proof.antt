@@ -12,7 +12,7 @@ use Rattle.drive.specs.declared.command.Command.the-variants.{Read, Write, Loca
 use Rattle.drive.specs.declared.command.Command.{Command}
 use Rattle.drive.specs.Exchange.{sentOf}
 use Rattle.drive.specs.declared.exchange.Exchange.{Exchange}
-use Rattle.recording_state.specs.Session.{withExchange}
+use Rattle.recording_state.specs.State.{withExchange}
 use Rattle.recording_state.specs.Fetch.{FetchedSaid, awaits, command, frameFor, sending}
 use Rattle.recording_state.specs.declared.state.State.{State}
 use Rattle.fetching.proofs.send.Statement.{statement}

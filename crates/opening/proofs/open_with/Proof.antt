@@ -5,7 +5,7 @@ use lib.Dec.{eqb, ltb}
 use borrow.Author.Tests.{eq-eqb, ne-eqb, lt-ltb, le-ltb}
 use Rattle.geometry.proofs.PickLaws.{pick-t, pick-f}
 use Rattle.geometry.proofs.TestLaws.{neither, either-left, either-right}
-use Rattle.recording_state.specs.Session.{accepting}
+use Rattle.recording_state.specs.State.{accepting}
 use Rattle.recording_state.specs.Open.{openWith}
 use Rattle.opening.proofs.open_with.Statement.{statement}
 use Rattle.opening.proofs.open_with.Tie as tie

@@ -2,7 +2,7 @@
 use mathlib.Core.Path.{_∙_, ap}
 use Rattle.geometry.specs.Refused.{refusalNumber}
 use Rattle.recording_state.specs.declared.state.State.{State}
-use Rattle.recording_state.specs.Session.{ending}
+use Rattle.recording_state.specs.State.{ending}
 use Rattle.opening.proofs.refuse_opening.Statement.{statement}
 use Rattle.opening.proofs.refuse_opening.Tie as tie
 

@@ -1,7 +1,7 @@
 -- `replying::answered` meets its contract: by what the exchange promises. Assumes nothing.
 use mathlib.Core.Path.{ap}
 use Rattle.drive.specs.declared.exchange.Exchange.{Exchange}
-use Rattle.recording_state.specs.Session.{withExchange}
+use Rattle.recording_state.specs.State.{withExchange}
 use Rattle.replying.proofs.answered.Statement.{statement}
 use Rattle.replying.proofs.answered.Tie as tie
 

@@ -3,7 +3,7 @@ use mathlib.Core.Path.{_≡_, _∙_, refl, sym, ap}
 use mathlib.Core.Bool.{false}
 use borrow.Author.Needs.{needs}
 use lib.Dec.{eqb}
-use Rattle.recording_state.specs.Session.{accepting, settledOf}
+use Rattle.recording_state.specs.State.{accepting, settledOf}
 use Rattle.recording_state.specs.Reply.{elementReplyBy}
 use Rattle.elements.specs.Reply.{steppedSaid}
 use Rattle.geometry.specs.Refused.{refusalNumber}

@@ -2,7 +2,7 @@
 use mathlib.Core.Path.{_∙_, sym, ap}
 use Rattle.copies.specs.Copies.{progressSaid}
 use Rattle.recording_state.specs.Reply.{completedOf, headerReplyBy}
-use Rattle.recording_state.specs.Session.{accepting, settledOf}
+use Rattle.recording_state.specs.State.{accepting, settledOf}
 use Rattle.replying.proofs.header_reply.Statement.{statement}
 use Rattle.replying.proofs.header_reply.Tie as tie
 

@@ -5,7 +5,7 @@ use borrow.Author.Tests.{ne-eqb}
 use Rattle.geometry.proofs.TestLaws.{neither}
 use Rattle.geometry.proofs.PickLaws.{pick-t, pick-f}
 use Rattle.recording_state.specs.Reply.{replyBy, replyOf}
-use Rattle.recording_state.specs.Session.{accepting}
+use Rattle.recording_state.specs.State.{accepting}
 use Rattle.recording_state.proofs.ReplyView.{reply-so}
 use Rattle.replying.proofs.reply.Statement.{statement}
 use Rattle.replying.proofs.reply.Tie as tie

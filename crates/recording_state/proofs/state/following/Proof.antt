@@ -5,7 +5,7 @@ use borrow.Author.Needs.{needs}
 use types.Run.{OneOf, miss}
 use denote.Enum.Declared.{tagOf}
 use Rattle.recording_state.proofs.state.Stage.{the-type}
-use Rattle.recording_state.specs.Session.{followingOf}
+use Rattle.recording_state.specs.State.{followingOf}
 use Rattle.recording_state.specs.declared.state.Stage.the-variants as S
 use Rattle.recording_state.specs.declared.state.Stage.{Stage}
 use Rattle.recording_state.proofs.state.following.Statement.{statement}

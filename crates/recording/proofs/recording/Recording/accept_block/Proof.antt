@@ -3,12 +3,12 @@ use Prim.Native.Nat.{ℕ}
 use mathlib.Core.Path.{_∙_, ap}
 use mathlib.Core.List.{List}
 use borrow.Author.Needs.{needs}
-use Rattle.recording_state.specs.Session.{OutcomeSaid}
-use Rattle.recording_state.specs.Accept.{Stored}
+use Rattle.recording_state.specs.State.{OutcomeSaid}
+use Rattle.recording_state.specs.Accept.{StoredSaid}
 use Rattle.recording.proofs.recording.Recording.accept_block.Statement.{statement}
 use Rattle.recording.proofs.recording.Recording.accept_block.Tie as tie
 
-abbrev stored : OutcomeSaid → List ℕ → Stored
+abbrev stored : OutcomeSaid → List ℕ → StoredSaid
 stored r window = record { result = r; window = window }
 
 accept-block-requires : tie.Need-accept-block-requires

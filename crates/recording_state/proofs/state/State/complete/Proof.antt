@@ -1,7 +1,7 @@
 -- `recording_state::state::State::complete` meets its contract: by which stage follows. Assumes nothing.
 use mathlib.Core.Path.{ap}
 use borrow.Author.Needs.{needs}
-use Rattle.recording_state.specs.Session.{withStage}
+use Rattle.recording_state.specs.State.{withStage}
 use Rattle.recording_state.proofs.state.State.complete.Statement.{statement}
 use Rattle.recording_state.proofs.state.State.complete.Tie as tie
 

@@ -1,7 +1,7 @@
 -- `recording_state::state::State::due_eod` meets its contract: by what the elements promise. Assumes nothing.
 use mathlib.Core.Path.{ap}
 use borrow.Author.Needs.{needs}
-use Rattle.recording_state.specs.Session.{withElements}
+use Rattle.recording_state.specs.State.{withElements}
 use Rattle.recording_state.proofs.state.State.due_eod.Statement.{statement}
 use Rattle.recording_state.proofs.state.State.due_eod.Tie as tie
 

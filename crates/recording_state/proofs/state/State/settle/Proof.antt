@@ -3,7 +3,7 @@ use mathlib.Core.Path.{_≡_, refl, _∙_, sym, ap}
 use borrow.Author.Tests.{lt-ltb, le-ltb}
 use borrow.Author.Needs.{needs}
 use Rattle.recording_state.proofs.Stages.{outside}
-use Rattle.recording_state.specs.Session.{settledBy, settledOf}
+use Rattle.recording_state.specs.State.{settledBy, settledOf}
 use Rattle.recording_state.specs.declared.state.Stage.{Stage}
 use Rattle.geometry.proofs.PickLaws.{pick-t, pick-f}
 use Rattle.recording_state.proofs.state.State.settle.Statement.{statement}

@@ -1,9 +1,9 @@
 -- `recording_state::state::State::start_closing` meets its contract: by what the copies' start and the closing header promise. Assumes nothing.
 use mathlib.Core.Path.{ap, _∙_}
 use Rattle.copies.specs.Copies.{startOf}
-use Rattle.copies.specs.declared.state.Copies.{Copies}
+use Rattle.copies.specs.declared.copies.Copies.{Copies}
 use Rattle.recording_state.specs.declared.state.Stage.the-variants.{ClosingHeaders}
-use Rattle.recording_state.specs.Session.{withStage, withCopies}
+use Rattle.recording_state.specs.State.{withStage, withCopies}
 use Rattle.recording_state.proofs.state.State.start_closing.Statement.{statement}
 use Rattle.recording_state.proofs.state.State.start_closing.Tie as tie
 

@@ -1,0 +1,17 @@
+-- `elements::elements::Elements::must_confirm` meets its contract: its tests are the definition's. Assumes nothing.
+use mathlib.Core.Bool.{_&&_, _||_}
+use mathlib.Core.Path.{ap}
+use borrow.Author.Needs.{needs}
+use lib.Dec.{eqb, ltb, leb}
+use Rattle.geometry.specs.declared.address.Address.{Address}
+use Rattle.elements.proofs.elements.Elements.must_confirm.Statement.{statement}
+use Rattle.elements.proofs.elements.Elements.must_confirm.Tie as tie
+
+limit-due-requires : tie.Need-limit-due-requires
+limit-due-requires c κs = search needs
+
+returns : tie.Need-returns
+returns c = ap (λ (n : Address). leb (c .before .before .before .before .before .before .before .args .depth) (c .before .before .before .before .before .before .before .args .self .outstanding) || (ltb 0 (c .before .before .before .before .before .before .before .args .self .outstanding) && (eqb (c .before .before .before .before .before .before .before .args .self .next .0) 2990 || leb (n .0) (c .before .before .before .before .before .before .before .args .self .next .0)))) (c .before .before .before .before .before .limit-due .ensures)
+
+pub must-confirm-spec : {M : Type 1} → statement M
+must-confirm-spec = tie.close (tie.spec limit-due-requires returns)

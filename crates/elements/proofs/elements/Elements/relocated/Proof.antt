@@ -1,0 +1,10 @@
+-- `elements::elements::Elements::relocated` meets its contract: its fields are the definition's. Assumes nothing.
+use mathlib.Core.Path.{refl}
+use Rattle.elements.proofs.elements.Elements.relocated.Statement.{statement}
+use Rattle.elements.proofs.elements.Elements.relocated.Tie as tie
+
+returns : tie.Need-returns
+returns c = refl
+
+pub relocated-spec : {M : Type 1} → statement M
+relocated-spec = tie.close (tie.spec returns)
