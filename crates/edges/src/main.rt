@@ -1,19 +1,13 @@
 // Plays recordings and readings through the public calls and prints what they give. The output was worked out by hand from 01.
-mod headers;
-mod printing;
-mod readings;
-mod recordings;
-mod replies;
-
 fn main() {
-    recordings::example();
-    recordings::crossing();
-    recordings::one_block();
-    readings::example();
-    readings::passed_over();
-    readings::jump_over();
-    readings::crossing();
-    readings::refusals();
-    headers::openings();
-    headers::choices();
+    edge_recordings::example();
+    edge_recordings::crossing();
+    edge_recordings::one_block();
+    edge_readings::example();
+    edge_readings::passed_over();
+    edge_readings::jump_over();
+    edge_readings::crossing();
+    edge_readings::refusals();
+    edge_readings::openings();
+    edge_readings::choices();
 }

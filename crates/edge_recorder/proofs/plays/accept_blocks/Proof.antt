@@ -4,14 +4,14 @@ use mathlib.Core.Path.{_≡_}
 use Prim.Native.Nat.{_≤_, _-_}
 use native.Mathlib.Omega.{arith}
 use lib.ListN.{length}
-use Rattle.edges.proofs.recordings.accept_blocks.Statement.{statement}
-use Rattle.edges.proofs.recordings.accept_blocks.Tie as tie
+use Rattle.edge_recorder.proofs.plays.accept_blocks.Statement.{statement}
+use Rattle.edge_recorder.proofs.plays.accept_blocks.Tie as tie
 
 abbrev Inv-loop : tie.InvT-loop
-Inv-loop block window₀ n s₀ counter₀ window s counter = (counter ≤ n) × (length window ≡ length window₀)
+Inv-loop window₀ n s₀ counter₀ window s counter = (counter ≤ n) × (length window ≡ length window₀)
 
 abbrev μ-loop : tie.MeasureT-loop
-μ-loop block window₀ n s₀ counter₀ window s counter = n - counter
+μ-loop window₀ n s₀ counter₀ window s counter = n - counter
 
 loop-holds : tie.Need-loop-holds Inv-loop μ-loop
 loop-holds c = search needs
@@ -19,11 +19,8 @@ loop-holds c = search needs
 accept-block-requires : tie.Need-accept-block-requires Inv-loop μ-loop
 accept-block-requires c κs = search needs
 
-session-of-requires : tie.Need-session-of-requires Inv-loop μ-loop
-session-of-requires c κs = search needs
-
 add-counter : tie.Need-add-counter Inv-loop μ-loop
-add-counter c = omega (arith, c .before .before .before .before .before .loop-test .taken, c .before .before .before .before .before .before .before .before .before .fits .n)
+add-counter c = search needs
 
 loop-less : tie.Need-loop-less Inv-loop μ-loop
 loop-less c = search needs
@@ -45,7 +42,6 @@ accept-blocks-spec =
     μ-loop
     loop-holds
     accept-block-requires
-    session-of-requires
     add-counter
     loop-less
     loop-again

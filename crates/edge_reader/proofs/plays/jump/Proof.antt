@@ -1,8 +1,8 @@
 -- The count stays within its bound. Assumes nothing.
 use borrow.Author.Needs.{needs}
 use Prim.Native.Nat.{_≤_, _-_}
-use Rattle.edges.proofs.readings.jump.Statement.{statement}
-use Rattle.edges.proofs.readings.jump.Tie as tie
+use Rattle.edge_reader.proofs.plays.jump.Statement.{statement}
+use Rattle.edge_reader.proofs.plays.jump.Tie as tie
 
 abbrev Inv-loop : tie.InvT-loop
 Inv-loop n s₀ counter₀ s counter = counter ≤ n

@@ -1,25 +1,34 @@
-// What the programs' parts print with.
+// Texts and numbers, refusals, commands and sense triples.
 use drive::Command;
 use drive::Reply;
 use geometry::Refusal;
+use geometry::Verdict;
 use geometry::number;
 use libc::STDOUT_FILENO;
 
-pub(crate) fn print(text: &[u8]) {
+pub fn print(text: &[u8]) {
     io::write_all(STDOUT_FILENO, text);
 }
 
-pub(crate) fn print_number(text: &[u8], n: u32) {
+pub fn print_number(text: &[u8], n: u32) {
     io::write_all(STDOUT_FILENO, text);
     io::print_decimal(STDOUT_FILENO, n as u64);
 }
 
-pub(crate) fn print_refusal(r: Refusal) {
+pub fn print_refusal(r: Refusal) {
     print_number(b"refused ", number(r) as u32);
 }
 
+// A refused verdict on a line of its own; nothing for an accepted one.
+pub fn print_refused(verdict: Verdict) {
+    if let Verdict::Refused(r) = verdict {
+        print_refusal(r);
+        print(b"\n");
+    }
+}
+
 // A command's name and address.
-pub(crate) fn print_command(c: Command) {
+pub fn print_command(c: Command) {
     match c {
         Command::Read(a) => print_number(b"READ ", a.0),
         Command::Write(a) => print_number(b"WRITE ", a.0),
@@ -29,7 +38,7 @@ pub(crate) fn print_command(c: Command) {
 }
 
 // The sense triple of a reply.
-pub(crate) fn print_sense(reply: Reply) {
+pub fn print_sense(reply: Reply) {
     print(b", ");
     io::print_hex(STDOUT_FILENO, reply.key as u64, 2);
     print(b"/");

@@ -1,11 +1,11 @@
-// The replies that the programs' parts bring, and the cartridges that they are opened on.
+// Replies and cartridges.
 use drive::Reply;
 use geometry::Address;
 use geometry::Geometry;
 use geometry::LoadPoint;
 
 // A sense triple with nothing beside it.
-pub(crate) fn sense(key: u8, asc: u8, ascq: u8) -> Reply {
+pub fn sense(key: u8, asc: u8, ascq: u8) -> Reply {
     Reply {
         key: key,
         asc: asc,
@@ -16,7 +16,7 @@ pub(crate) fn sense(key: u8, asc: u8, ascq: u8) -> Reply {
     }
 }
 
-pub(crate) fn good(buffered: u32) -> Reply {
+pub fn good(buffered: u32) -> Reply {
     let plain = sense(0, 0, 0);
     Reply {
         buffered: buffered,
@@ -24,11 +24,11 @@ pub(crate) fn good(buffered: u32) -> Reply {
     }
 }
 
-pub(crate) fn busy() -> Reply {
+pub fn busy() -> Reply {
     sense(2, 4, 8)
 }
 
-pub(crate) fn write_error(p: u32, skip: u8) -> Reply {
+pub fn write_error(p: u32, skip: u8) -> Reply {
     let plain = sense(3, 0x0C, 0);
     Reply {
         position: Address(p),
@@ -38,7 +38,7 @@ pub(crate) fn write_error(p: u32, skip: u8) -> Reply {
 }
 
 // A cartridge loaded at its beginning.
-pub(crate) fn cartridge(segtrk: u16, trks: u16) -> Geometry {
+pub fn cartridge(segtrk: u16, trks: u16) -> Geometry {
     Geometry {
         segtrk: segtrk,
         trks: trks,

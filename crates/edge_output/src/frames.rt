@@ -1,0 +1,40 @@
+// A command as it goes to the drive, with the frame of a WRITE.
+use crate::printing::print_command;
+use crate::printing::print_number;
+use buffer::be16_at;
+use buffer::be32_at;
+use drive::Command;
+
+// The number of an element or EOD, the filemarks before it and the latest marker's address.
+fn print_element(name: &[u8], frame: &[u8]) {
+    print_number(name, be32_at(frame, 32812));
+    print_number(b", filemarks ", be32_at(frame, 32960));
+    let marker = be32_at(frame, 32968);
+    if marker != 0xFFFFFFFF {
+        print_number(b", latest at ", marker);
+    }
+}
+
+fn print_header(frame: &[u8]) {
+    print_number(b" header, count ", be32_at(frame, 32780));
+    print_number(b", EOD ", be32_at(frame, 32));
+}
+
+// The kind of a frame and what it holds.
+fn print_frame(frame: &[u8]) {
+    match be16_at(frame, 32784) {
+        0x0800 => print_header(frame),
+        0x8000 => print_element(b" block ", frame),
+        0x0200 => print_element(b" filemark ", frame),
+        0x0100 => print_element(b" EOD ", frame),
+        _ => print_element(b" ", frame),
+    }
+}
+
+// A command, with what a WRITE's frame holds.
+pub fn print_sent(c: Command, frame: &[u8]) {
+    print_command(c);
+    if let Command::Write(_) = c {
+        print_frame(frame);
+    }
+}

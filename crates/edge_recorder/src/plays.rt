@@ -1,0 +1,79 @@
+// Accepts, fetches and replies.
+use drive::Reply;
+use edge_output::good;
+use edge_output::print;
+use edge_output::print_refusal;
+use edge_output::print_refused;
+use edge_output::print_sent;
+use edge_output::write_error;
+use recording::Answer;
+use recording::Outcome;
+use recording::Recording;
+
+// The session of an outcome; a refusal is printed.
+pub fn session_of(o: Outcome) -> Recording {
+    let verdict = o.verdict;
+    print_refused(verdict);
+    let session = o.session;
+    session
+}
+
+// Accepts a block.
+pub fn accept_block(session: Recording, window: &mut [u8]) -> Recording {
+    let block = [0x5Au8; 32768];
+    session_of(session.accept_block(&block, window))
+}
+
+// Accepts n blocks.
+pub fn accept_blocks(session: Recording, window: &mut [u8], n: u8) -> Recording {
+    let mut s = session;
+    for _ in 0..n {
+        s = accept_block(s, window);
+    }
+    s
+}
+
+fn print_answer(answer: Answer, frame: &[u8]) {
+    match answer {
+        Answer::Command(c) => print_sent(c, frame),
+        Answer::Idle => print(b"idle"),
+        Answer::Done => print(b"done"),
+        Answer::Refused(r) => print_refusal(r),
+    }
+    print(b"\n");
+}
+
+// Fetches and prints.
+pub fn look(session: Recording, window: &[u8]) -> Recording {
+    let mut frame = [0u8; 33280];
+    let fetched = session.fetch(window, &mut frame);
+    let answer = fetched.answer;
+    print_answer(answer, &frame);
+    let next = fetched.session;
+    next
+}
+
+// Fetches and prints a command, and brings a reply to it.
+pub fn play(session: Recording, window: &[u8], reply: Reply) -> Recording {
+    let sent = look(session, window);
+    session_of(sent.reply(reply))
+}
+
+// Plays n commands, each answered good with nothing buffered.
+pub fn play_good(session: Recording, window: &[u8], n: u8) -> Recording {
+    let mut s = session;
+    for _ in 0..n {
+        s = play(s, window, good(0));
+    }
+    s
+}
+
+// LOCATE and WRITE, then a write error with skip 255 at that address, n times from address 10 on.
+pub fn play_errors(session: Recording, window: &[u8], n: u8) -> Recording {
+    let mut s = session;
+    for k in 0..n {
+        s = play_good(s, window, 2);
+        s = play(s, window, write_error(10 + 255 * (k as u32), 255));
+    }
+    s
+}
