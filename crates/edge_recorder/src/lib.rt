@@ -3,8 +3,10 @@ mod plays;
 
 pub use plays::accept_block;
 pub use plays::accept_blocks;
+pub use plays::accept_filemark;
+pub use plays::close;
 pub use plays::look;
+pub use plays::open;
 pub use plays::play;
 pub use plays::play_errors;
 pub use plays::play_good;
-pub use plays::session_of;

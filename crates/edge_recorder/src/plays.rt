@@ -1,4 +1,4 @@
-// Accepts, fetches and replies.
+// Opening, accepts, close, fetches and replies; a refusal is printed.
 use drive::Reply;
 use edge_output::good;
 use edge_output::print;
@@ -6,16 +6,31 @@ use edge_output::print_refusal;
 use edge_output::print_refused;
 use edge_output::print_sent;
 use edge_output::write_error;
+use geometry::Geometry;
 use recording::Answer;
 use recording::Outcome;
 use recording::Recording;
 
-// The session of an outcome; a refusal is printed.
-pub fn session_of(o: Outcome) -> Recording {
+// The session of an outcome.
+fn session_of(o: Outcome) -> Recording {
     let verdict = o.verdict;
     print_refused(verdict);
     let session = o.session;
     session
+}
+
+// Prints a title and opens a recording with a window of so many blocks.
+pub fn open(title: &[u8], g: Geometry, window: u8) -> Recording {
+    print(title);
+    session_of(Recording::open_blank(g, 16, window))
+}
+
+pub fn accept_filemark(session: Recording) -> Recording {
+    session_of(session.accept_filemark())
+}
+
+pub fn close(session: Recording) -> Recording {
+    session_of(session.close())
 }
 
 // Accepts a block.

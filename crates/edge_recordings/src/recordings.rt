@@ -4,23 +4,17 @@
 use edge_output::busy;
 use edge_output::cartridge;
 use edge_output::good;
-use edge_output::print;
 use edge_output::write_error;
 use edge_recorder::accept_block;
 use edge_recorder::accept_blocks;
+use edge_recorder::accept_filemark;
+use edge_recorder::close;
 use edge_recorder::look;
+use edge_recorder::open;
 use edge_recorder::play;
 use edge_recorder::play_errors;
 use edge_recorder::play_good;
-use edge_recorder::session_of;
-use geometry::Geometry;
 use recording::Recording;
-
-// Prints a title and opens a recording with a window of so many blocks.
-fn open(title: &[u8], g: Geometry, window: u8) -> Recording {
-    print(title);
-    session_of(Recording::open_blank(g, 16, window))
-}
 
 // An error at 11 with skip 3, and one at a closing header's copy.
 fn play_example(session: Recording, window: &[u8]) {
@@ -28,7 +22,7 @@ fn play_example(session: Recording, window: &[u8]) {
     s = play(s, window, write_error(11, 3));
     s = play_good(s, window, 3);
     s = play(s, window, good(1));
-    s = session_of(s.close());
+    s = close(s);
     s = play_good(s, window, 13);
     s = play(s, window, write_error(2991, 9));
     s = play_good(s, window, 5);
@@ -40,7 +34,7 @@ fn play_example(session: Recording, window: &[u8]) {
 fn record_example(window: &mut [u8]) {
     let mut s = open(b"error at 11, skip 3\n", cartridge(1000, 12), 4);
     s = accept_block(s, window);
-    s = session_of(s.accept_filemark());
+    s = accept_filemark(s);
     s = accept_block(s, window);
     play_example(s, window);
 }
@@ -58,8 +52,8 @@ fn play_crossing(session: Recording, window: &[u8]) {
     s = play(s, window, write_error(2815, 170));
     s = play_good(s, window, 1);
     s = play(s, window, busy());
-    s = session_of(s.accept_filemark());
-    s = session_of(s.accept_filemark());
+    s = accept_filemark(s);
+    s = accept_filemark(s);
     s = play_good(s, window, 5);
     s = play(s, window, good(2));
     s = play_good(s, window, 4);
@@ -90,7 +84,7 @@ fn play_one_block(session: Recording, window: &[u8]) {
     s = play_good(s, window, 1);
     s = play(s, window, write_error(10, 2));
     s = play_good(s, window, 3);
-    s = session_of(s.close());
+    s = close(s);
     s = play_good(s, window, 16);
     look(s, window);
 }
