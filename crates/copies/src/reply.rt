@@ -96,7 +96,7 @@ impl Copies {
         ensures { λ r. ⌜ progressSaid r ≡ failedOf self (p .0) ⌝ }
     {
         let start = header_address(self.group, 0);
-        let oldest = start.0 + (less(self.copy, self.outstanding) as u32);
+        let oldest = start.0 + (minus(self.copy, self.outstanding) as u32);
         let next = start.0 + (self.copy as u32);
         if p.0 < oldest {
             return Progress::Refused(Refusal::Reply);
@@ -111,7 +111,7 @@ impl Copies {
 }
 
 // x - y, and 0 where y is the larger.
-fn less(x: u8, y: u8) -> u8
+fn minus(x: u8, y: u8) -> u8
     ensures { λ r. ⌜ r ≡ x - y ⌝ }
 {
     if x < y { 0 } else { x - y }

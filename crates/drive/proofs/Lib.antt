@@ -1,3 +1,4 @@
 pub mod SenseLaws
 pub mod CaseLaws
 pub mod ListedCases
+pub mod ExchangeLaws

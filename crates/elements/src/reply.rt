@@ -73,7 +73,7 @@ impl Elements {
         let trail = trail_after(start, marks, first, base, n);
         Elements {
             first: self.number(n),
-            pending: less(self.pending, n),
+            pending: minus(self.pending, n),
             outstanding: self.outstanding - n,
             trail: trail,
             ..self
@@ -141,7 +141,7 @@ impl Elements {
 }
 
 // x - y, and 0 where y is the larger.
-fn less(x: u16, y: u16) -> u16
+fn minus(x: u16, y: u16) -> u16
     ensures { λ r. ⌜ r ≡ x - y ⌝ }
 {
     if x < y { 0 } else { x - y }

@@ -1,11 +1,12 @@
 -- 01, "AUX bytes": when a header that was read is valid. Bytes not named here are ignored.
-use Prim.Native.Nat.{ℕ}
+use Prim.Native.Nat.{ℕ, _+_}
 use mathlib.Core.Bool.{Bool, _&&_, _||_}
 use mathlib.Core.List.{List}
 use lib.Dec.{eqb, leb}
 use lib.ListN.{getD}
 use Rattle.geometry.specs.Cartridge.{isUser}
 use Rattle.buffer.specs.Bytes.{get16, get32}
+use Rattle.frame.specs.Lengths.{dataLength}
 use Rattle.frame.specs.declared.header.Header.{Header}
 
 -- "ADR_SEQ" and a zero byte; major 1, minor 2 or 3; partition count 1
@@ -23,7 +24,7 @@ isPartition last h =
 
 -- AUX 0-3 are 0, the type is 08 00, the partition FF
 abbrev pub isHeaderAux : List ℕ → Bool
-isHeaderAux h = eqb (get32 h 32768) 0 && eqb (get16 h 32784) 0x0800 && eqb (getD h 32788 0) 0xFF
+isHeaderAux h = eqb (get32 h dataLength) 0 && eqb (get16 h (dataLength + 16)) 0x0800 && eqb (getD h (dataLength + 20) 0) 0xFF
 
 -- valid on a cartridge with this LAST
 unfoldable pub validHeader : ℕ → List ℕ → Bool
@@ -31,7 +32,7 @@ validHeader last h = isNamed h && isPartition last h && isHeaderAux h
 
 -- AUX 12-15
 unfoldable pub updateOf : List ℕ → ℕ
-updateOf h = get32 h 32780
+updateOf h = get32 h (dataLength + 12)
 
 -- what the header tells
 abbrev pub headerOf : List ℕ → Header

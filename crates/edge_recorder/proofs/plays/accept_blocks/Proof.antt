@@ -2,7 +2,6 @@
 use borrow.Author.Needs.{needs}
 use mathlib.Core.Path.{_≡_}
 use Prim.Native.Nat.{_≤_, _-_}
-use native.Mathlib.Omega.{arith}
 use lib.ListN.{length}
 use Rattle.edge_recorder.proofs.plays.accept_blocks.Statement.{statement}
 use Rattle.edge_recorder.proofs.plays.accept_blocks.Tie as tie

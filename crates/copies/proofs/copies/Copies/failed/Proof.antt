@@ -13,8 +13,8 @@ use Rattle.copies.proofs.copies.Copies.failed.Tie as tie
 header-address-requires : tie.Need-header-address-requires
 header-address-requires c κs = search needs
 
-less-requires : tie.Need-less-requires
-less-requires c κs = search needs
+minus-requires : tie.Need-minus-requires
+minus-requires c κs = search needs
 
 cast-oldest : tie.Need-cast-oldest
 cast-oldest c = search needs
@@ -62,7 +62,7 @@ unfolding failedOf
 returns-3 c =
     let a = c .before .before .before .before .before .before .before .before .before .before .before .before .before .before .args in
     let start = c .before .before .before .before .before .before .before .before .before .before .before .before .before .header-address in
-    let before = c .before .before .before .before .before .before .before .before .before .before .before .before .less in
+    let before = c .before .before .before .before .before .before .before .before .before .before .before .before .minus in
     c .onward .ensures
     ∙ ap onwardOf
     (c .before .failed-at .ensures
@@ -77,7 +77,7 @@ failed-spec =
     tie.close
     (tie.spec
     header-address-requires
-    less-requires
+    minus-requires
     cast-oldest
     add-oldest
     cast-next

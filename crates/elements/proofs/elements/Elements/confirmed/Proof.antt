@@ -15,15 +15,15 @@ trail-after-requires c κs = omega (arith, ap (λ (a : Address). a .0) (c .base 
 number-requires : tie.Need-number-requires
 number-requires c κs = tt
 
-less-requires : tie.Need-less-requires
-less-requires c κs = tt
+minus-requires : tie.Need-minus-requires
+minus-requires c κs = tt
 
 sub-t10 : tie.Need-sub-t10
 sub-t10 c = omega arith
 
 returns : tie.Need-returns
 unfolding confirmedOf
-returns c = simp (c .before .before .before .before .before .before .number .ensures, c .before .before .before .before .before .less .ensures, c .before .before .before .before .before .before .before .trail-after .ensures, c .before .before .before .before .before .before .before .before .base .ensures)
+returns c = simp (c .before .before .before .before .before .before .number .ensures, c .before .before .before .before .before .minus .ensures, c .before .before .before .before .before .before .before .trail-after .ensures, c .before .before .before .before .before .before .before .before .base .ensures)
 
 pub confirmed-spec : {M : Type 1} → statement M
-confirmed-spec = tie.close (tie.spec base-requires trail-after-requires number-requires less-requires sub-t10 returns)
+confirmed-spec = tie.close (tie.spec base-requires trail-after-requires number-requires minus-requires sub-t10 returns)
