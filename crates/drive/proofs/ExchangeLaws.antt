@@ -1,6 +1,6 @@
 -- A command's reply is awaited, or the command is to be given again, and never both: what each update of an exchange leaves. Assumes nothing.
 use mathlib.Core.Path.{_≡_, refl}
-use mathlib.Core.Bool.{Bool, true, false, _&&_}
+use mathlib.Core.Bool.{false, _&&_}
 use Rattle.drive.specs.Exchange.{unsent, sentOf, answeredOf, repeatedOf}
 use Rattle.drive.specs.declared.command.Command.{Command}
 use Rattle.drive.specs.declared.exchange.Exchange.{Exchange}
