@@ -19,7 +19,7 @@ use Rattle.twins.specs.declared.numbers.AdrCommand.{AdrCommand}
 use Rattle.twins.specs.declared.numbers.AdrExchange.{AdrExchange}
 use Rattle.twins.specs.declared.recording_numbers.AdrRecording.{AdrRecording}
 use Rattle.twins.specs.declared.reading_numbers.AdrReading.{AdrReading}
-use Rattle.twins.specs.Numbers.{isFlag, flagOf, flagNumber, isStage, stageOf, stageNumber, isCommand, commandOf, commandTwin, isExchange, exchangeOf, exchangeTwin}
+use Rattle.twins.specs.Numbers.{isFlag, flagNumber, isStage, stageOf, stageNumber, isCommand, commandOf, commandTwin, isExchange, exchangeOf, exchangeTwin}
 use Rattle.twins.specs.Marks.{allFlags}
 use Rattle.twins.specs.Recording.{copiesOf, copiesTwin, elementsOf, elementsTwin, isRecording, recordingOf, recordingTwin}
 use Rattle.twins.specs.Reading.{isReading, readingOf, readingTwin}

@@ -1,5 +1,4 @@
 -- A recording session as numbers.
-use Prim.Native.Nat.{ℕ}
 use mathlib.Core.Bool.{Bool, _&&_}
 use mathlib.Core.List.{map}
 use Rattle.geometry.specs.Place.{asAddress}

@@ -1,11 +1,11 @@
 -- `twins::marks::flag_numbers` meets its contract: before index i the numbers are those of the marks. Assumes nothing.
-use mathlib.Core.Path.{_≡_, refl, ap, sym, _∙_}
-use mathlib.Core.Bool.{Bool, false}
+use mathlib.Core.Path.{_≡_, refl, ap, _∙_}
+use mathlib.Core.Bool.{false}
 use mathlib.Core.List.{List, _++_, map, append-nil}
 use Prim.Native.Nat.{ℕ, _-_, _≤_}
 use native.Mathlib.Nat.{le-of-eq}
 use native.Mathlib.Omega.{arith}
-use lib.ListN.{length, take, drop, set, getD, replicate}
+use lib.ListN.{length, take, drop, set, replicate}
 use lib.Seq.{take-all}
 use Rattle.twins.specs.Numbers.{flagNumber}
 use Rattle.twins.proofs.MarkLaws.{map-more, length-of-map}
