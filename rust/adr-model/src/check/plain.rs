@@ -1,0 +1,129 @@
+//! A host that looks at nothing but the demand itself: what was accepted,
+//! whether the close reported done, and which addresses were written.
+
+use super::case::{Call, Case};
+use super::content::{block, Element};
+use crate::command::{Answer, Command, Outcome};
+use crate::drive::Drive;
+use crate::geometry::{Address, BLOCK_LENGTH, FRAME_LENGTH};
+use crate::recording::Recording;
+use crate::reply::Reply;
+
+/// Calls after which a recording that has not come to an end is given up.
+const CALLS: u32 = 20_000;
+
+/// What a recording came to.
+#[derive(Clone, Debug, Default, PartialEq, Eq)]
+pub struct Recorded {
+    /// What was accepted, in order.
+    pub accepted: Vec<Element>,
+    /// Whether the close reported done.
+    pub done: bool,
+}
+
+struct Host<'a> {
+    drive: &'a mut Drive,
+    session: Recording,
+    window: Vec<u8>,
+    frame: Box<[u8; FRAME_LENGTH]>,
+    awaited: Option<Reply>,
+    recorded: Recorded,
+    ended: bool,
+}
+
+/// Makes the calls, closes and goes on until done or an end.
+///
+/// # Errors
+/// The address that must not be written.
+pub fn record(
+    case: &Case,
+    last: Address,
+    drive: &mut Drive,
+    newest: Option<&[u8]>,
+    calls: &[Call],
+) -> Result<Recorded, String> {
+    let (mut session, outcome) =
+        Recording::open(&case.geometry, case.depth, case.window_blocks, newest);
+    session.plant(case.fault);
+    let blocks = usize::try_from(case.window_blocks).unwrap_or(0);
+    let mut host = Host {
+        drive,
+        session,
+        window: vec![0; blocks.saturating_mul(BLOCK_LENGTH)],
+        frame: Box::new([0; FRAME_LENGTH]),
+        awaited: None,
+        recorded: Recorded::default(),
+        ended: outcome != Outcome::Accepted,
+    };
+    for call in calls {
+        host.call(*call);
+    }
+    host.session.close();
+    for _ in 0..CALLS {
+        if host.ended || host.recorded.done {
+            break;
+        }
+        host.call(Call::Exchange);
+    }
+    let recorded = host.recorded;
+    let mut written = drive.log().written.iter();
+    match written.find(|address| !address.is_header_copy() && !address.is_user_frame(last)) {
+        Some(address) => Err(format!("{address:?} was written")),
+        None => Ok(recorded),
+    }
+}
+
+impl Host<'_> {
+    fn call(&mut self, call: Call) {
+        match call {
+            Call::Block(number) => {
+                let outcome = self.session.accept_block(block(number), &mut self.window);
+                self.accepted(outcome, Element::Block(number));
+            }
+            Call::Filemark => {
+                let outcome = self.session.accept_filemark();
+                self.accepted(outcome, Element::Filemark);
+            }
+            Call::Fetch => self.fetch(),
+            Call::Reply => self.reply(),
+            Call::Exchange => {
+                self.reply();
+                self.fetch();
+            }
+            Call::Close => {
+                self.session.close();
+            }
+            // Refused calls are looked at by the other host.
+            _ => {}
+        }
+    }
+
+    fn accepted(&mut self, outcome: Outcome, element: Element) {
+        if outcome == Outcome::Accepted {
+            self.recorded.accepted.push(element);
+        }
+    }
+
+    fn fetch(&mut self) {
+        let answer = self.session.fetch(&self.window, self.frame.as_mut_slice());
+        match answer {
+            Answer::Command(command @ Command::Read(_)) => {
+                self.awaited = Some(self.drive.read(command, &mut self.frame));
+            }
+            Answer::Command(command) => {
+                self.awaited = Some(self.drive.record(command, &self.frame));
+            }
+            Answer::Done => self.recorded.done = true,
+            Answer::Refused(number) => self.ended = self.ended || number > 7,
+            Answer::Idle => {}
+        }
+    }
+
+    fn reply(&mut self) {
+        if let Some(reply) = self.awaited.take() {
+            if let Outcome::Refused(number) = self.session.reply(&reply) {
+                self.ended = self.ended || number > 7;
+            }
+        }
+    }
+}

@@ -1,0 +1,177 @@
+//! The host of a reading: compares the deliveries with what was accepted.
+
+use super::case::Case;
+use super::content::{block, Element};
+use crate::command::{Command, Outcome, ReadAnswer, ReadOutcome};
+use crate::drive::Drive;
+use crate::frame::{data_of, Frame, HeaderFields};
+use crate::geometry::{Address, FRAME_LENGTH, HEADER_GROUPS};
+use crate::header::{check, choose};
+use crate::random::Random;
+use crate::reading::Reading;
+use crate::reply::{Meaning, Reply, GOOD};
+
+/// The LAST up to which a cartridge without an end is read.
+const FAR: u32 = 20_000;
+
+/// How a reading came to its end.
+#[derive(Clone, Copy, Debug, PartialEq, Eq)]
+enum Finish {
+    End,
+    Refused(u8),
+}
+
+/// Reads a finished cartridge back and gives the number of deliveries, which
+/// must be all that was accepted.
+///
+/// # Errors
+/// What was found wrong.
+pub fn read_back(
+    case: &Case,
+    last: Address,
+    drive: &mut Drive,
+    accepted: &[Element],
+    seed: u64,
+) -> Result<u64, String> {
+    let Some((header, fields)) = drive.tape().newest_header(last) else {
+        return Err("the cartridge holds no header".into());
+    };
+    if !fields.eod.is_user_frame(last) {
+        return Err("the newest header is not closed".into());
+    }
+    choice_agrees(case, drive, &fields)?;
+    let (delivered, finish) = read(case, &header, drive, accepted, seed)?;
+    if finish != Finish::End || delivered != accepted.len() {
+        return Err(format!("{finish:?} after {delivered} deliveries"));
+    }
+    Ok(delivered as u64)
+}
+
+/// Chooses among the ten copies two by two, as a host does.
+fn choice_agrees(case: &Case, drive: &Drive, newest: &HeaderFields) -> Result<(), String> {
+    let mut chosen: &[u8] = &[];
+    for address in HEADER_GROUPS.iter().flatten() {
+        if let Some(copy) = drive.tape().read(*address) {
+            let first = if chosen.is_empty() {
+                copy.as_slice()
+            } else {
+                chosen
+            };
+            // Two invalid ones are refused, and so may two old ones be.
+            chosen = choose(&case.geometry, first, copy.as_slice()).unwrap_or(first);
+        }
+    }
+    let fields = check(&case.geometry, chosen);
+    if fields == Ok(*newest) {
+        Ok(())
+    } else {
+        Err(format!("the choice gave {fields:?}, not {newest:?}"))
+    }
+}
+
+/// Reads a cartridge whose recording broke off, if its headers were written;
+/// the deliveries are the first so many of what was accepted, and the end is
+/// missing if EOD was never sent.
+///
+/// # Errors
+/// What was found wrong.
+pub fn read_unfinished(
+    case: &Case,
+    pass: u16,
+    drive: &mut Drive,
+    accepted: &[Element],
+    seed: u64,
+) -> Result<(), String> {
+    let last = case.geometry.last().filter(|last| last.0 <= FAR);
+    let newest = last.and_then(|last| drive.tape().newest_header(last));
+    let Some((header, _)) = newest.filter(|(_, fields)| fields.pass == pass) else {
+        return Ok(());
+    };
+    match read(case, &header, drive, accepted, seed)? {
+        (_, Finish::Refused(12)) => Ok(()),
+        (delivered, Finish::End) if delivered == accepted.len() => Ok(()),
+        (delivered, finish) => Err(format!("{finish:?} after {delivered} deliveries")),
+    }
+}
+
+fn read(
+    case: &Case,
+    header: &Frame,
+    drive: &mut Drive,
+    accepted: &[Element],
+    seed: u64,
+) -> Result<(usize, Finish), String> {
+    let (mut session, outcome) = Reading::open(&case.geometry, header.as_slice());
+    if outcome != Outcome::Accepted {
+        return Err(format!("the reading opened with {outcome:?}"));
+    }
+    session.plant(case.fault);
+    let mut random = Random::new(seed ^ 0x4EAD);
+    let mut frame = Box::new([0; FRAME_LENGTH]);
+    let mut delivered = 0;
+    // Each address is read once at most, and located before that.
+    let mut bound = 2 * u64::from(case.geometry.frames()) + 2;
+    loop {
+        refused_calls(&mut session, None, &mut random)?;
+        let command = match session.fetch() {
+            ReadAnswer::Command(command) => command,
+            ReadAnswer::Refused(number) => return Ok((delivered, Finish::Refused(number))),
+            ReadAnswer::End => return Err("the end without EOD".into()),
+        };
+        refused_calls(&mut session, Some(command), &mut random)?;
+        if matches!(command, Command::Read(address) if address != drive.next()) {
+            return Err(format!("{command:?}, but the drive is elsewhere"));
+        }
+        let reply = drive.read(command, &mut frame);
+        if reply.sense.meaning() != Meaning::Busy {
+            bound = bound.checked_sub(1).ok_or("replies without bound")?;
+        }
+        match session.reply(&reply, frame.as_slice()) {
+            ReadOutcome::Nothing => {}
+            ReadOutcome::End => break,
+            ReadOutcome::Refused(number) => return Ok((delivered, Finish::Refused(number))),
+            outcome => {
+                let element = accepted.get(delivered);
+                if !is_delivered(outcome, &frame, element) {
+                    return Err(format!("{outcome:?} where {element:?} was due"));
+                }
+                delivered += 1;
+            }
+        }
+    }
+    if session.fetch() != ReadAnswer::End || session.fetch() != ReadAnswer::End {
+        return Err("the end is not said again".into());
+    }
+    Ok((delivered, Finish::End))
+}
+
+fn is_delivered(outcome: ReadOutcome, frame: &Frame, element: Option<&Element>) -> bool {
+    match (outcome, element) {
+        (ReadOutcome::Block, Some(Element::Block(number))) => data_of(frame) == block(*number),
+        (ReadOutcome::Filemark, Some(Element::Filemark)) => true,
+        _ => false,
+    }
+}
+
+/// Now and then makes calls that are refused and must alter nothing.
+fn refused_calls(
+    session: &mut Reading,
+    awaited: Option<Command>,
+    random: &mut Random,
+) -> Result<(), String> {
+    if !random.chance(20) {
+        return Ok(());
+    }
+    let before = session.clone();
+    let off = if random.chance(500) { 1 } else { -1 };
+    let wrong = vec![0; FRAME_LENGTH.saturating_add_signed(off)];
+    let number = if awaited.is_some() { 1 } else { 7 };
+    let outcome = session.reply(&Reply::of(GOOD), &wrong);
+    let fetched_twice = awaited.is_some() && session.fetch() != ReadAnswer::Refused(7);
+    if outcome != ReadOutcome::Refused(number) || fetched_twice || before != *session {
+        return Err(format!(
+            "a refused call answered {outcome:?}, or altered something"
+        ));
+    }
+    Ok(())
+}

@@ -1,0 +1,282 @@
+//! The host of a recording: makes the calls of a list and looks at each.
+
+use std::collections::{BTreeMap, VecDeque};
+
+use super::case::{Call, Case};
+use super::content::{block, Element};
+use super::replies::UNTOUCHED;
+use crate::command::{Answer, Command, Outcome};
+use crate::drive::Drive;
+use crate::frame::{Frame, HeaderFields};
+use crate::geometry::{Address, BLOCK_LENGTH, FRAME_LENGTH};
+use crate::recording::Recording;
+use crate::reply::Reply;
+use crate::tape::Shared;
+
+/// The host of a recording.
+#[derive(Clone, Debug)]
+pub struct Recorder {
+    /// The drive.
+    pub drive: Drive,
+    /// What was accepted, in order.
+    pub accepted: Vec<Element>,
+    /// Whether a fetch answered done.
+    pub done: bool,
+    /// The refusal from 8 to 12 that ended the session.
+    pub refused: Option<u8>,
+    pub(super) session: Recording,
+    pub(super) last: Address,
+    pub(super) end: Address,
+    pub(super) pass: u16,
+    pub(super) update_count: u32,
+    pub(super) closed: bool,
+    pub(super) window: Vec<u8>,
+    pub(super) shadow: Vec<u8>,
+    pub(super) frame: Box<Frame>,
+    pub(super) expected: Box<Frame>,
+    pub(super) awaited: Option<(Command, Reply)>,
+    /// The command answered busy.
+    pub(super) again: Option<Command>,
+    /// Where LOCATE must go after a write error.
+    pub(super) target: Option<Address>,
+    /// Where each marker was last sent to.
+    pub(super) markers: BTreeMap<usize, Address>,
+    /// What the drive took and is not known on tape.
+    pub(super) taken: VecDeque<(Sent, Address)>,
+    /// Elements known on tape.
+    pub(super) confirmed: usize,
+    /// Header copies known on tape, of this round.
+    pub(super) good_headers: u32,
+    /// Where EOD is known on tape.
+    pub(super) eod: Option<Address>,
+    pub(super) window_blocks: usize,
+    pub(super) fetches: u32,
+}
+
+/// What a WRITE sent.
+#[derive(Clone, Copy, Debug, PartialEq, Eq)]
+pub(super) enum Sent {
+    Header,
+    Element,
+    Eod,
+}
+
+impl Recorder {
+    /// Opens a recording on the newest header.
+    ///
+    /// # Errors
+    /// What was found wrong.
+    pub fn open(
+        case: &Case,
+        last: Address,
+        drive: Drive,
+        newest: Option<(Shared, HeaderFields)>,
+    ) -> Result<Recorder, String> {
+        let header = newest.as_ref().map(|(frame, _)| frame.as_slice());
+        let (mut session, outcome) =
+            Recording::open(&case.geometry, case.depth, case.window_blocks, header);
+        let fields = newest.as_ref().map(|(_, fields)| *fields);
+        let (pass, update_count, spent) = fields.map_or((1, 0, false), |old| {
+            let spent = old.pass == 65_534 || old.update_count > 4_294_967_293;
+            let pass = old.pass.wrapping_add(1);
+            (pass, old.update_count.wrapping_add(1), spent)
+        });
+        let expected = if spent {
+            Outcome::Refused(5)
+        } else {
+            Outcome::Accepted
+        };
+        if outcome != expected {
+            return Err(format!("opening answered {outcome:?}"));
+        }
+        session.plant(case.fault);
+        let blocks = usize::try_from(case.window_blocks).unwrap_or(0);
+        let window = vec![0x5A; if spent { 0 } else { blocks * BLOCK_LENGTH }];
+        Ok(Recorder {
+            drive,
+            accepted: Vec::new(),
+            done: false,
+            refused: spent.then_some(5),
+            session,
+            last,
+            end: last,
+            pass,
+            update_count,
+            closed: false,
+            shadow: window.clone(),
+            window,
+            frame: Box::new(UNTOUCHED),
+            expected: Box::new([0; FRAME_LENGTH]),
+            awaited: None,
+            again: None,
+            target: None,
+            markers: BTreeMap::new(),
+            taken: VecDeque::new(),
+            confirmed: 0,
+            good_headers: 0,
+            eod: None,
+            window_blocks: blocks,
+            fetches: 0,
+        })
+    }
+
+    /// Makes the calls, closes, and goes on until done or a refusal that ends
+    /// the session.
+    ///
+    /// # Errors
+    /// What was found wrong.
+    pub fn run(&mut self, calls: &[Call]) -> Result<(), String> {
+        for call in calls {
+            self.call(*call)
+                .map_err(|wrong| format!("{call:?}: {wrong}"))?;
+        }
+        if !self.closed {
+            self.call(Call::Close)?;
+        }
+        while !self.done && self.refused.is_none() {
+            self.call(Call::Exchange)?;
+        }
+        for call in [Call::Filemark, Call::Block(3), Call::Close, Call::Reply] {
+            self.call(call)?;
+        }
+        self.call(Call::Fetch)?;
+        self.only_allowed_addresses()
+    }
+
+    fn only_allowed_addresses(&self) -> Result<(), String> {
+        let written = &self.drive.log().written;
+        match written
+            .iter()
+            .find(|address| !address.is_header_copy() && !address.is_user_frame(self.last))
+        {
+            Some(address) => Err(format!("{address:?} was written")),
+            None => Ok(()),
+        }
+    }
+
+    fn call(&mut self, call: Call) -> Result<(), String> {
+        match call {
+            Call::Block(number) => self.accept_block(number),
+            Call::Filemark => self.accept_filemark(),
+            Call::Fetch => self.fetch(),
+            Call::Reply => self.reply(),
+            Call::Exchange => {
+                if self.awaited.is_some() {
+                    self.reply()?;
+                }
+                self.fetch()
+            }
+            Call::Close => {
+                let before = self.session.clone();
+                let outcome = self.session.close();
+                let phase = self.closed || self.refused.is_some();
+                self.closed = self.closed || outcome == Outcome::Accepted;
+                self.look(outcome, if phase { &[7] } else { &[] }, &before)
+            }
+            Call::WrongBlock(off) => {
+                let before = self.session.clone();
+                let block = vec![1; BLOCK_LENGTH.saturating_add_signed(isize::from(off))];
+                let outcome = self.session.accept_block(&block, &mut self.window);
+                self.look(outcome, self.phase_or_length(), &before)
+            }
+            Call::WrongWindow(off) => {
+                let before = self.session.clone();
+                let length = self.window.len().saturating_add_signed(isize::from(off));
+                let mut window = vec![1; length];
+                let outcome = self.session.accept_block(block(1), &mut window);
+                if window.iter().any(|byte| *byte != 1) {
+                    return Err("a refused window was altered".into());
+                }
+                self.look(outcome, self.phase_or_length(), &before)
+            }
+            Call::WrongFrame(off) => {
+                let length = FRAME_LENGTH.saturating_add_signed(isize::from(off));
+                self.wrong_fetch(self.window.len(), length)
+            }
+            Call::WrongFetchWindow(off) => {
+                let length = self.window.len().saturating_add_signed(isize::from(off));
+                self.wrong_fetch(length, FRAME_LENGTH)
+            }
+        }
+    }
+
+    /// The refusal of an accept with a wrong length.
+    fn phase_or_length(&self) -> &'static [u8] {
+        if self.closed || self.refused.is_some() {
+            &[7]
+        } else {
+            &[1]
+        }
+    }
+
+    fn wrong_fetch(&mut self, window: usize, length: usize) -> Result<(), String> {
+        let before = self.session.clone();
+        let mut frame = vec![1; length];
+        let answer = self.session.fetch(&vec![2; window], &mut frame);
+        let phase = self.awaited.is_some() || self.refused.is_some();
+        let expected = Answer::Refused(if phase { 7 } else { 1 });
+        if answer != expected || frame.iter().any(|byte| *byte != 1) || before != self.session {
+            return Err(format!("answered {answer:?}, or altered something"));
+        }
+        Ok(())
+    }
+
+    /// Looks at an outcome: refused with one of `refusals`, or accepted if
+    /// there are none, and nothing altered if refused.
+    pub(super) fn look(
+        &self,
+        outcome: Outcome,
+        refusals: &[u8],
+        before: &Recording,
+    ) -> Result<(), String> {
+        let fits = match outcome {
+            Outcome::Accepted => refusals.is_empty(),
+            Outcome::Refused(number) => refusals.contains(&number),
+        };
+        if !fits {
+            return Err(format!("answered {outcome:?}, not {refusals:?}"));
+        }
+        if outcome != Outcome::Accepted && (self.session != *before || self.window != self.shadow) {
+            return Err("a refused call altered the session or the window".into());
+        }
+        Ok(())
+    }
+
+    /// The refusal of an accept with right lengths, by what the replies told.
+    fn phase_or_full(&self) -> &'static [u8] {
+        if self.closed || self.refused.is_some() {
+            &[7]
+        } else if self.accepted.len() - self.confirmed >= self.window_blocks {
+            &[6]
+        } else {
+            &[]
+        }
+    }
+
+    fn accept_block(&mut self, number: u16) -> Result<(), String> {
+        let before = self.session.clone();
+        let refusals = self.phase_or_full();
+        let outcome = self.session.accept_block(block(number), &mut self.window);
+        if outcome == Outcome::Accepted {
+            let start = self.accepted.len() % self.window_blocks * BLOCK_LENGTH;
+            if let Some(place) = self.shadow.get_mut(start..start + BLOCK_LENGTH) {
+                place.copy_from_slice(block(number));
+            }
+            self.accepted.push(Element::Block(number));
+            if self.window != self.shadow {
+                return Err("the window is not as it should be".into());
+            }
+        }
+        self.look(outcome, refusals, &before)
+    }
+
+    fn accept_filemark(&mut self) -> Result<(), String> {
+        let before = self.session.clone();
+        let refusals = self.phase_or_full();
+        let outcome = self.session.accept_filemark();
+        if outcome == Outcome::Accepted {
+            self.accepted.push(Element::Filemark);
+        }
+        self.look(outcome, refusals, &before)
+    }
+}

@@ -1,0 +1,254 @@
+//! Elements and EOD on their way to tape.
+
+use std::collections::{BTreeMap, VecDeque};
+
+use crate::command::{Answer, Command};
+use crate::fault::Fault;
+use crate::frame::{Kind, Label};
+use crate::geometry::{Address, SequenceNumber, FIRST_USER, GAP_END, GAP_FIRST};
+use crate::reply::{Meaning, Reply};
+
+/// The state of a recording between its headers.
+#[derive(Clone, Debug, PartialEq, Eq)]
+pub struct Elements {
+    depth: usize,
+    pass: u16,
+    last: Address,
+    /// END, the last address that may be written.
+    end: Address,
+    /// The next address.
+    next: Address,
+    /// The target of a write error noted.
+    target: Option<Address>,
+    /// Accepted and not known on tape, oldest first; EOD once it is due.
+    waiting: VecDeque<Kind>,
+    /// The first so many waiting are taken by the drive.
+    outstanding: usize,
+    /// Elements known on tape.
+    confirmed: u32,
+    /// Filemarks known on tape.
+    filemarks: u32,
+    /// The latest marker known on tape.
+    latest_marker: Option<Address>,
+    /// Where EOD is known on tape.
+    eod: Option<Address>,
+    fault: Fault,
+    /// Marker addresses of first sendings, for the fault that keeps them.
+    remembered: BTreeMap<u32, Option<Address>>,
+}
+
+fn count(number: usize) -> u32 {
+    u32::try_from(number).unwrap_or(u32::MAX)
+}
+
+impl Elements {
+    /// No elements yet.
+    #[must_use]
+    pub fn new(depth: usize, pass: u16, last: Address) -> Elements {
+        Elements {
+            depth,
+            pass,
+            last,
+            end: last,
+            next: FIRST_USER,
+            target: None,
+            waiting: VecDeque::new(),
+            outstanding: 0,
+            confirmed: 0,
+            filemarks: 0,
+            latest_marker: None,
+            eod: None,
+            fault: Fault::None,
+            remembered: BTreeMap::new(),
+        }
+    }
+
+    /// Plants a fault.
+    pub fn plant(&mut self, fault: Fault) {
+        self.fault = fault;
+    }
+
+    /// Elements not known on tape.
+    #[must_use]
+    pub fn unconfirmed(&self) -> usize {
+        if self.fault == Fault::WindowReusedEarly {
+            return self.waiting.len().saturating_sub(self.outstanding);
+        }
+        self.waiting.len()
+    }
+
+    /// The number the next accepted element gets.
+    #[must_use]
+    pub fn next_number(&self) -> SequenceNumber {
+        SequenceNumber(self.confirmed.saturating_add(count(self.waiting.len())))
+    }
+
+    /// Where EOD is known on tape.
+    #[must_use]
+    pub fn eod(&self) -> Option<Address> {
+        self.eod
+    }
+
+    /// Adds an accepted element.
+    pub fn accept(&mut self, kind: Kind) {
+        self.waiting.push_back(kind);
+    }
+
+    /// Makes EOD due if every element is on tape; close was called.
+    pub fn end_if_whole(&mut self) {
+        let due = self.waiting.len().saturating_sub(self.outstanding);
+        if self.fault == Fault::EodBeforeLastElement && due == 1 {
+            self.waiting.truncate(self.outstanding);
+            self.waiting.push_back(Kind::Eod);
+        }
+        if self.waiting.is_empty() && self.eod.is_none() {
+            self.waiting.push_back(Kind::Eod);
+        }
+    }
+
+    /// The first rule that applies.
+    #[must_use]
+    pub fn answer(&self) -> Answer {
+        if let Some(target) = self.target {
+            return Answer::Command(Command::Locate(target));
+        }
+        let some = self.outstanding > 0;
+        if self.outstanding >= self.waiting.len() {
+            return if some {
+                Answer::Command(Command::ReadPosition)
+            } else {
+                Answer::Idle
+            };
+        }
+        let above = self.next > self.end;
+        let at_gap = self.next == GAP_FIRST;
+        let stop_at_gap = at_gap && self.fault != Fault::LocateWhileBuffered;
+        Answer::Command(
+            if self.outstanding >= self.depth || some && (stop_at_gap || above) {
+                Command::ReadPosition
+            } else if above {
+                return Answer::Refused(9);
+            } else if at_gap {
+                Command::Locate(GAP_END)
+            } else {
+                Command::Write(self.next)
+            },
+        )
+    }
+
+    /// The first element due, with its AUX for the next address.
+    pub fn sending(&mut self) -> Option<Label> {
+        let kind = self.waiting.get(self.outstanding).copied()?;
+        let number = self.confirmed.saturating_add(count(self.outstanding));
+        let taken = || self.waiting.iter().take(self.outstanding).enumerate();
+        let markers = taken().filter(|(_, kind)| **kind == Kind::Marker);
+        let mut latest_marker = markers
+            .clone()
+            .next_back()
+            .map(|(at, _)| self.oldest().plus(count(at)))
+            .or(self.latest_marker);
+        let filemarks = self.filemarks.saturating_add(count(markers.count()));
+        if self.fault == Fault::OldMarkerAddress {
+            latest_marker = *self.remembered.entry(number).or_insert(latest_marker);
+        }
+        Some(Label {
+            kind,
+            pass: self.pass,
+            last: self.last,
+            number: SequenceNumber(number),
+            filemarks,
+            latest_marker,
+        })
+    }
+
+    /// The address of the oldest outstanding frame.
+    fn oldest(&self) -> Address {
+        self.next.minus(count(self.outstanding))
+    }
+
+    fn confirm(&mut self, frames: usize) {
+        for _ in 0..frames.min(self.outstanding) {
+            let address = self.oldest();
+            self.outstanding -= 1;
+            match self.waiting.pop_front() {
+                Some(Kind::Eod) => self.eod = Some(address),
+                Some(Kind::Marker) => {
+                    self.filemarks = self.filemarks.saturating_add(1);
+                    self.latest_marker = Some(address);
+                    self.confirmed = self.confirmed.saturating_add(1);
+                }
+                Some(Kind::Data) => self.confirmed = self.confirmed.saturating_add(1),
+                None => {}
+            }
+        }
+    }
+
+    fn take(&mut self) {
+        self.outstanding += 1;
+        self.next = self.next.plus(1);
+    }
+
+    /// Takes in the reply to `command`, busy ones aside.
+    ///
+    /// # Errors
+    /// The number of the refusal that ends the session.
+    pub fn reply(&mut self, command: Command, reply: &Reply) -> Result<(), u8> {
+        match (command, reply.sense.meaning()) {
+            (Command::Locate(address), Meaning::Good) => {
+                self.next = address;
+                self.target = None;
+                if self.fault == Fault::LocateWhileBuffered {
+                    self.confirm(self.outstanding);
+                }
+            }
+            (Command::Write(_), Meaning::Good) => self.take(),
+            (Command::Write(address), Meaning::EarlyEnd) => self.end = address.minus(1),
+            (Command::ReadPosition, Meaning::Good) => {
+                let buffered = usize::try_from(reply.buffered).map_err(|_| 8)?;
+                let confirmed = self.outstanding.checked_sub(buffered).ok_or(8)?;
+                if self.fault == Fault::BufferedConfirmed {
+                    self.confirm(self.outstanding);
+                }
+                self.confirm(confirmed);
+            }
+            (Command::Write(_) | Command::ReadPosition, Meaning::WriteError) => {
+                return self.write_error(reply);
+            }
+            _ => return Err(8),
+        }
+        Ok(())
+    }
+
+    /// A busy WRITE counts as taken: a planted fault.
+    pub fn busy(&mut self, command: Command) -> bool {
+        let planted = self.fault == Fault::BusyTaken && matches!(command, Command::Write(_));
+        if planted {
+            self.take();
+        }
+        planted
+    }
+
+    fn write_error(&mut self, reply: &Reply) -> Result<(), u8> {
+        let failed = reply.position;
+        if failed < self.oldest() || failed >= self.next || reply.skip > 255 {
+            return Err(8);
+        }
+        let before = failed.0.saturating_sub(self.oldest().0);
+        self.confirm(usize::try_from(before).unwrap_or(usize::MAX));
+        if self.fault == Fault::FirstResentOnly && self.outstanding > 1 {
+            self.waiting.drain(1..self.outstanding);
+        }
+        self.outstanding = 0;
+        self.next = failed;
+        let mut target = failed.plus(reply.skip.max(1));
+        if self.fault != Fault::JumpIntoDefectMap {
+            target = target.out_of_gap();
+        }
+        self.target = Some(target);
+        if target > self.end {
+            Err(9)
+        } else {
+            Ok(())
+        }
+    }
+}

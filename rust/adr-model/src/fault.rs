@@ -1,0 +1,49 @@
+//! Faults that can be planted in a session, for the checks to find.
+
+/// A planted fault; [`Fault::None`] is the sound model.
+#[derive(Clone, Copy, Debug, Default, PartialEq, Eq, Hash)]
+pub enum Fault {
+    /// No fault.
+    #[default]
+    None,
+    /// Frames are sent again with the marker address of their first sending.
+    OldMarkerAddress,
+    /// LOCATE 3,000 goes out while frames are buffered.
+    LocateWhileBuffered,
+    /// READ POSITION confirms the frames the drive still holds.
+    BufferedConfirmed,
+    /// A reading takes every frame of its pass, whatever its number.
+    NumberIgnored,
+    /// A reading takes frames of every pass.
+    PassIgnored,
+    /// A reading compares AUX bytes 4 to 11.
+    DriveBytesCompared,
+    /// The target of a write error may lie in the defect map.
+    JumpIntoDefectMap,
+    /// EOD is sent while the last element is still due.
+    EodBeforeLastElement,
+    /// A WRITE answered busy counts as taken.
+    BusyTaken,
+    /// After a write error only the first frame is sent again.
+    FirstResentOnly,
+    /// The closing headers keep the update count of the opening ones.
+    UpdateCountKept,
+    /// A window block serves again as soon as the drive took it.
+    WindowReusedEarly,
+}
+
+/// Every planted fault.
+pub const PLANTED: [Fault; 12] = [
+    Fault::OldMarkerAddress,
+    Fault::LocateWhileBuffered,
+    Fault::BufferedConfirmed,
+    Fault::NumberIgnored,
+    Fault::PassIgnored,
+    Fault::DriveBytesCompared,
+    Fault::JumpIntoDefectMap,
+    Fault::EodBeforeLastElement,
+    Fault::BusyTaken,
+    Fault::FirstResentOnly,
+    Fault::UpdateCountKept,
+    Fault::WindowReusedEarly,
+];

@@ -1,0 +1,294 @@
+//! A recording session.
+
+use crate::command::{Answer, Command, Outcome};
+use crate::elements::Elements;
+use crate::fault::Fault;
+use crate::frame::{fill_frame, fill_header, Frame, HeaderFields, Kind};
+use crate::geometry::{Address, Geometry, BLOCK_LENGTH, FIRST_USER, FRAME_LENGTH};
+use crate::header;
+use crate::header_copies::{HeaderCopies, Walk};
+use crate::reply::{Meaning, Reply};
+
+/// Where a recording stands.
+#[derive(Clone, Debug, PartialEq, Eq)]
+enum Stage {
+    OpeningHeaders(HeaderCopies),
+    LocateFirst,
+    Elements,
+    ClosingHeaders(HeaderCopies),
+    Done,
+}
+
+/// A recording session.
+#[derive(Clone, Debug, PartialEq, Eq)]
+pub struct Recording {
+    depth: usize,
+    window_blocks: usize,
+    pass: u16,
+    update_count: u32,
+    last: Address,
+    stage: Stage,
+    elements: Elements,
+    closed: bool,
+    ended: bool,
+    awaited: Option<Command>,
+    /// The command answered busy, which comes again.
+    again: Option<Command>,
+    fault: Fault,
+}
+
+impl Recording {
+    /// Opens a session on the newest header or none; a refused opening
+    /// returns an ended session.
+    #[must_use]
+    pub fn open(
+        geometry: &Geometry,
+        depth: u32,
+        window_blocks: u32,
+        newest: Option<&[u8]>,
+    ) -> (Recording, Outcome) {
+        match Recording::try_open(geometry, depth, window_blocks, newest) {
+            Ok(session) => (session, Outcome::Accepted),
+            Err(number) => {
+                let mut session = Recording::fresh(0, 0, 0, 0, Address(0));
+                session.ended = true;
+                (session, Outcome::Refused(number))
+            }
+        }
+    }
+
+    fn try_open(
+        geometry: &Geometry,
+        depth: u32,
+        window_blocks: u32,
+        newest: Option<&[u8]>,
+    ) -> Result<Recording, u8> {
+        if newest.is_some_and(|header| header.len() != FRAME_LENGTH) {
+            return Err(1);
+        }
+        let last = geometry.last().ok_or(2)?;
+        let old = newest
+            .map(|header| header::check(geometry, header))
+            .transpose()?;
+        if !(1..=255).contains(&depth) || !(1..=64).contains(&window_blocks) {
+            return Err(4);
+        }
+        let (pass, update_count) = match old {
+            None => (1, 0),
+            Some(old) if old.pass >= 65_534 || old.update_count > 4_294_967_293 => return Err(5),
+            Some(old) => (old.pass + 1, old.update_count + 1),
+        };
+        let depth = usize::try_from(depth).map_err(|_| 4)?;
+        let window_blocks = usize::try_from(window_blocks).map_err(|_| 4)?;
+        Ok(Recording::fresh(
+            depth,
+            window_blocks,
+            pass,
+            update_count,
+            last,
+        ))
+    }
+
+    fn fresh(
+        depth: usize,
+        window_blocks: usize,
+        pass: u16,
+        update_count: u32,
+        last: Address,
+    ) -> Recording {
+        Recording {
+            depth,
+            window_blocks,
+            pass,
+            update_count,
+            last,
+            stage: Stage::OpeningHeaders(HeaderCopies::new(depth)),
+            elements: Elements::new(depth, pass, last),
+            closed: false,
+            ended: false,
+            awaited: None,
+            again: None,
+            fault: Fault::None,
+        }
+    }
+
+    /// Plants a fault for the checks to find.
+    pub fn plant(&mut self, fault: Fault) {
+        self.fault = fault;
+        self.elements.plant(fault);
+    }
+
+    /// The write pass of this recording.
+    #[must_use]
+    pub fn pass(&self) -> u16 {
+        self.pass
+    }
+
+    fn window_length(&self) -> usize {
+        self.window_blocks.saturating_mul(BLOCK_LENGTH)
+    }
+
+    fn window_place(&self, number: u32) -> std::ops::Range<usize> {
+        let block = usize::try_from(number)
+            .unwrap_or(0)
+            .checked_rem(self.window_blocks)
+            .unwrap_or(0);
+        let start = block.saturating_mul(BLOCK_LENGTH);
+        start..start.saturating_add(BLOCK_LENGTH)
+    }
+
+    /// Accepts a block into the window.
+    pub fn accept_block(&mut self, block: &[u8], window: &mut [u8]) -> Outcome {
+        if self.ended || self.closed {
+            return Outcome::Refused(7);
+        }
+        if block.len() != BLOCK_LENGTH || window.len() != self.window_length() {
+            return Outcome::Refused(1);
+        }
+        if self.elements.unconfirmed() >= self.window_blocks {
+            return Outcome::Refused(6);
+        }
+        if let Some(place) = window.get_mut(self.window_place(self.elements.next_number().0)) {
+            place.copy_from_slice(block);
+        }
+        self.elements.accept(Kind::Data);
+        Outcome::Accepted
+    }
+
+    /// Accepts a filemark.
+    pub fn accept_filemark(&mut self) -> Outcome {
+        if self.ended || self.closed {
+            return Outcome::Refused(7);
+        }
+        if self.elements.unconfirmed() >= self.window_blocks {
+            return Outcome::Refused(6);
+        }
+        self.elements.accept(Kind::Marker);
+        Outcome::Accepted
+    }
+
+    /// Asks for the recording to be ended.
+    pub fn close(&mut self) -> Outcome {
+        if self.ended || self.closed {
+            return Outcome::Refused(7);
+        }
+        self.closed = true;
+        Outcome::Accepted
+    }
+
+    /// Fetches the next command; a WRITE fills the lent frame.
+    pub fn fetch(&mut self, window: &[u8], frame: &mut [u8]) -> Answer {
+        if self.ended || self.awaited.is_some() {
+            return Answer::Refused(7);
+        }
+        let Ok(frame) = <&mut Frame>::try_from(frame) else {
+            return Answer::Refused(1);
+        };
+        if window.len() != self.window_length() {
+            return Answer::Refused(1);
+        }
+        let answer = match self.again {
+            Some(command) => Answer::Command(command),
+            None => self.next_answer(),
+        };
+        match answer {
+            Answer::Command(command) => {
+                self.again = None;
+                self.awaited = Some(command);
+                if let Command::Write(_) = command {
+                    self.fill(window, frame);
+                }
+            }
+            Answer::Refused(_) => self.ended = true,
+            Answer::Idle | Answer::Done => {}
+        }
+        answer
+    }
+
+    fn next_answer(&mut self) -> Answer {
+        match &self.stage {
+            Stage::OpeningHeaders(copies) | Stage::ClosingHeaders(copies) => {
+                Answer::Command(copies.command())
+            }
+            Stage::LocateFirst => Answer::Command(Command::Locate(FIRST_USER)),
+            Stage::Elements => {
+                if self.closed {
+                    self.elements.end_if_whole();
+                }
+                self.elements.answer()
+            }
+            Stage::Done => Answer::Done,
+        }
+    }
+
+    fn fill(&mut self, window: &[u8], frame: &mut Frame) {
+        let (count, eod) = match &self.stage {
+            Stage::OpeningHeaders(_) => (self.update_count, Address(0)),
+            Stage::ClosingHeaders(_) => (
+                self.update_count
+                    .saturating_add(u32::from(self.fault != Fault::UpdateCountKept)),
+                self.elements.eod().unwrap_or(Address(0)),
+            ),
+            _ => {
+                if let Some(label) = self.elements.sending() {
+                    let block = window.get(self.window_place(label.number.0));
+                    let block = block.filter(|_| label.kind == Kind::Data);
+                    fill_frame(frame, &label, block);
+                }
+                return;
+            }
+        };
+        let fields = HeaderFields {
+            pass: self.pass,
+            update_count: count,
+            last: self.last,
+            eod,
+        };
+        fill_header(frame, &fields);
+    }
+
+    /// Brings the reply to the command awaited.
+    pub fn reply(&mut self, reply: &Reply) -> Outcome {
+        let Some(command) = self.awaited.filter(|_| !self.ended) else {
+            return Outcome::Refused(7);
+        };
+        self.awaited = None;
+        if reply.sense.meaning() == Meaning::Busy {
+            let planted = self.stage == Stage::Elements && self.elements.busy(command);
+            self.again = Some(command).filter(|_| !planted);
+            return Outcome::Accepted;
+        }
+        match self.take_in(command, reply) {
+            Ok(()) => Outcome::Accepted,
+            Err(number) => {
+                self.ended = true;
+                Outcome::Refused(number)
+            }
+        }
+    }
+
+    fn take_in(&mut self, command: Command, reply: &Reply) -> Result<(), u8> {
+        match &mut self.stage {
+            Stage::OpeningHeaders(copies) => match copies.reply(command, reply) {
+                Walk::Goes => {}
+                Walk::Through => self.stage = Stage::LocateFirst,
+                Walk::Refused(number) => return Err(number),
+            },
+            Stage::ClosingHeaders(copies) => match copies.reply(command, reply) {
+                Walk::Goes => {}
+                Walk::Through => self.stage = Stage::Done,
+                Walk::Refused(number) => return Err(number),
+            },
+            Stage::LocateFirst | Stage::Elements => {
+                self.elements.reply(command, reply)?;
+                self.stage = if self.elements.eod().is_some() {
+                    Stage::ClosingHeaders(HeaderCopies::new(self.depth))
+                } else {
+                    Stage::Elements
+                };
+            }
+            Stage::Done => return Err(8),
+        }
+        Ok(())
+    }
+}
