@@ -60,7 +60,8 @@ fn lower(first: Refusal, second: Refusal) -> Refusal
     first
 }
 
-fn decide(g: Geometry, first: &[u8], second: &[u8]) -> Choice
+// Which of two header frames is the newer.
+pub fn decide(g: Geometry, first: &[u8], second: &[u8]) -> Choice
     ensures { λ r. ⌜ choiceSaid r ≡ choiceOf g (now (first .entry)) (now (second .entry)) ⌝ }
 {
     let one = read_header(g, first);

@@ -3,7 +3,9 @@ mod choice;
 mod read;
 mod valid;
 
+pub use choice::Choice;
 pub use choice::choice_verdict;
 pub use choice::choose;
+pub use choice::decide;
 pub use read::Checked;
 pub use read::read_header;

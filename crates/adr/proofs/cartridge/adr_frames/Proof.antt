@@ -1,0 +1,17 @@
+-- `adr::cartridge::adr_frames` meets its contract: by what the geometry promises. Assumes nothing.
+use mathlib.Core.Path.{_≡_, ap, sym, _∙_}
+use Rattle.geometry.specs.Cartridge.{framesOf}
+use Rattle.adr.proofs.cartridge.adr_frames.Statement.{statement}
+use Rattle.adr.proofs.cartridge.adr_frames.Tie as tie
+
+geometry-of-requires : tie.Need-geometry-of-requires
+geometry-of-requires c κs = tt
+
+frames-requires : tie.Need-frames-requires
+frames-requires c κs = tt
+
+returns : tie.Need-returns
+returns c = c .frames .ensures ∙ ap framesOf (c .before .geometry-of .ensures)
+
+pub adr-frames-spec : {M : Type 1} → statement M
+adr-frames-spec = tie.close (tie.spec geometry-of-requires frames-requires returns)

@@ -1,0 +1,4 @@
+pub mod Numbers
+pub mod Cartridge
+pub mod Record
+pub mod Read
