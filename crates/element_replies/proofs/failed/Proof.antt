@@ -1,4 +1,4 @@
--- `elements::elements::Elements::failed` meets its contract: by what its callees promise, along its tests and the two kinds of target. Assumes nothing.
+-- `element_replies::failed` meets its contract: by what its callees promise, along its tests and the two kinds of target. Assumes nothing.
 use Prim.Native.Nat.{ℕ, _≤_, _<_}
 use mathlib.Core.Path.{_≡_, _∙_, sym, ap}
 use native.Mathlib.Omega.{arith}
@@ -8,11 +8,11 @@ use Rattle.geometry.specs.Refused.{refusalNumber}
 use Rattle.geometry.specs.WriteError.{targetOf}
 use Rattle.geometry.specs.declared.address.Address.{Address}
 use Rattle.geometry.proofs.PickLaws.{pick-t, pick-f}
 use Rattle.elements.specs.declared.elements.Elements.{Elements}
 use Rattle.elements.specs.Elements.{baseOf, limitOf}
 use Rattle.elements.specs.Reply.{kept, refusing, notedOf, failedTo, failedOf}
-use Rattle.elements.proofs.elements.Elements.failed.Statement.{statement}
-use Rattle.elements.proofs.elements.Elements.failed.Tie as tie
+use Rattle.element_replies.proofs.failed.Statement.{statement}
+use Rattle.element_replies.proofs.failed.Tie as tie
 
 -- an error at an outstanding frame is answered by its target
 by-target : (e : Elements) (p : Address) (skip : ℕ) (s : PlaceSaid) → baseOf e .0 ≤ p .0 → p .0 < e .next .0 → targetOf p skip (limitOf e) ≡ s → failedOf e p skip ≡ failedTo e p skip s
@@ -29,7 +29,7 @@ returns : tie.Need-returns
 unfolding failedOf
 returns c =
     let a = c .before .before .before .before .before .before .args in
-    c .refuse .ensures ∙ sym (pick-t _ (lt-ltb (a .p .0) (baseOf (a .self) .0) (omega (arith, ap (λ (x : Address). x .0) (c .before .before .before .before .before .base .ensures), c .before .if1 .taken))))
+    c .refuse .ensures ∙ sym (pick-t _ (lt-ltb (a .p .0) (baseOf (a .e) .0) (omega (arith, ap (λ (x : Address). x .0) (c .before .before .before .before .before .base .ensures), c .before .if1 .taken))))
 
 refuse-requires-2 : tie.Need-refuse-requires-2
 refuse-requires-2 c κs = tt
@@ -40,8 +40,8 @@ returns-2 c =
     let a = c .before .before .before .before .before .before .before .before .before .args in
     c .refuse2 .ensures
     ∙ sym
-    (pick-f _ (le-ltb (a .p .0) (baseOf (a .self) .0) (omega (arith, ap (λ (x : Address). x .0) (c .before .before .before .before .before .before .before .before .base .ensures), c .before .before .before .before .if1 .left)))
-    ∙ pick-t _ (le-leb (a .self .next .0) (a .p .0) (omega (arith, c .before .if2 .taken))))
+    (pick-f _ (le-ltb (a .p .0) (baseOf (a .e) .0) (omega (arith, ap (λ (x : Address). x .0) (c .before .before .before .before .before .before .before .before .base .ensures), c .before .before .before .before .if1 .left)))
+    ∙ pick-t _ (le-leb (a .e .next .0) (a .p .0) (omega (arith, c .before .if2 .taken))))
 
 limit-due-requires : tie.Need-limit-due-requires
 limit-due-requires c κs = tt
@@ -76,7 +76,7 @@ returns-3 c =
     c .keep .ensures
     ∙ ap kept (c .before .noted .ensures)
     ∙ sym
-    (by-target (a .self) (a .p) (a .skip) _ (omega (arith, ap (λ (x : Address). x .0) (c .before .before .before .before .before .before .before .before .before .before .before .before .before .before .base .ensures), c .before .before .before .before .before .before .before .before .before .before .if1 .left)) (omega (arith, c .before .before .before .before .before .before .before .if2 .left))
+    (by-target (a .e) (a .p) (a .skip) _ (omega (arith, ap (λ (x : Address). x .0) (c .before .before .before .before .before .before .before .before .before .before .before .before .before .before .base .ensures), c .before .before .before .before .before .before .before .before .before .before .if1 .left)) (omega (arith, c .before .before .before .before .before .before .before .if2 .left))
     (sym (ap (targetOf (a .p) (a .skip)) (c .before .before .before .before .before .before .limit-due .ensures)) ∙ sym (c .before .before .before .before .before .target .ensures) ∙ ap placeSaid (c .before .before .before .place .given .1)))
 
 returns-4 : tie.Need-returns-4
@@ -85,9 +85,9 @@ returns-4 c =
     let r = c .before .before .before .before .place2 .given in
     c .refuse3 .ensures
     ∙ ap (λ (e : Elements). refusing e (refusalNumber (r .0 .0)))
-    (c .before .noted2 .ensures ∙ ap (λ (n : ℕ). notedOf (a .self) (a .p) (asAddress n)) (c .before .before .target-address .ensures))
+    (c .before .noted2 .ensures ∙ ap (λ (n : ℕ). notedOf (a .e) (a .p) (asAddress n)) (c .before .before .target-address .ensures))
     ∙ sym
-    (by-target (a .self) (a .p) (a .skip) _ (omega (arith, ap (λ (x : Address). x .0) (c .before .before .before .before .before .before .before .before .before .before .before .before .before .before .before .base .ensures), c .before .before .before .before .before .before .before .before .before .before .before .if1 .left)) (omega (arith, c .before .before .before .before .before .before .before .before .if2 .left))
+    (by-target (a .e) (a .p) (a .skip) _ (omega (arith, ap (λ (x : Address). x .0) (c .before .before .before .before .before .before .before .before .before .before .before .before .before .before .before .base .ensures), c .before .before .before .before .before .before .before .before .before .before .before .if1 .left)) (omega (arith, c .before .before .before .before .before .before .before .before .if2 .left))
     (sym (ap (targetOf (a .p) (a .skip)) (c .before .before .before .before .before .before .before .limit-due .ensures)) ∙ sym (c .before .before .before .before .before .before .target .ensures) ∙ ap placeSaid (r .1)))
 
 pub failed-spec : {M : Type 1} → statement M

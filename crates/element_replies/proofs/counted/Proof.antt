@@ -1,11 +1,11 @@
--- `elements::elements::Elements::counted` meets its contract: by what its callees promise, on either side of its test. Assumes nothing.
+-- `element_replies::counted` meets its contract: by what its callees promise, on either side of its test. Assumes nothing.
 use mathlib.Core.Path.{_∙_, sym, ap}
 use native.Mathlib.Omega.{arith}
 use borrow.Author.Tests.{lt-ltb, le-ltb}
 use Rattle.geometry.proofs.PickLaws.{pick-t, pick-f}
 use Rattle.elements.specs.Reply.{kept, countedOf}
-use Rattle.elements.proofs.elements.Elements.counted.Statement.{statement}
-use Rattle.elements.proofs.elements.Elements.counted.Tie as tie
+use Rattle.element_replies.proofs.counted.Statement.{statement}
+use Rattle.element_replies.proofs.counted.Tie as tie
 
 cast-if1 : tie.Need-cast-if1
 cast-if1 c = omega arith

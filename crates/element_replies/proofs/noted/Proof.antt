@@ -1,12 +1,12 @@
--- `elements::elements::Elements::noted` meets its contract: by what its callees promise. Assumes nothing.
+-- `element_replies::noted` meets its contract: by what its callees promise. Assumes nothing.
 use Prim.Native.Nat.{_-_}
 use mathlib.Core.Path.{_∙_, ap}
 use native.Mathlib.Omega.{arith}
 use Rattle.geometry.specs.declared.address.Address.{Address}
 use Rattle.elements.specs.declared.elements.Elements.{Elements}
 use Rattle.elements.specs.Reply.{confirmedOf, relocatedOf}
-use Rattle.elements.proofs.elements.Elements.noted.Statement.{statement}
-use Rattle.elements.proofs.elements.Elements.noted.Tie as tie
+use Rattle.element_replies.proofs.noted.Statement.{statement}
+use Rattle.element_replies.proofs.noted.Tie as tie
 
 base-requires : tie.Need-base-requires
 base-requires c κs = tt
@@ -28,7 +28,7 @@ returns c =
     let a = c .before .before .before .before .before .args in
     c .relocated .ensures
     ∙ ap (λ (e : Elements). relocatedOf e (a .t))
-    (c .before .confirmed .ensures ∙ ap (λ (b : Address). confirmedOf (a .self) (a .p .0 - b .0)) (c .before .before .before .before .base .ensures))
+    (c .before .confirmed .ensures ∙ ap (λ (b : Address). confirmedOf (a .e) (a .p .0 - b .0)) (c .before .before .before .before .base .ensures))
 
 pub noted-spec : {M : Type 1} → statement M
 noted-spec = tie.close (tie.spec base-requires sub-confirmed cast-confirmed confirmed-requires relocated-requires returns)
