@@ -21,7 +21,7 @@ use Rattle.archive.specs.Tape.{Tape, Cartridge}
 use Rattle.archive.specs.Conduct.{Drive, AtRest}
 use Rattle.archive.specs.Headers.{Newest}
 use Rattle.archive.specs.Fold.{IsFold, ReadingIsFold}
-use Rattle.reading.specs.Open as reading
+use Rattle.reading_state.specs.Open as reading
 use Rattle.archive.specs.Recordings as recordings
 use Rattle.archive.specs.Recordings.{Element}
 use Rattle.archive.specs.Demand.{Opening, opened, newPass, OnNewest, NoneBears, Readable, Within, Promised, Demand3}

@@ -14,7 +14,7 @@ use Rattle.header.specs.Valid.{headerOf}
 use Rattle.header.proofs.Facts.{valid-last}
 use Rattle.header.proofs.ReadLaws.{taken-valid, refused-number}
 use Rattle.judgement.specs.declared.told.Told.{Told}
-use Rattle.reading.specs.Open.{OpenedSaid, toldOf, fresh, openFor, openOf}
+use Rattle.reading_state.specs.Open.{OpenedSaid, toldOf, fresh, openFor, openOf}
 use Rattle.archive.specs.Tape.{Tape, Cartridge}
 use Rattle.archive.specs.Readings.{Runs, started}
 use Rattle.archive.specs.Fold.{ReadingIsFold}

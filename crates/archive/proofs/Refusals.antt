@@ -21,12 +21,12 @@ use Rattle.recording_state.specs.declared.state.State.{State}
 use Rattle.recording_state.proofs.Ended as ended
 use Rattle.recording_state.proofs.FetchView as view
 use Rattle.recording_state.proofs.Refusals.{Leaves, refused-window, refused-block, refused-filemark, refused-close, refused-fetch, refused-reply}
-use Rattle.reading.specs.Open as opening
-use Rattle.reading.specs.Fetch as reading
-use Rattle.reading.specs.Reply as reply
-use Rattle.reading.specs.declared.session.Reading.{Reading}
-use Rattle.reading.proofs.Ended as reading-ended
-use Rattle.reading.proofs.Refusals as read
+use Rattle.reading_state.specs.Open as opening
+use Rattle.reading_state.specs.Fetch as reading
+use Rattle.reading_state.specs.Reply as reply
+use Rattle.reading_state.specs.declared.state.State.{State as Reading}
+use Rattle.reading_state.proofs.Ended as reading-ended
+use Rattle.reading_state.proofs.Refusals as read
 use Rattle.archive.specs.Recordings as recordings
 use Rattle.archive.specs.Readings as readings
 use Rattle.archive.specs.Refusals.{lentBy, leftBy, endedFromCall, OpeningsRefused, RefusedCalls}

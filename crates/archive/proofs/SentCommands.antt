@@ -11,9 +11,9 @@ use Rattle.recording_state.specs.Fetch.{sending}
 use Rattle.recording_state.specs.declared.state.State.{State}
 use Rattle.recording_state.proofs.FetchView as view
 use Rattle.recording_state.proofs.FetchView.{FetchView, fetch-view}
-use Rattle.reading.specs.Fetch as reading
-use Rattle.reading.specs.declared.session.Reading.{Reading}
-use Rattle.reading.proofs.FetchView as reading-view
+use Rattle.reading_state.specs.Fetch as reading
+use Rattle.reading_state.specs.declared.state.State.{State as Reading}
+use Rattle.reading_state.proofs.FetchView as reading-view
 use Rattle.archive.specs.Recordings as recordings
 use Rattle.archive.specs.Readings as readings
 

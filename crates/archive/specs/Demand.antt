@@ -15,8 +15,8 @@ use Rattle.drive.specs.declared.reply.Reply.{Reply}
 use Rattle.recording_state.specs.State.{OutcomeSaid, accepting}
 use Rattle.recording_state.specs.Open.{openOf, openBlankOf}
 use Rattle.recording_state.specs.declared.state.State.{State}
-use Rattle.reading.specs.Open as reading
-use Rattle.reading.specs.Fetch as fetch
+use Rattle.reading_state.specs.Open as reading
+use Rattle.reading_state.specs.Fetch as fetch
 use Rattle.archive.specs.Tape.{Tape, Cartridge, Bears}
 use Rattle.archive.specs.Conduct.{Drive, AtRest}
 use Rattle.archive.specs.Headers.{Newest, NoHeader}

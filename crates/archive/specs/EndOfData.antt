@@ -18,7 +18,7 @@ use Rattle.judgement.specs.Judgement.{judgeFrame, foundSaid}
 use Rattle.recording_state.specs.State.{accepting}
 use Rattle.recording_state.specs.declared.state.State.{State}
 use Rattle.recording_state.specs.declared.state.Stage.the-variants as S
-use Rattle.reading.specs.Open.{toldOf}
+use Rattle.reading_state.specs.Open.{toldOf}
 use Rattle.archive.specs.Tape.{Tape, Cartridge}
 use Rattle.archive.specs.Conduct.{Drive, AtRest}
 use Rattle.archive.specs.Headers.{Newest}

@@ -15,7 +15,7 @@ use Rattle.header.specs.Valid.{headerOf}
 use Rattle.judgement.specs.Judgement as judgement
 use Rattle.judgement.specs.Judgement.{JudgementSaid, judgeFrame}
 use Rattle.judgement.specs.declared.told.Told.{Told}
-use Rattle.reading.specs.Open.{toldOf, openOf}
+use Rattle.reading_state.specs.Open.{toldOf, openOf}
 use Rattle.archive.specs.Tape.{Tape, Cartridge}
 use Rattle.archive.specs.Recordings.{Element, block, filemark}
 use Rattle.archive.specs.Readings.{World, Call, Runs, started}

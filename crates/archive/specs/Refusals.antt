@@ -10,9 +10,9 @@ use Rattle.recording_state.specs.Accept.{blockOf}
 use Rattle.recording_state.specs.Fetch.{fetchOf}
 use Rattle.recording_state.specs.Reply.{endedFrom}
 use Rattle.recording_state.specs.declared.state.State.{State}
-use Rattle.reading.specs.Open as opening
-use Rattle.reading.specs.Session as reading
-use Rattle.reading.specs.declared.session.Reading.{Reading}
+use Rattle.reading_state.specs.Open as opening
+use Rattle.reading_state.specs.State as reading
+use Rattle.reading_state.specs.declared.state.State.{State as Reading}
 use Rattle.archive.specs.Recordings as recordings
 use Rattle.archive.specs.Readings as readings
 

@@ -75,7 +75,7 @@ pub fn play_unreadable(session: Reading) -> Reading {
 
 // An element on the reading's cartridge. A reading looks at neither its filemarks nor its marker.
 fn element(session: Reading, pass: u16, kind: Kind, number: u32) -> Element {
-    let last = session.told.last;
+    let last = session.state.told.last;
     Element {
         kind: kind,
         pass: pass,
@@ -103,7 +103,14 @@ pub fn play_frame(
 
 // An element of the reading's own pass.
 pub fn play_element(session: Reading, kind: Kind, number: u32, byte: u8) -> Reading {
-    play_frame(session, good(0), session.told.pass, kind, number, byte)
+    play_frame(
+        session,
+        good(0),
+        session.state.told.pass,
+        kind,
+        number,
+        byte,
+    )
 }
 
 // An element of another pass.
@@ -117,7 +124,7 @@ pub fn play_foreign(session: Reading) -> Reading {
     let mut frame = [0u8; 33280];
     build_element(
         &mut frame,
-        element(session, session.told.pass, Kind::Data, 0),
+        element(session, session.state.told.pass, Kind::Data, 0),
         &block,
     );
     frame[32834] = 0x4C;

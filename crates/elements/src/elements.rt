@@ -75,14 +75,14 @@ impl Elements {
     }
 
     // One past the last address that what is due may have.
-    pub(crate) fn limit_due(self) -> Address
+    pub fn limit_due(self) -> Address
         ensures { λ r. ⌜ r ≡ limitOf self ⌝ }
     {
         self.limit
     }
 
     // The address of the oldest outstanding frame.
-    pub(crate) fn base(self) -> Address
+    pub fn base(self) -> Address
         ensures { λ r. ⌜ r ≡ baseOf self ⌝ }
     {
         let n = self.outstanding as u32;

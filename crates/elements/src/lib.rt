@@ -9,3 +9,4 @@ pub use elements::Elements;
 pub use reply::Stepped;
 pub use trail::Trail;
 pub use trail::no_trail;
+pub use trail::trail_after;

@@ -29,13 +29,7 @@ pub(crate) fn mark_place(first: Seq, n: u16) -> usize
 }
 
 // What stands before element `first + n`, given what stands before element `first` and that the elements between lie from address `base` on.
-pub(crate) fn trail_after(
-    start: Trail,
-    marks: [bool; 64],
-    first: Seq,
-    base: Address,
-    n: u16,
-) -> Trail
+pub fn trail_after(start: Trail, marks: [bool; 64], first: Seq, base: Address, n: u16) -> Trail
     requires { ⌜ base .0 + n ≤ 2 ^ 32 ⌝ }
     ensures { λ r. ⌜ r ≡ trailOf start marks first base n ⌝ }
 {

@@ -1,4 +1,1 @@
-pub mod Session
-pub mod Open
-pub mod Fetch
-pub mod Reply
+pub mod Reading

@@ -1,12 +1,10 @@
 // A reading session: it says which command goes to the drive next, and what each frame read is.
-mod fetch;
-mod open;
-mod reply;
-mod session;
+mod reading;
 
-pub use session::Answer;
-pub use session::Delivery;
-pub use session::Fetched;
-pub use session::Opened;
-pub use session::Reading;
-pub use session::Taken;
+pub use reading::Fetched;
+pub use reading::Opened;
+pub use reading::Reading;
+pub use reading::Taken;
+pub use reading_state::Answer;
+pub use reading_state::Delivery;
+pub use reading_state::State;

@@ -98,7 +98,7 @@ fn located(s: State) -> Outcome
     stage_reply(
         s,
         Progress::More(copies.located()),
-        elements.located(address(s)).keep(),
+        element_replies::located(elements, address(s)).keep(),
     )
 }
 
@@ -107,7 +107,11 @@ fn taken(s: State) -> Outcome
 {
     let copies = s.copies;
     let elements = s.elements;
-    stage_reply(s, Progress::More(copies.taken()), elements.taken().keep())
+    stage_reply(
+        s,
+        Progress::More(copies.taken()),
+        element_replies::taken(elements).keep(),
+    )
 }
 
 fn counted(s: State, buffered: u32) -> Outcome
@@ -115,7 +119,11 @@ fn counted(s: State, buffered: u32) -> Outcome
 {
     let copies = s.copies;
     let elements = s.elements;
-    stage_reply(s, copies.counted(buffered), elements.counted(buffered))
+    stage_reply(
+        s,
+        copies.counted(buffered),
+        element_replies::counted(elements, buffered),
+    )
 }
 
 // Headers ignore the skip.
@@ -124,7 +132,11 @@ fn failed(s: State, p: Address, skip: u8) -> Outcome
 {
     let copies = s.copies;
     let elements = s.elements;
-    stage_reply(s, copies.failed(p), elements.failed(p, skip))
+    stage_reply(
+        s,
+        copies.failed(p),
+        element_replies::failed(elements, p, skip),
+    )
 }
 
 // Listed for an element or EOD, not for a header.
@@ -135,7 +147,7 @@ fn overflowed(s: State) -> Outcome
     stage_reply(
         s,
         Progress::Refused(Refusal::Reply),
-        elements.overflowed(address(s)).keep(),
+        element_replies::overflowed(elements, address(s)).keep(),
     )
 }
 

@@ -14,7 +14,7 @@ use Rattle.elements.specs.declared.elements.Elements.{Elements}
 use Rattle.recording_state.specs.declared.state.State.{State}
 use Rattle.recording_state.specs.declared.state.Stage.{Stage}
 use Rattle.recording_state.specs.declared.state.Stage.the-variants as S
-use Rattle.reading.specs.declared.session.Reading.{Reading}
+use Rattle.reading_state.specs.declared.state.State.{State as Reading}
 use Rattle.twins.specs.declared.numbers.AdrCommand.{AdrCommand}
 use Rattle.twins.specs.declared.numbers.AdrExchange.{AdrExchange}
 use Rattle.twins.specs.declared.recording_numbers.AdrRecording.{AdrRecording}

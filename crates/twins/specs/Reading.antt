@@ -1,7 +1,7 @@
 -- A reading session as numbers.
 use mathlib.Core.Bool.{Bool, _&&_}
 use Rattle.geometry.specs.Place.{asAddress}
-use Rattle.reading.specs.declared.session.Reading.{Reading}
+use Rattle.reading_state.specs.declared.state.State.{State}
 use Rattle.twins.specs.declared.reading_numbers.AdrReading.{AdrReading}
 use Rattle.twins.specs.Numbers.{isFlag, flagOf, flagNumber, isExchange, exchangeOf, exchangeTwin}
 
@@ -9,7 +9,7 @@ use Rattle.twins.specs.Numbers.{isFlag, flagOf, flagNumber, isExchange, 
 unfoldable pub isReading : AdrReading → Bool
 isReading s = ((isExchange (s .exchange) && isFlag (s .locate)) && isFlag (s .finished)) && isFlag (s .ended)
 
-unfoldable pub readingOf : AdrReading → Reading
+unfoldable pub readingOf : AdrReading → State
 readingOf s = record {
   told = record { last = asAddress (s .told .last); pass = s .told .pass };
   next = asAddress (s .next);
@@ -20,7 +20,7 @@ readingOf s = record {
   ended = flagOf (s .ended);
 }
 
-unfoldable pub readingTwin : Reading → AdrReading
+unfoldable pub readingTwin : State → AdrReading
 readingTwin s = record {
   told = record { last = s .told .last .0; pass = s .told .pass };
   next = s .next .0;

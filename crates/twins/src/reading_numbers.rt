@@ -9,7 +9,7 @@ use crate::numbers::is_exchange;
 use geometry::Address;
 use geometry::Seq;
 use judgement::Told;
-use reading::Reading;
+use reading_state::State;
 
 #[repr(C)]
 pub struct AdrTold {
@@ -37,12 +37,12 @@ pub fn is_reading(s: AdrReading) -> bool
 }
 
 // The session that the numbers stand for, where they are one's.
-pub fn reading_of(s: AdrReading) -> Reading
+pub fn reading_of(s: AdrReading) -> State
     ensures { λ r. ⌜ r ≡ readingOf s ⌝ }
 {
     let told = s.told;
     let exchange = s.exchange;
-    Reading {
+    State {
         told: Told {
             last: Address(told.last),
             pass: told.pass,
@@ -56,7 +56,7 @@ pub fn reading_of(s: AdrReading) -> Reading
     }
 }
 
-pub fn reading_twin(s: Reading) -> AdrReading
+pub fn reading_twin(s: State) -> AdrReading
     ensures { λ r. ⌜ r ≡ readingTwin s ⌝ }
 {
     let told = s.told;

@@ -12,10 +12,10 @@ use Rattle.geometry.proofs.PickLaws.{pick-f}
 use Rattle.geometry.proofs.TestLaws.{neither}
 use Rattle.drive.specs.declared.reply.Reply.{Reply}
 use Rattle.judgement.specs.declared.told.Told.{Told}
-use Rattle.reading.specs.Fetch as fetch
-use Rattle.reading.specs.Reply as reply
-use Rattle.reading.specs.declared.session.Reading.{Reading}
-use Rattle.reading.proofs.Ended.{ended-fetch}
+use Rattle.reading_state.specs.Fetch as fetch
+use Rattle.reading_state.specs.Reply as reply
+use Rattle.reading_state.specs.declared.state.State.{State as Reading}
+use Rattle.reading_state.proofs.Ended.{ended-fetch}
 use Rattle.archive.specs.Tape.{Tape}
 use Rattle.archive.specs.Recordings.{TakesEffect}
 use Rattle.archive.specs.Readings as readings

@@ -14,10 +14,10 @@ use Rattle.drive.specs.declared.command.Command.{Command}
 use Rattle.drive.specs.declared.command.Command.the-variants.{Read, Write, Locate, ReadPosition}
 use Rattle.drive.proofs.CaseLaws.{command-by}
 use Rattle.judgement.specs.declared.told.Told.{Told}
-use Rattle.reading.specs.Fetch as fetch
-use Rattle.reading.specs.declared.session.Reading.{Reading}
-use Rattle.reading.specs.Session.{endedOf}
-use Rattle.reading.proofs.Ended.{end-again}
+use Rattle.reading_state.specs.Fetch as fetch
+use Rattle.reading_state.specs.declared.state.State.{State as Reading}
+use Rattle.reading_state.specs.State.{endedOf}
+use Rattle.reading_state.proofs.Ended.{end-again}
 use Rattle.archive.specs.Tape.{Tape}
 use Rattle.archive.specs.Recordings.{TakesEffect}
 use Rattle.archive.specs.Readings as readings

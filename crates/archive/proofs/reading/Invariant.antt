@@ -13,7 +13,7 @@ use Rattle.drive.specs.declared.command.Command.{Command}
 use Rattle.drive.specs.declared.command.Command.the-variants.{Read, Write, Locate, ReadPosition}
 use Rattle.drive.specs.declared.reply.Reply.{Reply}
 use Rattle.judgement.specs.declared.told.Told.{Told}
-use Rattle.reading.specs.declared.session.Reading.{Reading}
+use Rattle.reading_state.specs.declared.state.State.{State as Reading}
 use Rattle.archive.specs.Tape.{Tape}
 use Rattle.archive.specs.Recordings.{Element}
 use Rattle.archive.specs.Readings as readings

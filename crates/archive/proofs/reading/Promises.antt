@@ -15,10 +15,10 @@ use Rattle.drive.specs.declared.reply.Reply.{Reply}
 use Rattle.judgement.specs.Judgement as judgement
 use Rattle.judgement.specs.Judgement.{JudgementSaid, judgeFrame}
 use Rattle.judgement.specs.declared.told.Told.{Told}
-use Rattle.reading.specs.Fetch as fetch
-use Rattle.reading.specs.Reply as reply
-use Rattle.reading.specs.declared.session.Reading.{Reading}
-use Rattle.reading.proofs.Ended.{end-again}
+use Rattle.reading_state.specs.Fetch as fetch
+use Rattle.reading_state.specs.Reply as reply
+use Rattle.reading_state.specs.declared.state.State.{State as Reading}
+use Rattle.reading_state.proofs.Ended.{end-again}
 use Rattle.archive.specs.Tape.{Tape}
 use Rattle.archive.specs.Recordings.{Element}
 use Rattle.archive.specs.Readings as readings

@@ -24,10 +24,10 @@ use Rattle.judgement.specs.Judgement as judgement
 use Rattle.judgement.specs.Judgement.{JudgementSaid, judgeFrame}
 use Rattle.judgement.specs.declared.told.Told.{Told}
 use Rattle.judgement.proofs.JudgeView.{JudgeView, judge-view, refused-known}
-use Rattle.reading.specs.Reply as reply
-use Rattle.reading.specs.Session.{withExpected}
-use Rattle.reading.specs.declared.session.Reading.{Reading}
-use Rattle.reading.proofs.ReplyView.{Taken, taken-so}
+use Rattle.reading_state.specs.Reply as reply
+use Rattle.reading_state.specs.State.{withExpected}
+use Rattle.reading_state.specs.declared.state.State.{State as Reading}
+use Rattle.reading_state.proofs.ReplyView.{Taken, taken-so}
 use Rattle.geometry.proofs.PastReserved.{past-reserved-least}
 use Rattle.archive.specs.Tape.{Tape}
 use Rattle.archive.specs.Readings as readings

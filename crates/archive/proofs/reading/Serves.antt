@@ -10,8 +10,8 @@ use Rattle.drive.specs.declared.command.Command.{Command}
 use Rattle.drive.specs.declared.command.Command.the-variants.{Locate}
 use Rattle.drive.specs.declared.reply.Reply.{Reply}
 use Rattle.judgement.specs.declared.told.Told.{Told}
-use Rattle.reading.specs.Open as reading
-use Rattle.reading.specs.declared.session.Reading.{Reading}
+use Rattle.reading_state.specs.Open as reading
+use Rattle.reading_state.specs.declared.state.State.{State as Reading}
 use Rattle.archive.specs.Tape.{Tape}
 use Rattle.archive.specs.Conduct as conduct
 use Rattle.archive.specs.Conduct.{Serves}

@@ -28,10 +28,10 @@ use Rattle.drive.specs.declared.command.Command.the-variants.{Read, Locate}
 use Rattle.drive.specs.declared.reply.Reply.{Reply}
 use Rattle.drive.proofs.CaseLaws.{command-by}
 use Rattle.judgement.specs.Judgement as judgement
-use Rattle.reading.specs.Open.{fresh, openFor, openOf}
-use Rattle.reading.specs.Fetch as fetch
-use Rattle.reading.specs.Reply as reply
-use Rattle.reading.specs.declared.session.Reading.{Reading}
+use Rattle.reading_state.specs.Open.{fresh, openFor, openOf}
+use Rattle.reading_state.specs.Fetch as fetch
+use Rattle.reading_state.specs.Reply as reply
+use Rattle.reading_state.specs.declared.state.State.{State as Reading}
 use Rattle.archive.specs.Recordings.{Element}
 use Rattle.archive.specs.Readings.{Flight, sent, answered, World, Call, fetching, replying, LentWith, withSession, fetchNumber, replyNumber, delivered, refusedAfter, repliesAfter, afterFetching, afterTaking, Calls, refuses, fetches, replies, serves, Runs, stop, call, drive, endAfter}
 use Rattle.archive.specs.Readings as readings

@@ -1,0 +1,17 @@
+-- Reading goes on one address further, and EOD was read. Assumes nothing.
+use mathlib.Core.Path.{_∙_}
+use borrow.Author.Needs.{needs}
+use Rattle.reading_state.proofs.state.State.finished.Statement.{statement}
+use Rattle.reading_state.proofs.state.State.finished.Tie as tie
+
+advanced-requires : tie.Need-advanced-requires
+advanced-requires c κs = search needs
+
+taken-requires : tie.Need-taken-requires
+taken-requires c κs = search needs
+
+returns : tie.Need-returns
+returns c = c .taken .ensures ∙ rw (c .before .advanced .ensures)
+
+pub finished-spec : {M : Type 1} → statement M
+finished-spec = tie.close (tie.spec advanced-requires taken-requires returns)

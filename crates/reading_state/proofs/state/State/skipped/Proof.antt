@@ -1,0 +1,17 @@
+-- Reading goes on one address further. Assumes nothing.
+use mathlib.Core.Path.{_∙_}
+use borrow.Author.Needs.{needs}
+use Rattle.reading_state.proofs.state.State.skipped.Statement.{statement}
+use Rattle.reading_state.proofs.state.State.skipped.Tie as tie
+
+advanced-requires : tie.Need-advanced-requires
+advanced-requires c κs = search needs
+
+taken-requires : tie.Need-taken-requires
+taken-requires c κs = search needs
+
+returns : tie.Need-returns
+returns c = c .taken .ensures ∙ rw (c .before .advanced .ensures)
+
+pub skipped-spec : {M : Type 1} → statement M
+skipped-spec = tie.close (tie.spec advanced-requires taken-requires returns)

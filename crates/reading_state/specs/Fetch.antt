@@ -1,0 +1,57 @@
+-- 01, "Reading a cartridge": fetching the next command.
+use Prim.Native.Nat.{ℕ}
+use mathlib.Core.Bool.{_||_}
+use lib.Dec.{eqb, ltb}
+use Rattle.geometry.specs.Pick.{pick}
+use Rattle.geometry.specs.Refused.{refusalNumber}
+use Rattle.geometry.specs.Cartridge.{secondGroup, secondUser}
+use Rattle.drive.specs.Command.{commandCode, commandAddress}
+use Rattle.drive.specs.Exchange.{sentOf}
+use Rattle.drive.specs.declared.command.Command.{Command}
+use Rattle.drive.specs.declared.command.Command.the-variants.{Read, Locate}
+use Rattle.reading_state.specs.declared.state.State.{State}
+use Rattle.reading_state.specs.declared.state.Fetched.{Fetched}
+use Rattle.reading_state.specs.declared.state.Answer.{Answer}
+use Rattle.reading_state.specs.declared.state.Answer.the-variants as A
+use Rattle.reading_state.specs.State.{withExchange, endedOf}
+
+-- LOCATE 10 at first, and LOCATE after 08/00/05; before 2,990 LOCATE 3,000; else READ
+unfoldable pub commandOf : State → Command
+commandOf s =
+    pick (s .locate) (Locate (s .next))
+    (pick (eqb (s .next .0) secondGroup) (Locate (record { 0 = secondUser })) (Read (s .next)))
+
+-- what a fetch answers: a command by its operation code and address, the end, or a refusal by its number
+pub data AnswerSaid : Type 0 where
+  command : ℕ → ℕ → AnswerSaid
+  end : AnswerSaid
+  refused : ℕ → AnswerSaid
+
+abbrev pub answerSaid : Answer → AnswerSaid
+answerSaid (A.Command c) = command (commandCode c) (commandAddress c)
+answerSaid A.End = end
+answerSaid (A.Refused r) = refused (refusalNumber r)
+
+pub record FetchedSaid : Type 0 where
+  pub session : State
+  pub said : AnswerSaid
+
+abbrev pub fetchedSaid : Fetched → FetchedSaid
+fetchedSaid r = record { session = r .session; said = answerSaid (r .answer) }
+
+-- the command goes out and its reply is awaited
+abbrev pub awaits : State → Command → State
+awaits s c = withExchange s (sentOf c)
+
+abbrev pub sending : State → Command → FetchedSaid
+sending s c = record { session = awaits s c; said = command (commandCode c) (commandAddress c) }
+
+-- refusal 7 where the session has ended or a reply is awaited; after busy the same command, whichever rule then applies;
+-- the end, said again at each fetch; next address above LAST: refusal 12
+unfoldable pub fetchOf : State → FetchedSaid
+fetchOf s =
+    pick (s .ended || s .exchange .awaiting) (record { session = s; said = refused 7 })
+    (pick (s .exchange .again) (sending s (s .exchange .command))
+    (pick (s .finished) (record { session = s; said = end })
+    (pick (ltb (s .told .last .0) (s .next .0)) (record { session = endedOf s; said = refused 12 })
+    (sending s (commandOf s)))))

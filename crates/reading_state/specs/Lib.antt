@@ -1,0 +1,4 @@
+pub mod State
+pub mod Open
+pub mod Fetch
+pub mod Reply

@@ -1,0 +1,49 @@
+-- 01, "Reading a cartridge": it opens on the geometry and the newest header.
+use Prim.Native.Nat.{ℕ}
+use mathlib.Core.Bool.{true, false}
+use mathlib.Core.List.{List}
+use Rattle.geometry.specs.Refused.{verdictNumber}
+use Rattle.geometry.specs.declared.cartridge.Geometry.{Geometry}
+use Rattle.frame.specs.declared.header.Header.{Header}
+use Rattle.header.specs.Read.{CheckedSaid, valid, refused, readHeader}
+use Rattle.drive.specs.Exchange.{unsent}
+use Rattle.judgement.specs.declared.told.Told.{Told}
+use Rattle.reading_state.specs.declared.state.State.{State}
+use Rattle.reading_state.specs.declared.state.Opened.{Opened}
+use Rattle.reading_state.specs.State.{endedOf}
+
+-- the session and the number of the refusal, 0 for none
+pub record OpenedSaid : Type 0 where
+  pub session : State
+  pub number : ℕ
+
+abbrev pub openedSaid : Opened → OpenedSaid
+openedSaid r = record { session = r .session; number = verdictNumber (r .verdict) }
+
+-- what the header tells
+abbrev pub toldOf : Header → Told
+toldOf h = record { last = h .last; pass = h .pass }
+
+-- a session whose LOCATE 10 is due and that expects number 0
+abbrev pub fresh : Told → State
+fresh told = record {
+  told = told;
+  next = record { 0 = 10 };
+  locate = true;
+  expected = record { 0 = 0 };
+  exchange = unsent;
+  finished = false;
+  ended = false;
+}
+
+-- a refused opening returns a session that has ended
+abbrev pub openRefused : ℕ → OpenedSaid
+openRefused n = record { session = endedOf (fresh (record { last = record { 0 = 0 }; pass = 0 })); number = n }
+
+-- a header that is valid gives its fields; any other is refused with 1, 2 or 3
+abbrev pub openFor : CheckedSaid → OpenedSaid
+openFor (valid header) = record { session = fresh (toldOf header); number = 0 }
+openFor (refused n) = openRefused n
+
+unfoldable pub openOf : Geometry → List ℕ → OpenedSaid
+openOf g h = openFor (readHeader g h)

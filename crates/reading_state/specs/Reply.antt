@@ -1,0 +1,132 @@
+-- 01, "Reading a cartridge" and "Replies", on READ: what a reply with a lent frame answers and leaves.
+use Prim.Native.Nat.{ℕ, _+_, _%_, _^_}
+use mathlib.Core.Bool.{Bool, true, false, _||_, not}
+use mathlib.Core.List.{List}
+use lib.Dec.{eqb}
+use lib.ListN.{length}
+use Rattle.geometry.specs.Pick.{pick}
+use Rattle.geometry.specs.Refused.{refusalNumber}
+use Rattle.geometry.specs.Cartridge.{pastReserved}
+use Rattle.geometry.specs.declared.address.Address.{Address}
+use Rattle.frame.specs.Lengths.{frameLength}
+use Rattle.drive.specs.Command.{commandAddress}
+use Rattle.drive.specs.Cases as cases
+use Rattle.drive.specs.Cases.{locateGood, locateBusy, readGood, readBusy, readRecovered, readUnreadable, readEndOfData, readEndOfMedium}
+use Rattle.drive.specs.Exchange as exchange
+use Rattle.drive.specs.declared.reply.Reply.{Reply}
+use Rattle.judgement.specs.Judgement as judgement
+use Rattle.reading_state.specs.declared.state.State.{State}
+use Rattle.reading_state.specs.declared.state.Taken.{Taken}
+use Rattle.reading_state.specs.declared.state.Delivery.{Delivery}
+use Rattle.reading_state.specs.declared.state.Delivery.the-variants as D
+use Rattle.reading_state.specs.State.{withExchange, withNext, withExpected, withEnd, endedOf}
+
+-- what a reply is answered: nothing delivered, a block (the first 32,768 bytes of the lent frame), a filemark, the end, or a refusal by its number
+pub data DeliverySaid : Type 0 where
+  nothing : DeliverySaid
+  block : DeliverySaid
+  filemark : DeliverySaid
+  end : DeliverySaid
+  refused : ℕ → DeliverySaid
+
+abbrev pub deliverySaid : Delivery → DeliverySaid
+deliverySaid D.Nothing = nothing
+deliverySaid D.Block = block
+deliverySaid D.Filemark = filemark
+deliverySaid D.End = end
+deliverySaid (D.Refused r) = refused (refusalNumber r)
+
+pub record TakenSaid : Type 0 where
+  pub session : State
+  pub said : DeliverySaid
+
+abbrev pub takenSaid : Taken → TakenSaid
+takenSaid t = record { session = t .session; said = deliverySaid (t .delivery) }
+
+-- a session beside what it answers
+abbrev pub answering : State → DeliverySaid → TakenSaid
+answering s said = record { session = s; said = said }
+
+-- refusals 1 to 7: session unchanged; 8 to 12: session ended
+abbrev pub refusing : State → ℕ → TakenSaid
+refusing s n = answering s (refused n)
+
+abbrev pub ending : State → ℕ → TakenSaid
+ending s n = answering (endedOf s) (refused n)
+
+-- the address of the command
+abbrev pub addressOf : State → ℕ
+addressOf s = commandAddress (s .exchange .command)
+
+-- a number as an address; it wraps only in a session that no call returned
+abbrev pub wrapped : ℕ → Address
+wrapped n = record { 0 = n % 2 ^ 32 }
+
+-- busy: the next fetch gives the same command; nothing else changes
+abbrev pub repeatedOf : State → State
+repeatedOf s = withExchange s (exchange.repeatedOf (s .exchange))
+
+-- the reply is taken in, and reading goes on at an address, with a LOCATE of it or without
+abbrev pub movedOf : State → Address → Bool → State
+movedOf s next locate = withNext (withExchange s (exchange.answeredOf (s .exchange))) next locate
+
+-- one address further
+abbrev pub advancedOf : State → State
+advancedOf s = movedOf s (wrapped (addressOf s + 1)) (s .locate)
+
+-- a LOCATE answered good
+abbrev pub locatedOf : State → TakenSaid
+locatedOf s = answering (movedOf s (record { 0 = addressOf s }) false) nothing
+
+-- passed over, or unreadable
+abbrev pub skippedOf : State → TakenSaid
+skippedOf s = answering (advancedOf s) nothing
+
+-- an element delivered, and the next number expected
+abbrev pub deliveredOf : State → DeliverySaid → TakenSaid
+deliveredOf s said = answering (withExpected (advancedOf s) (record { 0 = (s .expected .0 + 1) % 2 ^ 32 })) said
+
+-- EOD ends reading
+abbrev pub finishedOf : State → TakenSaid
+finishedOf s = answering (withEnd (advancedOf s)) end
+
+-- a frame that was read, by its judgement
+abbrev pub judgedBy : judgement.JudgementSaid → State → TakenSaid
+judgedBy judgement.skipped s = skippedOf s
+judgedBy (judgement.refused n) s = ending s n
+judgedBy judgement.block s = deliveredOf s block
+judgedBy judgement.filemark s = deliveredOf s filemark
+judgedBy judgement.end s = finishedOf s
+
+unfoldable pub judgedOf : State → List ℕ → TakenSaid
+judgedOf s frame = judgedBy (judgement.judgeFrame (s .told) (s .expected) frame) s
+
+-- after 08/00/05 at address a, LOCATE a + 32, 2,990 to 2,999 becoming 3,000
+abbrev pub jumpedOf : State → TakenSaid
+jumpedOf s = answering (movedOf s (wrapped (pastReserved (addressOf s + 32))) true) nothing
+
+abbrev pub caseOf : State → Reply → ℕ
+caseOf s r = cases.caseOf (s .exchange .command) r
+
+-- by the command and the meaning of its reply; anything else: refusal 8
+unfoldable pub replyBy : State → ℕ → List ℕ → TakenSaid
+replyBy s n frame =
+    -- LOCATE and READ, busy
+    pick (eqb n locateBusy || eqb n readBusy) (answering (repeatedOf s) nothing)
+    -- LOCATE, good
+    (pick (eqb n locateGood) (locatedOf s)
+    -- READ, good or recovered, with a frame
+    (pick (eqb n readGood || eqb n readRecovered) (judgedOf s frame)
+    -- READ, 03/11/00: one unreadable address
+    (pick (eqb n readUnreadable) (skippedOf s)
+    -- READ, 08/00/05
+    (pick (eqb n readEndOfData) (jumpedOf s)
+    -- READ, 00/00/02
+    (pick (eqb n readEndOfMedium) (ending s 12)
+    (ending s 8))))))
+
+-- refusal 7 without a command; 1 where the frame's length is wrong
+unfoldable pub replyOf : State → Reply → List ℕ → TakenSaid
+replyOf s r frame =
+    pick (s .ended || not (s .exchange .awaiting)) (refusing s 7)
+    (pick (eqb (length frame) frameLength) (replyBy s (caseOf s r) frame) (refusing s 1))

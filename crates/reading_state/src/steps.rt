@@ -1,0 +1,121 @@
+// What a reply changes, and what it is answered: a step for each case that `reading_replying` tells apart.
+ghost use mathlib.Core.Path.{_≡_};
+ghost use Prim.Native.Nat.{_%_, _^_};
+ghost use Rattle.geometry.specs.Refused.{refusalNumber};
+ghost use Rattle.reading_state.specs.Reply.{deliverySaid, takenSaid, answering, refusing, ending, repeatedOf, movedOf, advancedOf, locatedOf, skippedOf, deliveredOf, finishedOf, jumpedOf};
+use crate::state::Delivery;
+use crate::state::State;
+use crate::state::Taken;
+use drive::address;
+use geometry::Address;
+use geometry::Refusal;
+use geometry::Seq;
+use geometry::past_reserved;
+
+// A number as an address. It wraps only in a session that no call returned.
+fn wrapped(n: u64) -> Address
+    ensures { λ r. ⌜ r .0 ≡ n % 2 ^ 32 ⌝ }
+{
+    Address((n % 4294967296) as u32)
+}
+
+impl State {
+    pub fn taken(self, delivery: Delivery) -> Taken
+        ensures { λ r. ⌜ takenSaid r ≡ answering self (deliverySaid delivery) ⌝ }
+    {
+        Taken {
+            session: self,
+            delivery: delivery,
+        }
+    }
+
+    // Refusals 1 to 7 leave the session unchanged.
+    pub fn refuse(self, refusal: Refusal) -> Taken
+        ensures { λ r. ⌜ takenSaid r ≡ refusing self (refusalNumber refusal) ⌝ }
+    {
+        self.taken(Delivery::Refused(refusal))
+    }
+
+    // Refusals 8 to 12 end the session.
+    pub fn end(mut self, refusal: Refusal) -> Taken
+        ensures { λ r. ⌜ takenSaid r ≡ ending self (refusalNumber refusal) ⌝ }
+    {
+        self.ended = true;
+        self.taken(Delivery::Refused(refusal))
+    }
+
+    // Busy: the next fetch gives the same command.
+    pub fn repeated(mut self) -> State
+        ensures { λ r. ⌜ r ≡ repeatedOf self ⌝ }
+    {
+        let exchange = self.exchange;
+        self.exchange = exchange.repeated();
+        self
+    }
+
+    // The reply is taken in, and reading goes on at an address, with a LOCATE of it or without.
+    fn moved(mut self, next: Address, locate: bool) -> State
+        ensures { λ r. ⌜ r ≡ movedOf self next locate ⌝ }
+    {
+        let exchange = self.exchange;
+        self.exchange = exchange.answered();
+        self.next = next;
+        self.locate = locate;
+        self
+    }
+
+    // Reading goes on one address behind the command's.
+    fn advanced(self) -> State
+        ensures { λ r. ⌜ r ≡ advancedOf self ⌝ }
+    {
+        let exchange = self.exchange;
+        let c = exchange.command;
+        let next = wrapped((address(c).0 as u64) + 1);
+        self.moved(next, self.locate)
+    }
+
+    // The drive stands at the command's address.
+    pub fn located(self) -> Taken
+        ensures { λ r. ⌜ takenSaid r ≡ locatedOf self ⌝ }
+    {
+        let exchange = self.exchange;
+        let c = exchange.command;
+        self.moved(address(c), false).taken(Delivery::Nothing)
+    }
+
+    // The address is passed over.
+    pub fn skipped(self) -> Taken
+        ensures { λ r. ⌜ takenSaid r ≡ skippedOf self ⌝ }
+    {
+        self.advanced().taken(Delivery::Nothing)
+    }
+
+    // The expected element is delivered, and the next one expected.
+    pub fn delivered(self, delivery: Delivery) -> Taken
+        ensures { λ r. ⌜ takenSaid r ≡ deliveredOf self (deliverySaid delivery) ⌝ }
+    {
+        let expected = Seq(std::num::wrapping_add_u32(self.expected.0, 1));
+        let mut session = self.advanced();
+        session.expected = expected;
+        session.taken(delivery)
+    }
+
+    // EOD ends reading.
+    pub fn finished(self) -> Taken
+        ensures { λ r. ⌜ takenSaid r ≡ finishedOf self ⌝ }
+    {
+        let mut session = self.advanced();
+        session.finished = true;
+        session.taken(Delivery::End)
+    }
+
+    // Nothing reads for 32 addresses: LOCATE behind them, or behind the second header group and its defect map.
+    pub fn jumped(self) -> Taken
+        ensures { λ r. ⌜ takenSaid r ≡ jumpedOf self ⌝ }
+    {
+        let exchange = self.exchange;
+        let c = exchange.command;
+        let next = wrapped(past_reserved((address(c).0 as u64) + 32));
+        self.moved(next, true).taken(Delivery::Nothing)
+    }
+}
