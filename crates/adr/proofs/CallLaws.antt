@@ -13,9 +13,10 @@ use Rattle.recording.specs.declared.recording.Fetched as recording-fetched
 use Rattle.recording.specs.Recording as recording
 use Rattle.twins.specs.declared.recording_numbers.AdrRecording.{AdrRecording}
 use Rattle.twins.specs.Recording.{isRecording, recordingOf, recordingTwin}
-use Rattle.adr.specs.declared.record.AdrRecordOutcome.{AdrRecordOutcome}
-use Rattle.adr.specs.declared.record.AdrRecordFetched.{AdrRecordFetched}
-use Rattle.adr.specs.Record.{outcomeTwin, unknown, through, stored, storedTwin, blockThrough, answering, fetchedTwin, fetched, lentTwin, fetchThrough}
+use Rattle.numbers.specs.declared.recording_answers.AdrRecordOutcome.{AdrRecordOutcome}
+use Rattle.numbers.specs.declared.recording_answers.AdrRecordFetched.{AdrRecordFetched}
+use Rattle.numbers.specs.Recording.{outcomeTwin, unknown, fetchedTwin, unknownFetch}
+use Rattle.adr.specs.Record.{through, stored, storedTwin, blockThrough, fetched, lentTwin, fetchThrough}
 
 pub through-known : (call : State → OutcomeSaid) (s : AdrRecording) → isRecording s ≡ true → through call s ≡ outcomeTwin (call (recordingOf s))
 unfolding through
@@ -37,7 +38,7 @@ pub fetch-known : (s : AdrRecording) (window frame : List ℕ) → isRecording s
 unfolding fetchThrough
 fetch-known s window frame h = pick-t _ h
 
-pub fetch-unknown : (s : AdrRecording) (window frame : List ℕ) → isRecording s ≡ false → fetchThrough s window frame ≡ fetched (answering s 0 7) frame
+pub fetch-unknown : (s : AdrRecording) (window frame : List ℕ) → isRecording s ≡ false → fetchThrough s window frame ≡ fetched (unknownFetch s) frame
 unfolding fetchThrough
 fetch-unknown s window frame h = pick-f _ h
 

@@ -1,4 +1,2 @@
-pub mod Numbers
-pub mod Cartridge
 pub mod Record
 pub mod Read

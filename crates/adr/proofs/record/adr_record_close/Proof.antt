@@ -1,7 +1,7 @@
 -- `adr::record::adr_record_close` meets its contract: by what the call below promises, where the numbers are a session's. Assumes nothing.
 use mathlib.Core.Path.{_≡_, ap, sym, _∙_}
 use Rattle.recording_state.specs.Accept.{closeOf}
-use Rattle.adr.specs.Record.{outcomeTwin}
+use Rattle.numbers.specs.Recording.{outcomeTwin}
 use Rattle.adr.proofs.CallLaws.{through-known, through-unknown}
 use Rattle.adr.proofs.record.adr_record_close.Statement.{statement}
 use Rattle.adr.proofs.record.adr_record_close.Tie as tie
@@ -15,19 +15,20 @@ session-of-requires c κs = tt
 close-requires : tie.Need-close-requires
 close-requires c κs = tt
 
-outcome-twin-requires : tie.Need-outcome-twin-requires
-outcome-twin-requires c κs = tt
+of-requires : tie.Need-of-requires
+of-requires c κs = tt
 
 returns : tie.Need-returns
-returns c = c .outcome-twin .ensures
+returns c =
+    c .of .ensures
     ∙ ap outcomeTwin (c .before .close .ensures ∙ ap closeOf (c .before .before .session-of .ensures))
     ∙ sym (through-known closeOf (c .before .before .before .before .before .args .s) (sym (c .before .before .before .before .is-recording .ensures) ∙ c .before .before .before .if1 .taken))
 
-refuse-unknown-requires : tie.Need-refuse-unknown-requires
-refuse-unknown-requires c κs = tt
+unknown-requires : tie.Need-unknown-requires
+unknown-requires c κs = tt
 
 returns-2 : tie.Need-returns-2
-returns-2 c = c .refuse-unknown .ensures ∙ sym (through-unknown closeOf (c .before .before .before .args .s) (sym (c .before .before .is-recording .ensures) ∙ c .before .if1 .left))
+returns-2 c = c .unknown .ensures ∙ sym (through-unknown closeOf (c .before .before .before .args .s) (sym (c .before .before .is-recording .ensures) ∙ c .before .if1 .left))
 
 pub adr-record-close-spec : {M : Type 1} → statement M
-adr-record-close-spec = tie.close (tie.spec is-recording-requires session-of-requires close-requires outcome-twin-requires returns refuse-unknown-requires returns-2)
+adr-record-close-spec = tie.close (tie.spec is-recording-requires session-of-requires close-requires of-requires returns unknown-requires returns-2)

@@ -3,7 +3,7 @@ use mathlib.Core.Path.{_≡_, ap, sym, _∙_}
 use borrow.Author.Needs.{needs}
 use Rattle.recording_state.specs.declared.state.State.{State}
 use Rattle.recording_state.specs.Fetch.{fetchOf}
-use Rattle.adr.specs.declared.record.AdrRecordFetched.{AdrRecordFetched}
+use Rattle.numbers.specs.declared.recording_answers.AdrRecordFetched.{AdrRecordFetched}
 use Rattle.adr.specs.Record.{fetched}
 use Rattle.adr.proofs.CallLaws.{fetch-known, fetch-unknown, fetched-as}
 use Rattle.adr.proofs.record.adr_record_fetch.Statement.{statement}
@@ -18,8 +18,8 @@ session-of-requires c κs = tt
 fetch-requires : tie.Need-fetch-requires
 fetch-requires c κs = tt
 
-fetched-twin-requires : tie.Need-fetched-twin-requires
-fetched-twin-requires c κs = tt
+of-requires : tie.Need-of-requires
+of-requires c κs = tt
 
 same-length : tie.Need-same-length
 same-length c = search needs
@@ -27,17 +27,17 @@ same-length c = search needs
 returns : tie.Need-returns
 returns c =
     let a = c .before .before .before .before .before .before .before .before .before .before .args in
-    fetched-as (c .before .before .before .fetch .result) (c .fetched-twin .ensures) (c .before .before .before .fetch .ensures ∙ ap (λ (t : State). fetchOf t (a .window .now) (a .frame .now)) (c .before .before .before .before .before .session-of .ensures))
+    fetched-as (c .before .before .before .fetch .result) (c .of .ensures) (c .before .before .before .fetch .ensures ∙ ap (λ (t : State). fetchOf t (a .window .now) (a .frame .now)) (c .before .before .before .before .before .session-of .ensures))
     ∙ sym (fetch-known (a .s) (a .window .now) (a .frame .now) (sym (c .before .before .before .before .before .before .before .is-recording .ensures) ∙ c .before .before .before .before .before .before .if1 .taken))
 
-answer-only-requires : tie.Need-answer-only-requires
-answer-only-requires c κs = tt
+unknown-requires : tie.Need-unknown-requires
+unknown-requires c κs = tt
 
 returns-2 : tie.Need-returns-2
 returns-2 c =
     let a = c .before .before .before .before .before .args in
-    ap (λ (r : AdrRecordFetched). fetched r (a .frame .now)) (c .answer-only .ensures)
+    ap (λ (r : AdrRecordFetched). fetched r (a .frame .now)) (c .unknown .ensures)
     ∙ sym (fetch-unknown (a .s) (a .window .now) (a .frame .now) (sym (c .before .before .is-recording .ensures) ∙ c .before .if1 .left))
 
 pub adr-record-fetch-spec : {M : Type 1} → statement M
-adr-record-fetch-spec = tie.close (tie.spec is-recording-requires session-of-requires fetch-requires fetched-twin-requires same-length returns answer-only-requires returns-2)
+adr-record-fetch-spec = tie.close (tie.spec is-recording-requires session-of-requires fetch-requires of-requires same-length returns unknown-requires returns-2)

@@ -1,0 +1,41 @@
+-- What C gives as numbers: geometries, sizes and replies. One that does not fit counts as one that is refused, in its place in the order of 01.
+use Prim.Native.Nat.{ℕ}
+use mathlib.Core.Bool.{Bool, _&&_}
+use lib.Dec.{eqb, leb}
+use Rattle.geometry.specs.Pick.{pick}
+use Rattle.geometry.specs.Place.{asAddress}
+use Rattle.geometry.specs.declared.cartridge.Geometry.{Geometry}
+use Rattle.geometry.specs.declared.cartridge.LoadPoint.{LoadPoint}
+use Rattle.geometry.specs.declared.cartridge.LoadPoint.the-variants.{Beginning, Centre}
+use Rattle.drive.specs.declared.reply.Reply.{Reply}
+use Rattle.numbers.specs.declared.arguments.AdrGeometry.{AdrGeometry}
+use Rattle.numbers.specs.declared.arguments.AdrReply.{AdrReply}
+
+-- SEGTRK and TRKS have 16 bits; the load point is 0, the beginning, or 1, the centre
+abbrev pub isGeometry : AdrGeometry → Bool
+isGeometry g = (leb (g .segtrk) 65535 && leb (g .trks) 65535) && leb (g .load) 1
+
+abbrev pub loadOf : ℕ → LoadPoint
+loadOf n = pick (eqb n 0) Beginning Centre
+
+-- any other is a cartridge without frames: refusal 2
+abbrev pub withoutFrames : Geometry
+withoutFrames = record { segtrk = 0; trks = 0; load = Beginning }
+
+unfoldable pub geometryOf : AdrGeometry → Geometry
+geometryOf g = pick (isGeometry g) (record { segtrk = g .segtrk; trks = g .trks; load = loadOf (g .load) }) withoutFrames
+
+-- D and W have 8 bits; any other counts as 0: refusal 4
+abbrev pub sizeOf : ℕ → ℕ
+sizeOf n = pick (leb n 255) n 0
+
+-- a triple that has no meaning: as a reply, refusal 8
+abbrev pub meaningless : Reply
+meaningless = record { key = 0xFF; asc = 0xFF; ascq = 0xFF; buffered = 0; position = asAddress 0; skip = 0 }
+
+-- skip is 0 to 255
+unfoldable pub replyOf : AdrReply → Reply
+replyOf r =
+    pick (leb (r .skip) 255)
+    (record { key = r .key; asc = r .asc; ascq = r .ascq; buffered = r .buffered; position = asAddress (r .position); skip = r .skip })
+    meaningless

@@ -1,0 +1,4 @@
+pub mod Arguments
+pub mod Cartridge
+pub mod Recording
+pub mod Reading

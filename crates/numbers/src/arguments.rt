@@ -1,0 +1,104 @@
+// What C gives as numbers: geometries, sizes and replies. One that does not fit counts as one that is refused.
+ghost use mathlib.Core.Path.{_≡_};
+ghost use Rattle.numbers.specs.Arguments.{loadOf, withoutFrames, geometryOf, sizeOf, replyOf};
+use drive::Reply;
+use geometry::Address;
+use geometry::Geometry;
+use geometry::LoadPoint;
+
+// SEGTRK, TRKS, and the load point: 0 the beginning, 1 the centre.
+#[repr(C)]
+pub struct AdrGeometry {
+    pub segtrk: u32,
+    pub trks: u32,
+    pub load: u32,
+}
+
+// What the host brings back of a command.
+#[repr(C)]
+pub struct AdrReply {
+    pub buffered: u32,
+    pub position: u32,
+    pub skip: u32,
+    pub key: u8,
+    pub asc: u8,
+    pub ascq: u8,
+}
+
+fn load_of(load: u32) -> LoadPoint
+    ensures { λ r. ⌜ r ≡ loadOf load ⌝ }
+{
+    if load == 0 {
+        return LoadPoint::Beginning;
+    }
+    LoadPoint::Centre
+}
+
+// A cartridge without frames: refusal 2.
+fn without_frames() -> Geometry
+    ensures { λ r. ⌜ r ≡ withoutFrames ⌝ }
+{
+    Geometry {
+        segtrk: 0,
+        trks: 0,
+        load: LoadPoint::Beginning,
+    }
+}
+
+impl AdrGeometry {
+    // The geometry of these numbers.
+    pub fn geometry(self) -> Geometry
+        ensures { λ r. ⌜ r ≡ geometryOf self ⌝ }
+    {
+        if 65535 < self.segtrk {
+            return without_frames();
+        }
+        if 65535 < self.trks {
+            return without_frames();
+        }
+        if 1 < self.load {
+            return without_frames();
+        }
+        Geometry {
+            segtrk: self.segtrk as u16,
+            trks: self.trks as u16,
+            load: load_of(self.load),
+        }
+    }
+}
+
+// D or W: one that does not fit counts as 0, refusal 4.
+pub fn size_of(n: u32) -> u8
+    ensures { λ r. ⌜ r ≡ sizeOf n ⌝ }
+{
+    if n <= 255 {
+        return n as u8;
+    }
+    0
+}
+
+impl AdrReply {
+    // The reply of these numbers. One with a skip that does not fit has a triple that means nothing: refusal 8.
+    pub fn reply(self) -> Reply
+        ensures { λ r. ⌜ r ≡ replyOf self ⌝ }
+    {
+        if self.skip <= 255 {
+            return Reply {
+                key: self.key,
+                asc: self.asc,
+                ascq: self.ascq,
+                buffered: self.buffered,
+                position: Address(self.position),
+                skip: self.skip as u8,
+            };
+        }
+        Reply {
+            key: 0xFF,
+            asc: 0xFF,
+            ascq: 0xFF,
+            buffered: 0,
+            position: Address(0),
+            skip: 0,
+        }
+    }
+}
