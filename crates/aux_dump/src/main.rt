@@ -1,15 +1,15 @@
 // Prints the AUX bytes of a data frame, a marker, an EOD and a header, and the header's first data bytes, in hexadecimal.
 // Rows of 16 bytes that are all 0 are left out.
 use buffer::byte_at;
+use element_building::build_element;
 use frame::DATA_LENGTH;
 use frame::Element;
 use frame::FRAME_LENGTH;
 use frame::Header;
 use frame::Kind;
-use frame::build_element;
-use frame::build_header;
 use geometry::Address;
 use geometry::Seq;
+use header_building::build_header;
 use libc::STDOUT_FILENO;
 
 fn is_zero(s: &[u8], at: u16) -> bool {

@@ -1,10 +1,10 @@
 // Readings opened on headers; a refusal is printed.
 use edge_output::print_refused;
 use frame::Header;
-use frame::build_header;
 use geometry::Address;
 use geometry::Geometry;
 use header::choose;
+use header_building::build_header;
 use reading::Opened;
 use reading::Reading;
 

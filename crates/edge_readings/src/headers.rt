@@ -10,10 +10,10 @@ use edge_reader::open_named;
 use edge_reader::open_on;
 use edge_reader::open_short;
 use frame::Header;
-use frame::build_header;
 use geometry::Verdict;
 use header::choice_verdict;
 use header::choose;
+use header_building::build_header;
 
 pub fn openings() {
     print(b"headers: another name, 3,000 frames, a short one\n");

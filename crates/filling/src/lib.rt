@@ -7,9 +7,9 @@ ghost use Rattle.frame.specs.Lengths.{frameLength};
 ghost use Rattle.recording_state.specs.State.{windowLength};
 ghost use Rattle.recording_state.specs.Written.{elementOf, elementPlace, writtenElement, writtenHeader, writtenFrame};
 use crate::window::block_at;
+use element_building::build_element;
 use frame::Element;
-use frame::build_element;
-use frame::build_header;
+use header_building::build_header;
 use recording_state::Stage;
 use recording_state::State;
 

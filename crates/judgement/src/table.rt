@@ -2,9 +2,9 @@
 ghost use mathlib.Core.Path.{_≡_};
 ghost use lib.ListN.{length};
 ghost use Rattle.judgement.specs.Judgement.{asTable};
+use aux_building::build_aux;
 use buffer::agrees;
 use frame::Element;
-use frame::build_aux;
 use frame::element_fields;
 
 // Compares bytes 18 to 35 and 44 to 67 with those that a recording writes for the element. None of them depends on its filemarks and its marker.
