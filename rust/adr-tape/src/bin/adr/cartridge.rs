@@ -30,6 +30,14 @@ pub struct WriteError {
     pub skip: u32,
 }
 
+impl WriteError {
+    /// Where an element that failed is sent again.
+    pub fn target(self) -> Address {
+        let position = adr_model::Address(self.position.0);
+        Address(position.plus(self.skip.max(1)).out_of_gap().0)
+    }
+}
+
 /// A cartridge in the drive.
 pub struct Cartridge {
     drive: SimulatedDrive<Image>,
@@ -239,15 +247,13 @@ impl Cartridge {
     }
 }
 
+/// The reply, without the numbers that mean nothing in it: the simulated
+/// drive brings any, and the layer takes no skip above 255.
 fn of_model(reply: adr_model::Reply) -> Reply {
-    Reply {
-        sense: Sense {
-            key: reply.sense.key,
-            code: reply.sense.asc,
-            qualifier: reply.sense.ascq,
-        },
-        buffered: reply.buffered,
-        position: Address(reply.position.0),
-        skip: reply.skip,
+    let sense = Sense::new(reply.sense.key, reply.sense.asc, reply.sense.ascq);
+    match sense {
+        Sense::WRITE_ERROR => Reply::write_error(Address(reply.position.0), reply.skip),
+        Sense::GOOD => Reply::buffered(reply.buffered),
+        sense => Reply::sense(sense),
     }
 }

@@ -5,7 +5,7 @@ use std::ops::ControlFlow;
 use std::path::{Path, PathBuf};
 
 use adr_model::random::Random;
-use adr_tape::{Geometry, LoadPoint, Summary};
+use adr_tape::{header_addresses, Geometry, LoadPoint, Summary};
 
 use crate::arguments::{Arguments, Options};
 use crate::cartridge::Cartridge;
@@ -26,7 +26,7 @@ pub const OPTIONS: Options = Options {
     plain: &["--keep"],
 };
 
-const SEED: u64 = 12;
+const SEED: u64 = 27;
 const DEPTH: u32 = 8;
 const WINDOW: u32 = 16;
 const GEOMETRY: Geometry = Geometry {
@@ -108,11 +108,14 @@ fn record(path: &Path, files: &[Made], seed: Option<u64>) -> Result<(), Failure>
     let elements = Elements::new(inputs(files));
     let summary = cartridge.record((DEPTH, WINDOW), elements, |_: &Summary| {})?;
     for error in cartridge.write_errors() {
-        output::line(format!(
-            "  write error at {}, skip {}: that frame and those behind it are sent again",
-            grouped(u64::from(error.position.0)),
-            error.skip
-        ))?;
+        let address = grouped(u64::from(error.position.0));
+        output::line(if header_addresses().contains(&error.position) {
+            format!("  write error at {address}: that header copy is given up")
+        } else {
+            let skip = error.skip;
+            let target = grouped(u64::from(error.target().0));
+            format!("  write error at {address}, skip {skip}: sent again from {target} on")
+        })?;
     }
     let jobs = u64::try_from(files.len()).unwrap_or(u64::MAX);
     output::line(format!("  {}", told(jobs, &summary)))

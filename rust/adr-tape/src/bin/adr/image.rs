@@ -13,7 +13,7 @@ mod layout;
 
 use std::fs::{File, OpenOptions, TryLockError};
 use std::io::{self, Write};
-use std::os::unix::fs::FileExt;
+use std::os::unix::fs::{FileExt, MetadataExt};
 use std::path::{Path, PathBuf};
 use std::sync::Arc;
 
@@ -169,8 +169,17 @@ impl Image {
             )));
         }
         lock(&file, path, access)?;
-        // What another process wrote before this lock counts.
-        let length = file.metadata().map_err(of_file)?.len();
+        // What another process wrote before this lock counts; one that
+        // replaced the file left this one without a name.
+        let metadata = file.metadata().map_err(of_file)?;
+        let length = metadata.len();
+        let named = std::fs::metadata(path).map_err(of_file)?;
+        if (metadata.dev(), metadata.ino()) != (named.dev(), named.ino()) {
+            return Err(Failure::new(format!(
+                "{}: replaced by another 'adr' meanwhile; try again",
+                path.display()
+            )));
+        }
         let mut image = Image::of_file(path, file, length)?;
         if record {
             image.find_free_cells()?;

@@ -2,7 +2,7 @@
 
 use super::layout::{Row, Rows};
 use super::spots::{Spot, Spots, KINDS};
-use crate::text::{count, grouped};
+use crate::text::{count, grouped, printable};
 
 /// The character of a spot.
 fn character(spot: Spot) -> char {
@@ -51,7 +51,8 @@ pub fn heading(spots: &Spots, rows: &Rows) -> String {
         1 => String::from("a character is a frame"),
         scale => format!("a character stands for {} frames", grouped(scale)),
     };
-    format!("{}: {frames}, {scale}", spots.title)
+    let title = printable(spots.title.as_bytes());
+    format!("{title}: {frames}, {scale}")
 }
 
 /// What a reader of the map should know beside it, if anything.
