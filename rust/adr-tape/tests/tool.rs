@@ -235,6 +235,7 @@ fn faults() {
     place.write("one", &bytes(900_000, 1));
     place.write("two", &bytes(400_000, 2));
     place.adr(&["format", "a.adr"]).succeeded();
+    let mut bad_spots = 0;
     for seed in 0..24 {
         let seed = seed.to_string();
         let (one, two) = if seed.len() == 1 {
@@ -257,7 +258,10 @@ fn faults() {
             .succeeded();
         let map = place.adr(&["map", "a.adr"]).succeeded();
         assert!(!map.output_text().contains("Reading stopped"));
+        bad_spots += map.output_text().matches('x').count();
     }
+    // Three are in words of the legend.
+    assert!(bad_spots > 24 * 3, "{bad_spots}");
 }
 
 #[test]

@@ -202,7 +202,7 @@ impl Cartridge {
     }
 }
 
-const NO_FRAME: Frame = [0; FRAME_LENGTH];
+static NO_FRAME: Frame = [0; FRAME_LENGTH];
 
 impl adr_tape::Drive for Cartridge {
     type Error = Failure;

@@ -37,7 +37,7 @@ struct Command {
     run: fn(&Arguments) -> Result<(), Failure>,
 }
 
-const COMMANDS: [Command; 7] = [
+static COMMANDS: [Command; 7] = [
     Command {
         name: "format",
         help: usage::FORMAT,
@@ -130,8 +130,7 @@ fn help(words: &[OsString]) -> Result<(), Failure> {
 }
 
 fn find(name: &str) -> Result<&'static Command, Failure> {
-    static KNOWN: [Command; 7] = COMMANDS;
-    KNOWN
+    COMMANDS
         .iter()
         .find(|command| command.name == name)
         .ok_or_else(|| Failure::usage(format!("unknown command '{name}'")))

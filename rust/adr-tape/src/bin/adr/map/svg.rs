@@ -40,7 +40,7 @@ pub fn draw(spots: &Spots, rows: &Rows) -> String {
          viewBox=\"0 0 {width} {height}\" width=\"{width}\" height=\"{height}\" \
          font-family=\"system-ui, sans-serif\" font-size=\"12\">\n\
          <title>{title}</title>\n\
-         <rect width=\"{width}\" height=\"{height}\" rx=\"12\" fill=\"#ffffff\"/>\n\
+         <rect width=\"{width}\" height=\"{height}\" rx=\"12\" fill=\"#ffffff\" stroke=\"#d0d7de\"/>\n\
          <text x=\"24\" y=\"36\" font-size=\"16\" font-weight=\"600\" fill=\"#1f2328\">{title}</text>\n"
     );
     for (turn, row) in rows.rows.iter().enumerate() {
@@ -93,6 +93,14 @@ fn square(picture: &mut String, left: usize, top: usize, spot: Spot) {
         "<rect x=\"{left}\" y=\"{top}\" width=\"{side}\" height=\"{side}\" rx=\"2\" fill=\"{}\"/>",
         colour(spot)
     );
+    if spot == Spot::Bad {
+        // Not told by its colour alone.
+        let (left, top) = (left + 3, top + 3);
+        let _ = writeln!(
+            picture,
+            "<path d=\"M{left} {top}l4 4m0-4l-4 4\" stroke=\"#ffffff\" stroke-width=\"1.5\"/>"
+        );
+    }
 }
 
 fn draw_legend(picture: &mut String, spots: &Spots, top: usize) {
