@@ -4,9 +4,10 @@
 mod place;
 
 use std::fs;
+use std::io::Write;
 use std::process::{Command, Stdio};
 
-use place::{bytes, Place, Ran};
+use place::{bytes, Place};
 
 #[test]
 fn help_and_version() {
@@ -368,6 +369,37 @@ fn files_are_not_replaced_unasked() {
 }
 
 #[test]
+fn the_image_is_nothing_else_too() {
+    let place = Place::new("itself");
+    place.adr(&["format", "a.adr"]).succeeded();
+    place
+        .shell("printf x | $ADR record a.adr - --name a.adr")
+        .succeeded();
+    let image = place.read("a.adr");
+    for words in [
+        &["record", "--overwrite", "a.adr", "a.adr"][..],
+        &["restore", "a.adr", "1", "--overwrite", "-o", "a.adr"],
+        &["restore", "a.adr", "--overwrite", "--into", "."],
+        &["map", "a.adr", "--svg", "./a.adr"],
+    ] {
+        let refused = place.adr(words).failed();
+        assert!(refused.error.contains("itself"), "{}", refused.error);
+        assert_eq!(place.read("a.adr"), image);
+    }
+}
+
+#[test]
+fn named_pipes() {
+    let place = Place::new("fifo");
+    place.write("file", &bytes(100_000, 4));
+    place
+        .shell("mkfifo pipe && $ADR format a.adr && { cat file > pipe & $ADR record a.adr pipe; }")
+        .succeeded();
+    let restored = place.adr(&["restore", "a.adr", "1"]).succeeded();
+    assert_eq!(restored.output, place.read("file"));
+}
+
+#[test]
 fn demo() {
     let place = Place::new("demo");
     let first = place.shell("TMPDIR=. $ADR demo --svg demo.svg").succeeded();
@@ -393,22 +425,24 @@ fn demo() {
 #[test]
 fn two_at_once() {
     let place = Place::new("lock");
+    place.write("file", b"x");
     place.adr(&["format", "a.adr"]).succeeded();
     let mut first = place
         .command(&["record", "a.adr", "-"])
         .stdin(Stdio::piped())
         .spawn()
         .expect("the tool");
-    let mut refused = Ran::default();
-    for _ in 0..200 {
-        refused = place.adr(&["format", "--overwrite", "a.adr"]);
-        if refused.status == Some(1) {
-            break;
-        }
-        std::thread::sleep(std::time::Duration::from_millis(10));
+    // More than a pipe holds: the tool reads, so it has the image.
+    let input = first.stdin.as_mut().expect("a pipe");
+    input.write_all(&bytes(1_000_000, 1)).expect("it reads");
+    for words in [
+        &["format", "--overwrite", "a.adr"][..],
+        &["record", "--overwrite", "a.adr", "file"],
+        &["list", "a.adr"],
+    ] {
+        let refused = place.adr(words).failed();
+        assert!(refused.error.contains("in use"), "{}", refused.error);
     }
-    assert!(refused.error.contains("in use"), "{}", refused.error);
-    place.adr(&["list", "a.adr"]).failed();
     drop(first.stdin.take());
     assert!(first.wait().is_ok_and(|status| status.success()));
     assert_eq!(

@@ -248,6 +248,7 @@ fn no_room_left() {
             .shell(&format!("trap '' XFSZ; ulimit -f {limit}; {line}"))
             .failed();
         assert!(failed.error.contains("a.adr: "), "{}", failed.error);
+        assert!(failed.error.contains("holds what it held before"));
         assert_eq!(place.read("a.adr").len(), length);
         old_content_stands(&place);
         // A process that is ended in the middle of a write.

@@ -107,13 +107,12 @@ impl Cartridge {
             elements,
             &mut progress,
         );
-        let summary = recorded.map_err(|error| match error {
+        let recorded = recorded.map_err(|error| match error {
             RecordError::Refused(Refusal::Capacity) => Failure::usage(Refusal::Capacity),
-            RecordError::Refused(refusal) => {
-                self.refused("nothing was recorded, the old content stays", refusal)
-            }
+            RecordError::Refused(refusal) => self.refused("recording stopped", refusal),
             RecordError::Drive(failure) | RecordError::Source(failure) => failure,
-        })?;
+        });
+        let summary = recorded.map_err(Failure::unrecorded)?;
         self.image_mut().commit()?;
         Ok(summary)
     }

@@ -98,7 +98,7 @@ fn inputs(files: &[Made]) -> Vec<Input> {
                 time: TIME,
                 length: u64::try_from(file.bytes.len()).ok(),
             };
-            Input::Stream(description, Box::new(Cursor::new(file.bytes.clone())))
+            Input::bytes(description, Cursor::new(file.bytes.clone()))
         })
         .collect()
 }

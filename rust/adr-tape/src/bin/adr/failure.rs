@@ -40,6 +40,16 @@ impl Failure {
         }
     }
 
+    /// This failure, of a recording that was not put in force.
+    pub fn unrecorded(self) -> Failure {
+        match self {
+            Failure::Failed(message) => Failure::Failed(format!(
+                "{message}; nothing was recorded, the cartridge holds what it held before"
+            )),
+            other => other,
+        }
+    }
+
     /// The exit status.
     pub fn status(&self) -> u8 {
         match self {

@@ -9,7 +9,7 @@ use std::path::Path;
 
 use crate::arguments::{Arguments, Options};
 use crate::failure::Failure;
-use crate::image::{Access, Image};
+use crate::image::{refuse_itself, Access, Image};
 use crate::output;
 use spots::Spots;
 
@@ -37,6 +37,7 @@ pub fn text(path: &Path) -> Result<String, Failure> {
 
 /// Writes the map of an image as a picture.
 pub fn write_picture(path: &Path, file: &Path) -> Result<(), Failure> {
+    refuse_itself(path, file)?;
     std::fs::write(file, picture(path)?).map_err(|error| Failure::of_file(file, &error))
 }
 

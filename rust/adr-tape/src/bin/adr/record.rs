@@ -9,7 +9,7 @@ use adr_tape::Summary;
 use crate::arguments::{Arguments, Options};
 use crate::cartridge::Cartridge;
 use crate::failure::Failure;
-use crate::image::Access;
+use crate::image::{refuse_itself, Access};
 use crate::job::source::{Elements, Input};
 use crate::output;
 use crate::progress::Progress;
@@ -35,7 +35,7 @@ pub fn run(arguments: &Arguments) -> Result<(), Failure> {
     let window = arguments.number("--window")?.unwrap_or(WINDOW);
     let seed = arguments.number("--faults")?;
     let name = arguments.value("--name");
-    let (inputs, total) = inputs(files, name)?;
+    let (inputs, total) = inputs(path, files, name)?;
     let jobs = u64::try_from(inputs.len()).unwrap_or(u64::MAX);
 
     let mut cartridge = Cartridge::load(path, Access::Record, depth, seed)?;
@@ -68,7 +68,11 @@ fn refuse_content(cartridge: &mut Cartridge, path: &Path) -> Result<(), Failure>
 }
 
 /// What is to be recorded, and its length if that is known.
-fn inputs(files: &[OsString], name: Option<&OsStr>) -> Result<(Vec<Input>, Option<u64>), Failure> {
+fn inputs(
+    image: &Path,
+    files: &[OsString],
+    name: Option<&OsStr>,
+) -> Result<(Vec<Input>, Option<u64>), Failure> {
     let streams = files.iter().filter(|file| *file == "-").count();
     if files.is_empty() {
         return Err(Failure::usage("name the files to record, or '-'"));
@@ -92,9 +96,12 @@ fn inputs(files: &[OsString], name: Option<&OsStr>) -> Result<(Vec<Input>, Optio
             inputs.push(Input::standard_input(name)?);
             total = None;
         } else {
+            refuse_itself(image, Path::new(file))?;
             let (input, length) = Input::file(Path::new(file))?;
             inputs.push(input);
-            total = total.map(|total| total.saturating_add(length));
+            total = total
+                .zip(length)
+                .map(|(total, length)| total.saturating_add(length));
         }
     }
     Ok((inputs, total))

@@ -10,12 +10,12 @@ use std::path::{Path, PathBuf};
 use crate::arguments::{nothing_more, Arguments, Options};
 use crate::cartridge::Cartridge;
 use crate::failure::Failure;
-use crate::image::Access;
+use crate::image::{refuse_itself, Access};
 use crate::job::reading::{Event, Verdict};
 use crate::job::Description;
 use crate::progress::Progress;
 use crate::record::DEPTH;
-use crate::text::printable;
+use crate::text::{count, printable};
 
 /// The options of `restore`.
 pub const OPTIONS: Options = Options {
@@ -42,6 +42,7 @@ pub fn run(arguments: &Arguments) -> Result<(), Failure> {
     let mut cartridge = Cartridge::load(path, Access::Read, DEPTH, seed)?;
     let mut progress = Progress::new("reading", arguments.has("--quiet"));
     let mut restoring = Restoring {
+        image: path,
         wanted,
         target,
         overwrite: arguments.has("--overwrite"),
@@ -54,8 +55,9 @@ pub fn run(arguments: &Arguments) -> Result<(), Failure> {
     let jobs = read?;
     match wanted {
         Some(job) if restoring.restored == 0 => Err(Failure::new(format!(
-            "{}: there is no job {job}; the last is job {jobs}",
-            path.display()
+            "{}: there is no job {job}; the cartridge holds {}",
+            path.display(),
+            count(jobs, "job", "jobs")
         ))),
         _ => Ok(()),
     }
@@ -94,7 +96,8 @@ fn target(arguments: &Arguments, wanted: Option<u64>) -> Result<Target, Failure>
 }
 
 /// Jobs on their way to files.
-struct Restoring {
+struct Restoring<'a> {
+    image: &'a Path,
     wanted: Option<u64>,
     target: Target,
     overwrite: bool,
@@ -102,14 +105,14 @@ struct Restoring {
     restored: u64,
 }
 
-impl Restoring {
+impl Restoring<'_> {
     fn take(&mut self, number: u64, event: &Event<'_>) -> Result<ControlFlow<()>, Failure> {
         if self.wanted.is_some_and(|wanted| wanted != number) {
             return Ok(ControlFlow::Continue(()));
         }
         match event {
             Event::Begin(description) => {
-                self.writer = Some(Writer::open(&self.target, description, self.overwrite)?);
+                self.writer = Some(self.open(description)?);
             }
             Event::Data(data) => {
                 if let Some(writer) = &mut self.writer {
@@ -119,6 +122,21 @@ impl Restoring {
             Event::End(verdict) => return self.end(number, verdict),
         }
         Ok(ControlFlow::Continue(()))
+    }
+
+    fn open(&self, description: &Description) -> Result<Writer, Failure> {
+        let path = match &self.target {
+            Target::Output => return Ok(Writer::Output),
+            Target::File(path) if is_device(path) => {
+                let file = OpenOptions::new().write(true).open(path);
+                let file = file.map_err(|error| Failure::of_file(path, &error))?;
+                return Ok(Writer::Device(path.clone(), file));
+            }
+            Target::File(path) => path.clone(),
+            Target::Directory(directory) => directory.join(own_name(&description.name)?),
+        };
+        refuse_itself(self.image, &path)?;
+        NewFile::open(path, self.overwrite).map(Writer::File)
     }
 
     fn end(&mut self, number: u64, verdict: &Verdict) -> Result<ControlFlow<()>, Failure> {
@@ -167,24 +185,6 @@ struct NewFile {
 }
 
 impl Writer {
-    fn open(
-        target: &Target,
-        description: &Description,
-        overwrite: bool,
-    ) -> Result<Writer, Failure> {
-        let path = match target {
-            Target::Output => return Ok(Writer::Output),
-            Target::File(path) if is_device(path) => {
-                let file = OpenOptions::new().write(true).open(path);
-                let file = file.map_err(|error| Failure::of_file(path, &error))?;
-                return Ok(Writer::Device(path.clone(), file));
-            }
-            Target::File(path) => path.clone(),
-            Target::Directory(directory) => directory.join(own_name(&description.name)?),
-        };
-        NewFile::open(path, overwrite).map(Writer::File)
-    }
-
     fn write(&mut self, data: &[u8]) -> Result<(), Failure> {
         match self {
             Writer::Output => io::stdout()

@@ -12,6 +12,9 @@
 //! big-endian, as on tape. Every part starts at a multiple of 4,096 bytes, so
 //! no sector holds bytes of two parts.
 
+use std::fs::File;
+use std::os::unix::fs::FileExt;
+
 use adr_tape::{Geometry, LoadPoint};
 
 use crate::checksum::checksum;
@@ -84,9 +87,10 @@ pub enum WrongHead {
     Damaged,
 }
 
-/// Whether a file that starts like this is an image, whole or not.
-pub fn is_image(start: &[u8]) -> bool {
-    start.starts_with(&IMAGE_MAGIC)
+/// Whether a file starts like an image, whole or not.
+pub fn is_image_file(file: &File) -> bool {
+    let mut start = IMAGE_MAGIC.map(|_| 0);
+    file.read_exact_at(&mut start, 0).is_ok() && start == IMAGE_MAGIC
 }
 
 /// The head of an image.
@@ -107,7 +111,7 @@ pub fn head_page(geometry: Geometry) -> [u8; PAGE] {
 
 /// The geometry that a head tells.
 pub fn read_head(page: &[u8; PAGE]) -> Result<Geometry, WrongHead> {
-    if !is_image(page) {
+    if !page.starts_with(&IMAGE_MAGIC) {
         return Err(WrongHead::Foreign);
     }
     let word = |at| u32::from_be_bytes(bytes(page, at));

@@ -183,7 +183,7 @@ mod tests {
                     time: 0,
                     length: None,
                 };
-                Input::Stream(description, Box::new(std::io::Cursor::new(bytes.clone())))
+                Input::bytes(description, std::io::Cursor::new(bytes.clone()))
             })
             .collect();
         let elements: Result<Vec<_>, Failure> = Elements::new(inputs).collect();

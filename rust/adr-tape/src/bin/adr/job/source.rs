@@ -16,18 +16,26 @@ use crate::failure::Failure;
 
 /// What a job's bytes come from.
 pub enum Input {
-    /// A file.
+    /// A regular file, opened when its turn comes.
     File(PathBuf),
-    /// Standard input or bytes at hand, under a description.
-    Stream(Description, Box<dyn Read>),
+    /// Bytes that can be read once, with what they are called in messages.
+    Stream(PathBuf, Description, Box<dyn Read>),
 }
 
 impl Input {
-    /// The file at a path, after a look at it: what cannot be recorded is
-    /// told before the first frame is written.
-    pub fn file(path: &Path) -> Result<(Input, u64), Failure> {
-        let length = describe(path, &open(path)?)?.length.unwrap_or(0);
-        Ok((Input::File(path.to_path_buf()), length))
+    /// The file at a path, after a look at it, and its length if that is
+    /// known: what cannot be recorded is told before the first frame is
+    /// written.
+    pub fn file(path: &Path) -> Result<(Input, Option<u64>), Failure> {
+        let file = open(path)?;
+        let description = describe(path, &file)?;
+        let length = description.length;
+        let input = match length {
+            Some(_) => Input::File(path.to_path_buf()),
+            // A pipe that is opened twice has lost its writer.
+            None => Input::Stream(path.to_path_buf(), description, Box::new(file)),
+        };
+        Ok((input, length))
     }
 
     /// Standard input.
@@ -37,7 +45,16 @@ impl Input {
             time: seconds(SystemTime::now()),
             length: None,
         };
-        Ok(Input::Stream(description, Box::new(io::stdin())))
+        Ok(Input::bytes(description, io::stdin()))
+    }
+
+    /// Bytes under a description.
+    pub fn bytes(description: Description, bytes: impl Read + 'static) -> Input {
+        Input::Stream(
+            PathBuf::from("standard input"),
+            description,
+            Box::new(bytes),
+        )
     }
 
     fn open(self) -> Result<Job, Failure> {
@@ -46,9 +63,7 @@ impl Input {
                 let file = open(&path)?;
                 (path.clone(), describe(&path, &file)?, Box::new(file))
             }
-            Input::Stream(description, bytes) => {
-                (PathBuf::from("standard input"), description, bytes)
-            }
+            Input::Stream(shown, description, bytes) => (shown, description, bytes),
         };
         Ok(Job {
             shown,
