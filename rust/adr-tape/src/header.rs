@@ -10,6 +10,14 @@ use crate::reply::Sense;
 /// The newer of two header frames, by update count. An invalid one gives way
 /// to a valid one.
 ///
+/// ```
+/// use adr_tape::{newer, Geometry, Refusal};
+///
+/// let neither = [0; adr_tape::FRAME_LENGTH];
+/// let chosen = newer(Geometry::beginning(3_001, 1), &neither, &neither);
+/// assert_eq!(chosen, Err(Refusal::Header));
+/// ```
+///
 /// # Errors
 /// [`Refusal::Length`], [`Refusal::Geometry`], or [`Refusal::Header`] where
 /// neither is valid or both have the same count and unlike data.

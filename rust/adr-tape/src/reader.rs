@@ -31,6 +31,37 @@ pub enum Delivery<'f> {
 }
 
 /// A reading session.
+///
+/// Fetch a command, send it, bring the reply with the frame read, until the
+/// end.
+///
+/// ```
+/// use adr_tape::{Address, Command, Delivery, Geometry, Next, ReadNext, Reader, Recorder, Reply};
+///
+/// # let geometry = Geometry::beginning(3_001, 1);
+/// # let mut frames = std::collections::BTreeMap::new();
+/// # let mut recorder = Recorder::open(geometry, 4, 2, None)?;
+/// # recorder.accept_block(&[5; adr_tape::BLOCK_LENGTH])?;
+/// # recorder.close()?;
+/// # while let Next::Send(command, frame) = recorder.fetch()? {
+/// #     if let (Command::Write(address), Some(frame)) = (command, frame) {
+/// #         frames.insert(address, frame.to_vec());
+/// #     }
+/// #     recorder.reply(Reply::good())?;
+/// # }
+/// // `frames` is what stands at each address of a recorded tape.
+/// let mut reader = Reader::open(geometry, &frames[&Address(5)])?;
+/// let mut frame = vec![0; adr_tape::FRAME_LENGTH];
+/// while let ReadNext::Send(command) = reader.fetch()? {
+///     if let Command::Read(address) = command {
+///         frame.copy_from_slice(&frames[&address]);
+///     }
+///     if let Delivery::Block(block) = reader.reply(Reply::good(), &frame)? {
+///         assert_eq!(block, [5; adr_tape::BLOCK_LENGTH]);
+///     }
+/// }
+/// # Ok::<(), adr_tape::Refusal>(())
+/// ```
 #[derive(Clone, Debug, PartialEq, Eq)]
 pub struct Reader {
     session: ffi::Reading,

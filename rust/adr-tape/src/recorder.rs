@@ -21,6 +21,31 @@ pub enum Next<'a> {
 }
 
 /// A recording session, with the window and the frame that it needs.
+///
+/// Fetch a command, send it, bring the reply; accept elements at any time
+/// between, and close.
+///
+/// ```
+/// use adr_tape::{Command, Geometry, Next, Recorder, Refusal, Reply};
+///
+/// let mut recorder = Recorder::open(Geometry::beginning(3_001, 1), 4, 2, None)?;
+/// recorder.accept_block(&[1; adr_tape::BLOCK_LENGTH])?;
+/// recorder.accept_filemark()?;
+/// assert_eq!(recorder.accept_filemark(), Err(Refusal::WindowFull));
+/// recorder.close()?;
+/// let mut written = Vec::new();
+/// while let Next::Send(command, frame) = recorder.fetch()? {
+///     // A drive that writes each frame at once.
+///     if let (Command::Write(address), Some(frame)) = (command, frame) {
+///         written.push((address.0, frame.len()));
+///     }
+///     recorder.reply(Reply::good())?;
+/// }
+/// // Ten header copies, a block, a filemark, EOD, and ten copies more.
+/// assert_eq!(written.len(), 23);
+/// assert_eq!(written[10], (10, 33_280));
+/// # Ok::<(), Refusal>(())
+/// ```
 #[derive(Clone)]
 pub struct Recorder {
     session: ffi::Recording,

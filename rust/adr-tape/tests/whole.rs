@@ -69,10 +69,10 @@ fn elements(random: &mut Random) -> Vec<Element<'static>> {
         .collect()
 }
 
-fn sent(
-    elements: &[Element<'static>],
-) -> impl Iterator<Item = Result<Element<'static>, Infallible>> {
-    elements.to_vec().into_iter().map(Ok)
+fn sent<'e>(
+    elements: &'e [Element<'static>],
+) -> impl Iterator<Item = Result<Element<'static>, Infallible>> + 'e {
+    elements.iter().cloned().map(Ok)
 }
 
 fn read_back(

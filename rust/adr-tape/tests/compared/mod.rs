@@ -193,8 +193,8 @@ impl ComparedRecording {
 
     /// Whether this fetch lends guarded copies.
     fn closely(&mut self) -> bool {
-        self.fetches = self.fetches.wrapping_add(1);
-        self.fetches % CLOSELY == 0
+        self.fetches = (self.fetches + 1) % CLOSELY;
+        self.fetches == 0
     }
 
     fn fetch_closely(
