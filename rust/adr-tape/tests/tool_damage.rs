@@ -124,35 +124,37 @@ fn damaged_heads_roots_and_indexes() {
 
 /// Where the index starts that the newer root names.
 fn index_of(image: &[u8]) -> usize {
-    let number = |at: usize| {
-        image[at..at + 8]
-            .iter()
-            .fold(0, |sum, byte| sum * 256 + usize::from(*byte))
-    };
-    let newer = ROOTS.into_iter().max_by_key(|root| number(root + 8));
-    CELLS + number(newer.unwrap_or(0) + 24) * CELL
+    let newer = ROOTS.into_iter().max_by_key(|root| number(image, root + 8));
+    CELLS + number(image, newer.unwrap_or(0) + 24) * CELL
 }
 
+/// The 64-bit number at `at`.
+fn number(image: &[u8], at: usize) -> usize {
+    let bytes = image[at..at + 8].iter();
+    bytes.fold(0, |sum, byte| sum * 256 + usize::from(*byte))
+}
+
+/// Both roots lead to the same content.
 #[test]
 fn one_damaged_root() {
     let place = recorded("root");
+    place
+        .adr(&["record", "--overwrite", "a.adr", "new"])
+        .succeeded();
     let image = place.read("a.adr");
-    let mut restored = Vec::new();
     for root in ROOTS {
         let mut damaged = image.clone();
         damaged[root + 8] ^= 1;
         place.write("a.adr", &damaged);
         let check = place.adr(&["check", "a.adr"]).failed();
         assert!(check.error.contains("one of the image's two roots"));
-        restored.push(place.adr(&["list", "a.adr"]).succeeded().output);
+        let restored = place.adr(&["restore", "a.adr", "1"]).succeeded();
+        assert_eq!(restored.output, place.read("new"));
         place
             .adr(&["record", "--overwrite", "a.adr", "file"])
             .succeeded();
         place.adr(&["check", "a.adr"]).succeeded();
     }
-    // The content before the recording, which was none, and the recording.
-    restored.sort();
-    assert!(restored[0].is_empty() && !restored[1].is_empty());
 }
 
 #[test]
@@ -189,6 +191,30 @@ fn damaged_frames() {
         assert!(place.read("a.adr") == damaged);
     }
     assert!(found >= 19 && harmless <= 10, "{found} {harmless}");
+}
+
+#[test]
+fn damaged_headers() {
+    let place = recorded("headers");
+    let image = place.read("a.adr");
+    let headers: Vec<usize> = (CELLS..image.len())
+        .step_by(CELL)
+        .filter(|cell| image[*cell..].starts_with(b"ADR_SEQ\0"))
+        .collect();
+    assert_eq!(headers.len(), 10);
+    let mut damaged = image.clone();
+    for header in &headers {
+        damaged[header + 20_000] ^= 1;
+    }
+    refused_and_unchanged(&place, &damaged, "damaged at address");
+    // With one copy left everything can be read, but nothing recorded.
+    damaged[headers[7] + 20_000] ^= 1;
+    place.write("a.adr", &damaged);
+    let restored = place.adr(&["restore", "a.adr", "1"]).succeeded();
+    assert_eq!(restored.output, place.read("file"));
+    let record = place.adr(&["record", "--overwrite", "a.adr", "new"]);
+    assert!(record.failed().error.contains("copies of the header"));
+    assert!(place.read("a.adr") == damaged);
 }
 
 #[test]
@@ -286,50 +312,58 @@ fn input_that_fails() {
 }
 
 /// A power cut leaves some of the pages written since the last time the file
-/// was brought to disk, in any order; the root is written after all others
-/// were brought there.
+/// was brought to disk, in any order. A root is written after all else was
+/// brought there, and the second root after the first was.
 #[test]
 fn power_cut() {
     let place = recorded("power");
-    let old = place.read("file");
-    let new = place.read("new");
+    let (old, new) = (place.read("file"), place.read("new"));
     let before = place.read("a.adr");
     place
         .adr(&["record", "--overwrite", "a.adr", "new"])
         .succeeded();
     let after = place.read("a.adr");
-    let changed: Vec<usize> = (0..after.len() / PAGE)
+    let changed: Vec<usize> = (3..after.len() / PAGE)
         .filter(|page| part(&before, *page) != Some(page_of(&after, *page)))
         .collect();
-    let root: Vec<usize> = changed.iter().copied().filter(|page| *page < 3).collect();
-    assert!(changed.len() > 50 && root.len() == 1, "{root:?}");
+    assert!(changed.len() > 50);
+    let restored = |image: &[u8]| {
+        place.write("a.adr", image);
+        place.adr(&["restore", "a.adr", "1"]).succeeded().output
+    };
 
     let mut random = adr_model::random::Random::new(1);
-    for turn in 0..40 {
-        let mut mixed = before.clone();
-        for page in changed.iter().filter(|page| **page >= 3) {
-            if turn == 0 || random.chance(500) {
-                put(&mut mixed, *page, page_of(&after, *page));
-            }
+    let mut image = before.clone();
+    for _ in 0..40 {
+        image.clone_from(&before);
+        for page in changed.iter().filter(|_| random.chance(500)) {
+            put(&mut image, *page, page_of(&after, *page));
         }
-        place.write("a.adr", &mixed);
-        let restored = place.adr(&["restore", "a.adr", "1"]).succeeded();
-        assert_eq!(restored.output, old);
+        assert_eq!(restored(&image), old);
         place.adr(&["check", "a.adr"]).succeeded();
     }
-    for turn in 0..40u32 {
-        let mut mixed = before.clone();
-        for page in changed.iter().filter(|page| **page >= 3) {
-            put(&mut mixed, *page, page_of(&after, *page));
-        }
-        let whole = page_of(&after, root[0]);
-        let torn = usize::try_from(turn * 105).unwrap_or(0);
-        let start = root[0] * PAGE;
-        mixed[start..start + torn.min(PAGE)].copy_from_slice(&whole[..torn.min(PAGE)]);
-        place.write("a.adr", &mixed);
-        let restored = place.adr(&["restore", "a.adr", "1"]).succeeded();
-        assert!(restored.output == old || restored.output == new);
+    for page in &changed {
+        put(&mut image, *page, page_of(&after, *page));
     }
+    assert_eq!(restored(&image), old);
+    let first = ROOTS
+        .into_iter()
+        .min_by_key(|root| number(&before, root + 8));
+    let second = ROOTS
+        .into_iter()
+        .max_by_key(|root| number(&before, root + 8));
+    for (root, earlier) in [(first, &old), (second, &new)] {
+        let root = root.expect("a root");
+        for torn in (0..=PAGE).step_by(128) {
+            let mut image = image.clone();
+            image[root..root + torn].copy_from_slice(&after[root..root + torn]);
+            let restored = restored(&image);
+            assert!(restored == *earlier || restored == new, "{root} {torn}");
+        }
+        put(&mut image, root / PAGE, page_of(&after, root / PAGE));
+        assert_eq!(restored(&image), new);
+    }
+    assert!(image == after);
 }
 
 fn page_of(image: &[u8], page: usize) -> &[u8] {

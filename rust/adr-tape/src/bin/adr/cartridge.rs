@@ -82,10 +82,35 @@ impl Cartridge {
     /// The newest header, none on an empty cartridge.
     pub fn header(&mut self) -> Result<Option<Vec<u8>>, Failure> {
         let geometry = self.geometry;
-        newest_header(self, geometry).map_err(|error| match error {
+        let header = newest_header(self, geometry).map_err(|error| match error {
             HeaderError::Refused(refusal) => self.refused("no header was found", refusal),
             HeaderError::Drive(failure) => failure,
-        })
+        })?;
+        if header.is_none() {
+            self.image().require_undamaged()?;
+        }
+        Ok(header)
+    }
+
+    /// The header that a recording opens on. Only on the newest of all, or on
+    /// none where nothing was recorded, is a recording's write pass a new
+    /// one; so every copy must be whole.
+    fn header_for_recording(&mut self) -> Result<Option<Vec<u8>>, Failure> {
+        let header = self.header()?;
+        self.image().require_undamaged()?;
+        if header.is_none() && self.holds_frames() {
+            return Err(Failure::new(format!(
+                "{}: the cartridge holds frames but no header; \
+                 nothing was changed: 'adr format --overwrite' makes an empty one",
+                self.image().path().display()
+            )));
+        }
+        Ok(header)
+    }
+
+    /// Whether anything was ever recorded.
+    pub fn holds_frames(&self) -> bool {
+        self.image().known().any(|(_, reads, _)| reads)
     }
 
     /// Records elements and puts the recording in force.
@@ -95,7 +120,7 @@ impl Cartridge {
         elements: impl Iterator<Item = Result<Element<'static>, Failure>>,
         mut progress: impl FnMut(&Summary),
     ) -> Result<Summary, Failure> {
-        let header = self.header()?;
+        let header = self.header_for_recording()?;
         let header = header.as_deref();
         let geometry = self.geometry;
         let recorded = record_all(

@@ -6,7 +6,8 @@
 //! one page, the root that is not in force. Until that page is whole the
 //! other root is in force, and everything it leads to is as it was. So a
 //! power cut, a full disk or a killed process leaves the old content, and
-//! nothing needs to be repaired at the next opening.
+//! nothing needs to be repaired at the next opening. At last the other root
+//! is written too, so that both lead to the same content.
 
 mod cells;
 mod content;
@@ -103,6 +104,18 @@ impl Image {
         self.damaged.iter().copied()
     }
 
+    /// Tells a cartridge whose header is damaged from one that has none.
+    pub fn require_undamaged(&self) -> Result<(), Failure> {
+        match self.damaged.first() {
+            None => Ok(()),
+            Some(address) => Err(Failure::new(format!(
+                "{}: the image is damaged at address {address}, among the copies of the header; \
+                 nothing was changed: restore what it holds, then 'adr format --overwrite' it",
+                self.path.display()
+            ))),
+        }
+    }
+
     /// The last 512 bytes of a frame, its AUX, which are not checked.
     pub fn aux(&mut self, address: u32, aux: &mut [u8]) -> bool {
         let Some(place) = self
@@ -132,20 +145,29 @@ impl Image {
         let root = prepared.map_err(|error| Failure::of_file(&self.path, &error).unrecorded())?;
         // From here on either root may come into force: cut nothing off.
         self.unfinished = false;
-        let slot = 1 - self.content.slot;
-        let offset = ROOTS.get(slot).copied().unwrap_or(ROOTS[0]);
-        let put = self.file.write_all_at(&root.page(), offset);
-        let put = put.and_then(|()| self.file.sync_all());
-        put.map_err(|error| {
+        let (spare, present) = (1 - self.content.slot, self.content.slot);
+        self.write_root(&root, spare).map_err(|error| {
             Failure::new(format!(
                 "{}: {}; the cartridge may hold the new content already",
                 self.path.display(),
                 reason(&error)
             ))
         })?;
-        self.content.root = root;
-        self.content.slot = slot;
+        // The recording is in force. The other root is made to lead to it
+        // too, so that damage to one of them brings no older content back;
+        // if that fails, the next recording does it.
+        let again = Root {
+            generation: root.generation.saturating_add(1),
+            ..root
+        };
+        let _ = self.write_root(&again, present);
         Ok(())
+    }
+
+    fn write_root(&self, root: &Root, slot: usize) -> io::Result<()> {
+        let offset = ROOTS.get(slot).copied().unwrap_or(ROOTS[0]);
+        self.file.write_all_at(&root.page(), offset)?;
+        self.file.sync_all()
     }
 
     /// Writes the index beside the present content.

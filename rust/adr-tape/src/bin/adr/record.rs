@@ -40,7 +40,7 @@ pub fn run(arguments: &Arguments) -> Result<(), Failure> {
 
     let mut cartridge = Cartridge::load(path, Access::Record, depth, seed)?;
     if !arguments.has("--overwrite") {
-        refuse_content(&mut cartridge, path)?;
+        refuse_content(&cartridge, path)?;
     }
     let quiet = arguments.has("--quiet");
     let mut progress = Progress::new("recording", quiet);
@@ -56,15 +56,15 @@ pub fn run(arguments: &Arguments) -> Result<(), Failure> {
 }
 
 /// A recording starts at the first user frame: what stands there is lost.
-fn refuse_content(cartridge: &mut Cartridge, path: &Path) -> Result<(), Failure> {
-    match cartridge.header()? {
-        None => Ok(()),
-        Some(_) => Err(Failure::new(format!(
-            "{}: the cartridge holds a recording, and a new one replaces it; \
-             nothing was changed: use '--overwrite' to replace it, or another cartridge",
-            path.display()
-        ))),
+fn refuse_content(cartridge: &Cartridge, path: &Path) -> Result<(), Failure> {
+    if !cartridge.holds_frames() {
+        return Ok(());
     }
+    Err(Failure::new(format!(
+        "{}: the cartridge holds a recording, and a new one replaces it; \
+         nothing was changed: use '--overwrite' to replace it, or another cartridge",
+        path.display()
+    )))
 }
 
 /// What is to be recorded, and its length if that is known.

@@ -124,10 +124,13 @@ pub fn look_at(image: &mut Image) -> Result<Spots, Failure> {
         HeaderError::Refused(refusal) => refused(refusal),
         HeaderError::Drive(failure) => failure,
     })?;
-    if let Some(header) = header {
-        spots.recorded = true;
-        mark_headers(&mut labels, &header, &mut spots)?;
-        mark_elements(&mut labels, &header, &mut spots)?;
+    match header {
+        None => labels.image.require_undamaged()?,
+        Some(header) => {
+            spots.recorded = true;
+            mark_headers(&mut labels, &header, &mut spots)?;
+            mark_elements(&mut labels, &header, &mut spots)?;
+        }
     }
     Ok(spots)
 }
