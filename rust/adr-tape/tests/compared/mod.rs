@@ -22,6 +22,8 @@ const CLOSELY: u32 = 8;
 thread_local! {
     /// Buffers used again: large ones are costly to allocate.
     static BUFFERS: RefCell<Vec<Vec<u8>>> = const { RefCell::new(Vec::new()) };
+    /// What the model wrote last; it writes all of a frame.
+    static OWN_FRAME: RefCell<Vec<u8>> = const { RefCell::new(Vec::new()) };
 }
 
 /// Lends a copy of `content` with guard bytes on either side. The third
@@ -226,14 +228,11 @@ impl ComparedRecording {
             let answer = self.model.fetch(window, frame);
             return (fetched, answer, true);
         }
-        let (answer, right) = lend(
-            frame,
-            |own| {
-                own.fill(0x5C);
-                self.model.fetch(window, own)
-            },
-            |_, own| own == frame,
-        );
+        let (answer, right) = OWN_FRAME.with_borrow_mut(|own| {
+            own.resize(frame.len(), 0);
+            let answer = self.model.fetch(window, own);
+            (answer, own == frame)
+        });
         (fetched, answer, right)
     }
 }
