@@ -408,7 +408,10 @@ fn demo() {
     assert!(first.output_text().contains("write error at"));
     assert!(first.output_text().contains("all as recorded"));
     assert!(first.output_text().lines().all(|line| line.len() <= 100));
-    assert!(place.read("demo.svg").starts_with(b"<svg "));
+    let shown = concat!(env!("CARGO_MANIFEST_DIR"), "/../../docs/demo-map.svg");
+    let shown = fs::read(shown).expect("the picture in the documents");
+    let made = "run 'sh scripts/demo --svg docs/demo-map.svg'";
+    assert!(place.read("demo.svg") == shown, "{made}");
     let left = fs::read_dir(place.path(".")).expect("it").count();
     assert_eq!(left, 1, "the picture alone");
     for seed in 0..20 {

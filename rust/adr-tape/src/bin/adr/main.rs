@@ -22,6 +22,7 @@ mod record;
 mod restore;
 mod text;
 mod usage;
+mod writer;
 
 use std::ffi::OsString;
 use std::process::ExitCode;

@@ -1,8 +1,8 @@
 //! `adr restore`: jobs from a cartridge back to files.
 
 use std::ffi::{OsStr, OsString};
-use std::fs::{File, OpenOptions};
-use std::io::{self, IsTerminal, Write};
+use std::fs::OpenOptions;
+use std::io::IsTerminal;
 use std::ops::ControlFlow;
 use std::os::unix::ffi::OsStrExt;
 use std::path::{Path, PathBuf};
@@ -16,6 +16,7 @@ use crate::job::Description;
 use crate::progress::Progress;
 use crate::record::DEPTH;
 use crate::text::{count, printable};
+use crate::writer::{is_device, NewFile, Writer};
 
 /// The options of `restore`.
 pub const OPTIONS: Options = Options {
@@ -88,7 +89,7 @@ fn target(arguments: &Arguments, wanted: Option<u64>) -> Result<Target, Failure>
         )),
         (None, Some(file), Some(_)) if file == "-" => Ok(Target::Output),
         (None, Some(file), Some(_)) => Ok(Target::File(PathBuf::from(file))),
-        (None, None, Some(_)) if io::stdout().is_terminal() => Err(Failure::usage(
+        (None, None, Some(_)) if std::io::stdout().is_terminal() => Err(Failure::usage(
             "a job's bytes are not for a terminal: redirect them, or use '--into' or '--output'",
         )),
         (None, None, Some(_)) => Ok(Target::Output),
@@ -163,105 +164,6 @@ impl Restoring<'_> {
             ControlFlow::Continue(())
         })
     }
-}
-
-/// Where a job's bytes go.
-enum Writer {
-    /// Standard output.
-    Output,
-    /// A device or pipe that `--output` names.
-    Device(PathBuf, File),
-    /// A file.
-    File(NewFile),
-}
-
-/// A file that is removed unless its job was whole.
-struct NewFile {
-    file: File,
-    path: PathBuf,
-    /// The file that it replaces when it is whole.
-    replaces: Option<PathBuf>,
-    whole: bool,
-}
-
-impl Writer {
-    fn write(&mut self, data: &[u8]) -> Result<(), Failure> {
-        match self {
-            Writer::Output => io::stdout()
-                .write_all(data)
-                .map_err(|error| Failure::of_output(&error)),
-            Writer::Device(path, file) => file
-                .write_all(data)
-                .map_err(|error| Failure::of_file(path, &error)),
-            Writer::File(new) => new
-                .file
-                .write_all(data)
-                .map_err(|error| Failure::of_file(&new.path, &error)),
-        }
-    }
-
-    fn finish(self) -> Result<(), Failure> {
-        match self {
-            Writer::Output => io::stdout()
-                .flush()
-                .map_err(|error| Failure::of_output(&error)),
-            Writer::Device(..) => Ok(()),
-            Writer::File(new) => new.finish(),
-        }
-    }
-}
-
-impl NewFile {
-    /// Creates the file: nothing that its name leads to is followed or
-    /// written over.
-    fn open(path: PathBuf, overwrite: bool) -> Result<NewFile, Failure> {
-        let taken = path.symlink_metadata().is_ok();
-        if taken && !overwrite {
-            let shown = path.display();
-            return Err(Failure::new(format!(
-                "{shown}: exists; use '--overwrite' to replace it"
-            )));
-        }
-        let (path, replaces) = if taken {
-            let mut part = path.clone().into_os_string();
-            part.push(format!(".{}.part", std::process::id()));
-            (PathBuf::from(part), Some(path))
-        } else {
-            (path, None)
-        };
-        let file = OpenOptions::new().write(true).create_new(true).open(&path);
-        let file = file.map_err(|error| Failure::of_file(&path, &error))?;
-        Ok(NewFile {
-            file,
-            path,
-            replaces,
-            whole: false,
-        })
-    }
-
-    fn finish(mut self) -> Result<(), Failure> {
-        let synced = self.file.sync_all();
-        synced.map_err(|error| Failure::of_file(&self.path, &error))?;
-        if let Some(replaced) = &self.replaces {
-            let renamed = std::fs::rename(&self.path, replaced);
-            renamed.map_err(|error| Failure::of_file(replaced, &error))?;
-        }
-        self.whole = true;
-        Ok(())
-    }
-}
-
-impl Drop for NewFile {
-    fn drop(&mut self) {
-        if !self.whole {
-            let _ = std::fs::remove_file(&self.path);
-        }
-    }
-}
-
-fn is_device(path: &Path) -> bool {
-    path.metadata()
-        .is_ok_and(|metadata| !metadata.is_file() && !metadata.is_dir())
 }
 
 /// A job's name as a file's name in the target directory, and nowhere else.
