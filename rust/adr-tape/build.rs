@@ -9,7 +9,7 @@ fn main() -> ExitCode {
     println!("cargo:rerun-if-changed=build.rs");
     let directory = library_directory();
     let library = directory.join("libadr.a");
-    // The directory too, so that a library made later is seen.
+    // A library that is missing or made anew is looked for again.
     println!("cargo:rerun-if-changed={}", library.display());
     if !library.is_file() {
         eprintln!(

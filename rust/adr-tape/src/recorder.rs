@@ -57,7 +57,9 @@ impl Recorder {
     /// Opens a recording on the newest header, or on none.
     ///
     /// `depth` is the frames that the drive buffers, 1 to 255; `window` the
-    /// blocks that may wait here, 1 to 64.
+    /// blocks that may wait here, 1 to 64. The write pass is the header's + 1,
+    /// or 1; a recording reads back as accepted if no frame on the cartridge
+    /// bears that pass, so always give the newest header.
     ///
     /// # Errors
     /// [`Refusal::Length`], [`Refusal::Geometry`], [`Refusal::Header`],

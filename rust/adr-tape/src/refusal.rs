@@ -105,7 +105,7 @@ impl Refusal {
             }
             Refusal::Header => {
                 "the header is not valid, or two headers of the same age differ: \
-                 give another copy, or record without one to start anew"
+                 read the ten copies again, or use another cartridge"
             }
             Refusal::Capacity => {
                 "give 1 to 255 frames for the drive's buffer and 1 to 64 blocks for the window"

@@ -1,5 +1,5 @@
 //! The costs of the layer's calls beside a copy of a block, as a table:
-//! `cargo bench -p adr-tape`.
+//! `cargo bench -p adr-tape --bench table`.
 
 mod calls;
 mod measure;
