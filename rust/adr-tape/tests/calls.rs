@@ -14,7 +14,7 @@ use adr_model::{
 use adr_tape::ffi;
 use compared::{geometry_of, Compared, ComparedReading, ComparedRecording};
 
-const ROUNDS: u32 = if cfg!(debug_assertions) { 100 } else { 3_000 };
+const ROUNDS: u32 = if cfg!(debug_assertions) { 600 } else { 3_000 };
 
 #[track_caller]
 fn right(wrong: Option<String>, seed: u32) {
