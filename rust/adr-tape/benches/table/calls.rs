@@ -1,14 +1,14 @@
 //! Single calls. A session is plain numbers, so each turn sets the number of
 //! its element and needs no recording that leads there.
 
-use std::cell::RefCell;
 use std::hint::black_box;
 
 use adr_tape::{ffi, BLOCK_LENGTH, FRAME_LENGTH};
 
 use crate::measure::{median, row, time, Row};
 
-const COUNT: u32 = 1_000;
+/// Calls that are timed at once; a window of 64 blocks is gone through.
+const COUNT: u32 = 128;
 const LARGEST: ffi::Geometry = ffi::Geometry {
     segtrk: 65_535,
     trks: 65_535,
@@ -75,24 +75,36 @@ fn block_of(window: &mut [u8], number: u32) -> &mut [u8] {
     &mut window[start..start + BLOCK_LENGTH]
 }
 
+/// The buffers of a call, and of the copy it is compared with.
+struct Buffers {
+    block: Vec<u8>,
+    window: Vec<u8>,
+    frame: Vec<u8>,
+}
+
+fn buffers(blocks: u32) -> Buffers {
+    Buffers {
+        block: vec![5; BLOCK_LENGTH],
+        window: vec![3; blocks as usize * BLOCK_LENGTH],
+        frame: vec![1; FRAME_LENGTH],
+    }
+}
+
 fn accepting(name: &'static str, rounds: u32, blocks: u32) -> Row {
     let session = recording(blocks);
-    let block = vec![5; BLOCK_LENGTH];
-    let window = RefCell::new(vec![0; blocks as usize * BLOCK_LENGTH]);
     row(
         name,
         rounds,
         COUNT,
-        |number| {
-            let mut window = window.borrow_mut();
+        || buffers(blocks),
+        |lent, number| {
             let session = at(session, number, false);
-            let accepted = ffi::record_block(session, black_box(&block), &mut window);
+            let accepted = ffi::record_block(session, black_box(&lent.block), &mut lent.window);
             assert_eq!(black_box(accepted).number, 0);
         },
-        |number| {
-            let mut window = window.borrow_mut();
-            block_of(&mut window, number).copy_from_slice(black_box(&block));
-            black_box(&mut window);
+        |lent, number| {
+            block_of(&mut lent.window, number).copy_from_slice(black_box(&lent.block));
+            black_box(&mut lent.window);
         },
     )
 }
@@ -100,45 +112,44 @@ fn accepting(name: &'static str, rounds: u32, blocks: u32) -> Row {
 fn fetching(name: &'static str, rounds: u32, blocks: u32) -> Row {
     let mut session = recording(blocks);
     session.elements.pending = 1;
-    let window = RefCell::new(vec![3; blocks as usize * BLOCK_LENGTH]);
-    let frame = RefCell::new(vec![0; FRAME_LENGTH]);
     row(
         name,
         rounds,
         COUNT,
-        |number| {
-            let mut frame = frame.borrow_mut();
+        || buffers(blocks),
+        |lent, number| {
             let session = at(session, number, false);
-            let fetched = ffi::record_fetch(session, black_box(&window.borrow()), &mut frame);
+            let fetched = ffi::record_fetch(session, black_box(&lent.window), &mut lent.frame);
             assert_eq!(black_box(fetched).command.code, ffi::WRITE);
         },
-        |number| {
-            let mut frame = frame.borrow_mut();
-            let mut window = window.borrow_mut();
-            let block = block_of(&mut window, number);
-            frame[..BLOCK_LENGTH].copy_from_slice(black_box(block));
-            black_box(&mut frame);
+        |lent, number| {
+            let block = block_of(&mut lent.window, number);
+            lent.frame[..BLOCK_LENGTH].copy_from_slice(black_box(block));
+            black_box(&mut lent.frame);
         },
     )
 }
 
 fn replying(name: &'static str, rounds: u32, expected: u32, answer: u8) -> Row {
     let session = recording(1);
-    let frame = written(session, 100, false);
     let reading = reading(&session, expected);
-    let target = RefCell::new(vec![0; BLOCK_LENGTH]);
     row(
         name,
         rounds,
         COUNT,
-        |_| {
-            let taken = ffi::read_reply(black_box(reading), ffi::Reply::default(), &frame);
+        || Buffers {
+            frame: written(session, 100, false),
+            ..buffers(1)
+        },
+        |lent, _| {
+            let reply = ffi::Reply::default();
+            let taken = ffi::read_reply(black_box(reading), reply, &lent.frame);
             assert_eq!(black_box(taken).answer, answer);
         },
-        |_| {
-            let mut target = target.borrow_mut();
-            target.copy_from_slice(black_box(&frame[..BLOCK_LENGTH]));
-            black_box(&mut target);
+        |lent, _| {
+            lent.block
+                .copy_from_slice(black_box(&lent.frame[..BLOCK_LENGTH]));
+            black_box(&mut lent.block);
         },
     )
 }

@@ -8,7 +8,7 @@ mod whole;
 fn main() {
     // `cargo test --benches` asks only whether it starts.
     let rounds = if std::env::args().any(|argument| argument == "--bench") {
-        31
+        301
     } else {
         1
     };

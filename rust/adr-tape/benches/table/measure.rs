@@ -1,5 +1,6 @@
 //! Medians over rounds.
 
+use std::collections::VecDeque;
 use std::time::Instant;
 
 /// Nanoseconds that one of `count` turns takes.
@@ -25,22 +26,40 @@ pub struct Row {
     pub ratio: f64,
 }
 
-pub fn row(
+/// How often call and copy take turns in a round.
+const TURNS: u32 = 10;
+/// Buffers of earlier rounds that are kept.
+const KEPT: usize = 16;
+
+/// Measures a call and a copy over the same buffers. Each round has buffers
+/// of its own, since their places in memory alter both.
+pub fn row<B>(
     name: &'static str,
     rounds: u32,
     count: u32,
-    mut call: impl FnMut(u32),
-    mut copy: impl FnMut(u32),
+    mut buffers: impl FnMut() -> B,
+    mut call: impl FnMut(&mut B, u32),
+    mut copy: impl FnMut(&mut B, u32),
 ) -> Row {
-    time(count, &mut call);
-    time(count, &mut copy);
     let (mut calls, mut copies, mut ratios) = (Vec::new(), Vec::new(), Vec::new());
+    // Some are kept, so that the next are elsewhere.
+    let mut used = VecDeque::new();
     for _ in 0..rounds {
-        let one = time(count, &mut call);
-        let other = time(count, &mut copy);
-        calls.push(one);
-        copies.push(other);
+        let mut lent = buffers();
+        time(count, |number| call(&mut lent, number));
+        time(count, |number| copy(&mut lent, number));
+        let (mut one, mut other) = (0.0, 0.0);
+        for _ in 0..TURNS {
+            one += time(count, |number| call(&mut lent, number));
+            other += time(count, |number| copy(&mut lent, number));
+        }
+        calls.push(one / f64::from(TURNS));
+        copies.push(other / f64::from(TURNS));
         ratios.push(one / other);
+        used.push_back(lent);
+        if used.len() > KEPT {
+            used.pop_front();
+        }
     }
     Row {
         name,
