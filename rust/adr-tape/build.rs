@@ -14,7 +14,7 @@ fn main() -> ExitCode {
     if !library.is_file() {
         eprintln!(
             "libadr.a is not in {}.\nRun 'rt staticlib adr' in the repository's root, \
-             or set ADR_LIB_DIR to the directory that holds libadr.a.",
+             or set ADR_LIB_DIR to the directory that holds libadr.a, from '/' on.",
             directory.display()
         );
         return ExitCode::FAILURE;

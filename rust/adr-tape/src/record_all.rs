@@ -29,26 +29,14 @@ pub fn record_all<'a, D: Drive, S>(
     mut progress: impl FnMut(&Summary),
 ) -> Result<Summary, RecordError<D::Error, S>> {
     let mut recorder = Recorder::open(geometry, depth, window, header)?;
-    let mut elements = elements.into_iter().fuse();
-    let mut waiting = None;
-    let mut closed = false;
+    let mut source = Source {
+        elements: elements.into_iter(),
+        waiting: None,
+        closed: false,
+    };
     let mut summary = Summary::default();
     loop {
-        while !closed {
-            let element = match waiting.take() {
-                Some(element) => Some(element),
-                None => elements.next().transpose().map_err(RecordError::Source)?,
-            };
-            let Some(element) = element else {
-                recorder.close()?;
-                closed = true;
-                break;
-            };
-            if !accept(&mut recorder, &element, &mut summary)? {
-                waiting = Some(element);
-                break;
-            }
-        }
+        source.fill(&mut recorder, &mut summary)?;
         match recorder.fetch()? {
             Next::Send(command, frame) => {
                 let reply = send(drive, command, frame).map_err(RecordError::Drive)?;
@@ -59,6 +47,50 @@ pub fn record_all<'a, D: Drive, S>(
             Next::Idle => {}
             Next::Done => return Ok(summary),
         }
+    }
+}
+
+/// Where the elements come from.
+struct Source<'a, I> {
+    elements: I,
+    /// The element that the window had no place for.
+    waiting: Option<Element<'a>>,
+    closed: bool,
+}
+
+impl<'a, I, S> Source<'a, I>
+where
+    I: Iterator<Item = Result<Element<'a>, S>>,
+{
+    /// Accepts elements until the window is full, and closes when there are no
+    /// more.
+    fn fill<D>(
+        &mut self,
+        recorder: &mut Recorder,
+        summary: &mut Summary,
+    ) -> Result<(), RecordError<D, S>> {
+        while !self.closed {
+            let element = match self.waiting.take() {
+                Some(element) => Some(element),
+                None => self
+                    .elements
+                    .next()
+                    .transpose()
+                    .map_err(RecordError::Source)?,
+            };
+            match element {
+                None => {
+                    recorder.close()?;
+                    self.closed = true;
+                }
+                Some(element) if accept(recorder, &element, summary)? => {}
+                Some(element) => {
+                    self.waiting = Some(element);
+                    return Ok(());
+                }
+            }
+        }
+        Ok(())
     }
 }
 

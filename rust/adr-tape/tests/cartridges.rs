@@ -3,7 +3,7 @@
 
 mod compared;
 
-use adr_model::check::shrink::run_and_shrink_on;
+use adr_model::check::shrink::{run_and_shrink_on, shrink_on};
 use adr_model::check::{run_on, Call, Case, Tally};
 use adr_model::fault::PLANTED;
 use adr_model::hostility::Hostility;
@@ -118,4 +118,20 @@ fn planted_faults_are_found() {
             (0..SEEDS).find(|seed| run_on::<Compared>(&Case::of_seed(*seed, fault)).is_err());
         assert!(found.is_some(), "{fault:?} was not found");
     }
+}
+
+/// A difference is told with its seed and a shorter list of calls.
+#[test]
+fn a_difference_is_shrunk() {
+    let cases = (0..SEEDS).map(|seed| Case::of_seed(seed, Fault::BusyTaken));
+    let case = cases
+        .into_iter()
+        .find(|case| run_on::<Compared>(case).is_err());
+    let case = case.expect("the fault is found");
+    let told = run_and_shrink_on::<Compared>(&case).expect_err("it fails again");
+    assert!(told.starts_with(&format!("seed {}: ", case.seed)));
+    let small = shrink_on::<Compared>(&case);
+    let calls = |case: &Case| case.recordings.iter().map(Vec::len).sum::<usize>();
+    assert!(calls(&small) <= calls(&case).min(30), "{told}");
+    assert!(told.ends_with(&format!("{small:?}")));
 }

@@ -409,7 +409,18 @@ impl Layer for Compared {
 
     /// The layer's choice; the checks know which copy is the newest.
     fn choose<'a>(geometry: &Geometry, first: &'a [u8], second: &'a [u8]) -> Result<&'a [u8], u8> {
-        let choice = ffi::choose(geometry_of(geometry), first, second);
+        let ((choice, one), other) = lend(
+            first,
+            |one| {
+                lend(
+                    second,
+                    |other| ffi::choose(geometry_of(geometry), one, other),
+                    |_, lent| lent == second,
+                )
+            },
+            |_, lent| lent == first,
+        );
+        assert!(one && other, "a choice altered a header");
         match (choice.which, choice.number) {
             (1, 0) => Ok(first),
             (2, 0) => Ok(second),
