@@ -2,6 +2,7 @@
 
 pub mod case;
 pub mod content;
+pub mod layer;
 pub mod plain;
 pub mod reading_back;
 pub mod recorder;
@@ -9,6 +10,7 @@ mod replies;
 pub mod shrink;
 
 pub use case::{Call, Case};
+pub use layer::{Layer, Model};
 
 use crate::drive::{Drive, DEEDS};
 use crate::frame::HeaderFields;
@@ -56,7 +58,15 @@ impl Tally {
 /// # Errors
 /// What was found wrong.
 pub fn run(case: &Case) -> Result<Tally, String> {
-    run_with(case, record)
+    run_on::<Model>(case)
+}
+
+/// Runs a case as [`run`] does, on another layer than the model.
+///
+/// # Errors
+/// What was found wrong.
+pub fn run_on<L: Layer>(case: &Case) -> Result<Tally, String> {
+    run_with::<L>(case, record::<L>)
 }
 
 /// Runs a case as [`run`] does, but looks at nothing but what the demand
@@ -65,7 +75,7 @@ pub fn run(case: &Case) -> Result<Tally, String> {
 /// # Errors
 /// What was found wrong.
 pub fn run_demand_only(case: &Case) -> Result<Tally, String> {
-    run_with(case, record_plainly)
+    run_with::<Model>(case, record_plainly)
 }
 
 /// A cartridge about to be recorded.
@@ -78,7 +88,7 @@ struct Before<'a> {
 
 type Record = fn(&Before, Drive, &mut Tally) -> Result<(Drive, Recorded), String>;
 
-fn run_with(case: &Case, record: Record) -> Result<Tally, String> {
+fn run_with<L: Layer>(case: &Case, record: Record) -> Result<Tally, String> {
     let mut tally = Tally::default();
     let last = case.geometry.last().ok_or("a geometry without frames")?;
     let depth = usize::try_from(case.depth).unwrap_or(usize::MAX);
@@ -101,11 +111,11 @@ fn run_with(case: &Case, record: Record) -> Result<Tally, String> {
         let place = |wrong| format!("recording {turn}: {wrong}");
         let (mut drive, recorded) = record(&before, drive, &mut tally).map_err(place)?;
         tally.recordings += 1;
+        let accepted = &recorded.accepted;
         if recorded.done {
             tally.done += 1;
-            let accepted = &recorded.accepted;
-            tally.delivered +=
-                reading_back::read_back(case, last, &mut drive, accepted, seed).map_err(place)?;
+            tally.delivered += reading_back::read_back::<L>(case, last, &mut drive, accepted, seed)
+                .map_err(place)?;
         }
         for (sum, more) in tally.deeds.iter_mut().zip(drive.log().deeds) {
             *sum += more;
@@ -115,9 +125,13 @@ fn run_with(case: &Case, record: Record) -> Result<Tally, String> {
     Ok(tally)
 }
 
-fn record(before: &Before, drive: Drive, tally: &mut Tally) -> Result<(Drive, Recorded), String> {
+fn record<L: Layer>(
+    before: &Before,
+    drive: Drive,
+    tally: &mut Tally,
+) -> Result<(Drive, Recorded), String> {
     let newest = before.newest.clone();
-    let mut recorder = Recorder::open(before.case, before.last, drive, newest)?;
+    let mut recorder = Recorder::<L::Recording>::open(before.case, before.last, drive, newest)?;
     recorder.run(before.calls)?;
     let written = &recorder.drive.log().written;
     tally.crossed += u64::from(written.iter().any(|address| address.0 >= 3_000));
@@ -135,7 +149,7 @@ fn record(before: &Before, drive: Drive, tally: &mut Tally) -> Result<(Drive, Re
     if !recorded.done {
         let (pass, seed) = (recorder.pass, before.case.seed);
         let accepted = &recorded.accepted;
-        reading_back::read_unfinished(before.case, pass, &mut drive, accepted, seed)?;
+        reading_back::read_unfinished::<L>(before.case, pass, &mut drive, accepted, seed)?;
     }
     Ok((drive, recorded))
 }

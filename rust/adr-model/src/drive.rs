@@ -12,7 +12,7 @@ use crate::reply::{
     Reply, Sense, BECOMING_READY, BLANK, EARLY_END, END_OF_TAPE, GOOD, LONG_WRITE, RECOVERED,
     SENSES, UNREADABLE, WRITE_ERROR,
 };
-use crate::tape::{Shared, Tape};
+use crate::tape::{Shared, Storage, Tape};
 
 /// The ways of being hostile, counted.
 #[derive(Clone, Copy, Debug, PartialEq, Eq, Hash)]
@@ -69,10 +69,10 @@ impl Log {
     }
 }
 
-/// The drive.
+/// The drive, over a tape in memory or other storage.
 #[derive(Clone, Debug, PartialEq, Eq)]
-pub struct Drive {
-    tape: Tape,
+pub struct Drive<S = Tape> {
+    tape: S,
     depth: usize,
     hostility: Hostility,
     random: Random,
@@ -84,10 +84,10 @@ pub struct Drive {
     log: Log,
 }
 
-impl Drive {
+impl<S: Storage> Drive<S> {
     /// A drive with a cartridge, a buffer of `depth` frames and a seed.
     #[must_use]
-    pub fn new(tape: Tape, depth: usize, hostility: Hostility, seed: u64) -> Drive {
+    pub fn new(tape: S, depth: usize, hostility: Hostility, seed: u64) -> Drive<S> {
         let mut random = Random::new(seed);
         let mut buffer = VecDeque::new();
         if hostility.stopped {
@@ -109,13 +109,18 @@ impl Drive {
 
     /// The cartridge.
     #[must_use]
-    pub fn tape(&self) -> &Tape {
+    pub fn tape(&self) -> &S {
         &self.tape
+    }
+
+    /// The cartridge, to be altered between commands.
+    pub fn tape_mut(&mut self) -> &mut S {
+        &mut self.tape
     }
 
     /// Gives the cartridge back.
     #[must_use]
-    pub fn eject(self) -> Tape {
+    pub fn eject(self) -> S {
         self.tape
     }
 
@@ -185,7 +190,7 @@ impl Drive {
     }
 
     fn read_next(&mut self, frame: &mut Frame) -> Reply {
-        if let Some(found) = self.tape.read(self.front) {
+        if let Some(found) = self.tape.frame(self.front) {
             frame.copy_from_slice(found.as_slice());
             self.front = self.front.plus(1);
             let recovered = self.random.chance(self.hostility.recovered);
@@ -283,15 +288,16 @@ impl Drive {
                 self.failed = true;
                 if self.random.chance(self.hostility.reads_new) {
                     self.log.note(Deed::FailedAsNew);
-                    self.tape.write(self.front, frame);
+                    self.tape.store(self.front, frame);
                 } else if self.random.chance(self.hostility.reads_nothing) {
                     self.log.note(Deed::FailedAsNothing);
                     self.tape.spoil(self.front);
                 } else {
                     self.log.note(Deed::FailedAsBefore);
                 }
+                self.tape.failed(self.front);
             } else {
-                self.tape.write(self.front, frame);
+                self.tape.store(self.front, frame);
                 self.buffer.pop_front();
                 self.front = self.front.plus(1);
             }

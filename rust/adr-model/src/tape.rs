@@ -10,6 +10,53 @@ use crate::header::fields_of;
 /// A frame shared between tapes and buffers.
 pub type Shared = Arc<Frame>;
 
+/// What a drive keeps its frames on.
+///
+/// Nothing fails here: storage that can fail keeps the failure for its owner
+/// and reads as nothing.
+pub trait Storage {
+    /// What an address reads as.
+    fn frame(&mut self, address: Address) -> Option<Shared>;
+
+    /// Makes an address read as this frame.
+    fn store(&mut self, address: Address, frame: Shared);
+
+    /// Makes an address read as nothing.
+    fn spoil(&mut self, address: Address);
+
+    /// Is told, after what the address now reads as, that a write failed
+    /// there.
+    fn failed(&mut self, _address: Address) {}
+
+    /// Whether nothing reads on `count` addresses from `from` on.
+    fn is_blank(&self, from: Address, count: u32) -> bool;
+
+    /// Whether nothing reads from `from` on.
+    fn is_blank_from(&self, from: Address) -> bool;
+}
+
+impl Storage for Tape {
+    fn frame(&mut self, address: Address) -> Option<Shared> {
+        self.read(address).cloned()
+    }
+
+    fn store(&mut self, address: Address, frame: Shared) {
+        self.write(address, frame);
+    }
+
+    fn spoil(&mut self, address: Address) {
+        Tape::spoil(self, address);
+    }
+
+    fn is_blank(&self, from: Address, count: u32) -> bool {
+        Tape::is_blank(self, from, count)
+    }
+
+    fn is_blank_from(&self, from: Address) -> bool {
+        Tape::is_blank_from(self, from)
+    }
+}
+
 /// A sparse tape: an address without a frame reads as nothing.
 #[derive(Clone, Debug, Default, PartialEq, Eq)]
 pub struct Tape {

@@ -2,13 +2,13 @@
 
 use super::case::Case;
 use super::content::{block, Element};
+use super::layer::{Layer, ReadingCalls};
 use crate::command::{Command, Outcome, ReadAnswer, ReadOutcome};
 use crate::drive::Drive;
 use crate::frame::{data_of, Frame, HeaderFields};
 use crate::geometry::{Address, FRAME_LENGTH, HEADER_GROUPS};
-use crate::header::{check, choose};
+use crate::header::check;
 use crate::random::Random;
-use crate::reading::Reading;
 use crate::reply::{Meaning, Reply, GOOD};
 
 /// The LAST up to which a cartridge without an end is read.
@@ -26,7 +26,7 @@ enum Finish {
 ///
 /// # Errors
 /// What was found wrong.
-pub fn read_back(
+pub fn read_back<L: Layer>(
     case: &Case,
     last: Address,
     drive: &mut Drive,
@@ -39,8 +39,8 @@ pub fn read_back(
     if !fields.eod.is_user_frame(last) {
         return Err("the newest header is not closed".into());
     }
-    choice_agrees(case, drive, &fields)?;
-    let (delivered, finish) = read(case, &header, drive, accepted, seed)?;
+    choice_agrees::<L>(case, drive, &fields)?;
+    let (delivered, finish) = read::<L::Reading>(case, &header, drive, accepted, seed)?;
     if finish != Finish::End || delivered != accepted.len() {
         return Err(format!("{finish:?} after {delivered} deliveries"));
     }
@@ -48,7 +48,11 @@ pub fn read_back(
 }
 
 /// Chooses among the ten copies two by two, as a host does.
-fn choice_agrees(case: &Case, drive: &Drive, newest: &HeaderFields) -> Result<(), String> {
+fn choice_agrees<L: Layer>(
+    case: &Case,
+    drive: &Drive,
+    newest: &HeaderFields,
+) -> Result<(), String> {
     let mut chosen: &[u8] = &[];
     for address in HEADER_GROUPS.iter().flatten() {
         if let Some(copy) = drive.tape().read(*address) {
@@ -58,7 +62,7 @@ fn choice_agrees(case: &Case, drive: &Drive, newest: &HeaderFields) -> Result<()
                 chosen
             };
             // Two invalid ones are refused, and so may two old ones be.
-            chosen = choose(&case.geometry, first, copy.as_slice()).unwrap_or(first);
+            chosen = L::choose(&case.geometry, first, copy.as_slice()).unwrap_or(first);
         }
     }
     let fields = check(&case.geometry, chosen);
@@ -75,7 +79,7 @@ fn choice_agrees(case: &Case, drive: &Drive, newest: &HeaderFields) -> Result<()
 ///
 /// # Errors
 /// What was found wrong.
-pub fn read_unfinished(
+pub fn read_unfinished<L: Layer>(
     case: &Case,
     pass: u16,
     drive: &mut Drive,
@@ -87,38 +91,49 @@ pub fn read_unfinished(
     let Some((header, _)) = newest.filter(|(_, fields)| fields.pass == pass) else {
         return Ok(());
     };
-    match read(case, &header, drive, accepted, seed)? {
+    match read::<L::Reading>(case, &header, drive, accepted, seed)? {
         (_, Finish::Refused(12)) => Ok(()),
         (delivered, Finish::End) if delivered == accepted.len() => Ok(()),
         (delivered, finish) => Err(format!("{finish:?} after {delivered} deliveries")),
     }
 }
 
-fn read(
+fn read<S: ReadingCalls>(
     case: &Case,
     header: &Frame,
     drive: &mut Drive,
     accepted: &[Element],
     seed: u64,
 ) -> Result<(usize, Finish), String> {
-    let (mut session, outcome) = Reading::open(&case.geometry, header.as_slice());
+    let (mut session, outcome) = S::open(&case.geometry, header.as_slice());
     if outcome != Outcome::Accepted {
         return Err(format!("the reading opened with {outcome:?}"));
     }
     session.plant(case.fault);
+    let finished = read_with(&mut session, case, drive, accepted, seed);
+    session.wrong().map_or(finished, Err)
+}
+
+fn read_with<S: ReadingCalls>(
+    session: &mut S,
+    case: &Case,
+    drive: &mut Drive,
+    accepted: &[Element],
+    seed: u64,
+) -> Result<(usize, Finish), String> {
     let mut random = Random::new(seed ^ 0x4EAD);
     let mut frame = Box::new([0; FRAME_LENGTH]);
     let mut delivered = 0;
     // Each address is read once at most, and located before that.
     let mut bound = 2 * u64::from(case.geometry.frames()) + 2;
     loop {
-        refused_calls(&mut session, None, &mut random)?;
+        refused_calls(session, None, &mut random)?;
         let command = match session.fetch() {
             ReadAnswer::Command(command) => command,
             ReadAnswer::Refused(number) => return Ok((delivered, Finish::Refused(number))),
             ReadAnswer::End => return Err("the end without EOD".into()),
         };
-        refused_calls(&mut session, Some(command), &mut random)?;
+        refused_calls(session, Some(command), &mut random)?;
         if matches!(command, Command::Read(address) if address != drive.next()) {
             return Err(format!("{command:?}, but the drive is elsewhere"));
         }
@@ -154,8 +169,8 @@ fn is_delivered(outcome: ReadOutcome, frame: &Frame, element: Option<&Element>) 
 }
 
 /// Now and then makes calls that are refused and must alter nothing.
-fn refused_calls(
-    session: &mut Reading,
+fn refused_calls<S: ReadingCalls>(
+    session: &mut S,
     awaited: Option<Command>,
     random: &mut Random,
 ) -> Result<(), String> {

@@ -4,18 +4,18 @@ use std::collections::{BTreeMap, VecDeque};
 
 use super::case::{Call, Case};
 use super::content::{block, Element};
+use super::layer::RecordingCalls;
 use super::replies::UNTOUCHED;
 use crate::command::{Answer, Command, Outcome};
 use crate::drive::Drive;
 use crate::frame::{Frame, HeaderFields};
 use crate::geometry::{Address, BLOCK_LENGTH, FRAME_LENGTH};
-use crate::recording::Recording;
 use crate::reply::Reply;
 use crate::tape::Shared;
 
 /// The host of a recording.
 #[derive(Clone, Debug)]
-pub struct Recorder {
+pub struct Recorder<R> {
     /// The drive.
     pub drive: Drive,
     /// What was accepted, in order.
@@ -24,7 +24,7 @@ pub struct Recorder {
     pub done: bool,
     /// The refusal from 8 to 12 that ended the session.
     pub refused: Option<u8>,
-    pub(super) session: Recording,
+    pub(super) session: R,
     pub(super) last: Address,
     pub(super) end: Address,
     pub(super) pass: u16,
@@ -61,7 +61,7 @@ pub(super) enum Sent {
     Eod,
 }
 
-impl Recorder {
+impl<R: RecordingCalls> Recorder<R> {
     /// Opens a recording on the newest header.
     ///
     /// # Errors
@@ -71,10 +71,10 @@ impl Recorder {
         last: Address,
         drive: Drive,
         newest: Option<(Shared, HeaderFields)>,
-    ) -> Result<Recorder, String> {
+    ) -> Result<Recorder<R>, String> {
         let header = newest.as_ref().map(|(frame, _)| frame.as_slice());
         let (mut session, outcome) =
-            Recording::open(&case.geometry, case.depth, case.window_blocks, header);
+            R::open(&case.geometry, case.depth, case.window_blocks, header);
         let fields = newest.as_ref().map(|(_, fields)| *fields);
         let (pass, update_count, spent) = fields.map_or((1, 0, false), |old| {
             let spent = old.pass == 65_534 || old.update_count > 4_294_967_293;
@@ -155,6 +155,11 @@ impl Recorder {
     }
 
     fn call(&mut self, call: Call) -> Result<(), String> {
+        let answered = self.answered_rightly(call);
+        self.session.wrong().map_or(answered, Err)
+    }
+
+    fn answered_rightly(&mut self, call: Call) -> Result<(), String> {
         match call {
             Call::Block(number) => self.accept_block(number),
             Call::Filemark => self.accept_filemark(),
@@ -223,12 +228,7 @@ impl Recorder {
 
     /// Looks at an outcome: refused with one of `refusals`, or accepted if
     /// there are none, and nothing altered if refused.
-    pub(super) fn look(
-        &self,
-        outcome: Outcome,
-        refusals: &[u8],
-        before: &Recording,
-    ) -> Result<(), String> {
+    pub(super) fn look(&self, outcome: Outcome, refusals: &[u8], before: &R) -> Result<(), String> {
         let fits = match outcome {
             Outcome::Accepted => refusals.is_empty(),
             Outcome::Refused(number) => refusals.contains(&number),

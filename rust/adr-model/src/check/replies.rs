@@ -2,6 +2,7 @@
 //! told the host.
 
 use super::content::{block, Element};
+use super::layer::RecordingCalls;
 use super::recorder::{Recorder, Sent};
 use crate::command::{Answer, Command, Outcome};
 use crate::drive::listed_for;
@@ -14,7 +15,7 @@ const FETCHES: u32 = 400_000;
 /// What an untouched frame holds.
 pub(super) static UNTOUCHED: Frame = [0xA5; FRAME_LENGTH];
 
-impl Recorder {
+impl<R: RecordingCalls> Recorder<R> {
     /// Fetches, and sends a command to the drive.
     pub(super) fn fetch(&mut self) -> Result<(), String> {
         self.fetches += 1;

@@ -1,7 +1,8 @@
 //! Makes a failing case smaller.
 
 use super::case::{Call, Case};
-use super::run;
+use super::layer::{Layer, Model};
+use super::run_on;
 use crate::geometry::Address;
 use crate::hostility::Hostility;
 
@@ -12,12 +13,18 @@ const RUNS: u32 = 1_500;
 /// ways of being hostile.
 #[must_use]
 pub fn shrink(case: &Case) -> Case {
+    shrink_on::<Model>(case)
+}
+
+/// A smaller case that fails too on this layer.
+#[must_use]
+pub fn shrink_on<L: Layer>(case: &Case) -> Case {
     let mut smallest = case.clone();
     let mut runs = 0;
     loop {
         let smaller = candidates(&smallest).into_iter().find(|candidate| {
             runs += 1;
-            runs <= RUNS && run(candidate).is_err()
+            runs <= RUNS && run_on::<L>(candidate).is_err()
         });
         match smaller {
             Some(smaller) => smallest = smaller,
@@ -31,9 +38,17 @@ pub fn shrink(case: &Case) -> Case {
 /// # Errors
 /// The failure, the seed and the shrunk case.
 pub fn run_and_shrink(case: &Case) -> Result<super::Tally, String> {
-    run(case).map_err(|wrong| {
-        let small = shrink(case);
-        let small_wrong = run(&small).err().unwrap_or_default();
+    run_and_shrink_on::<Model>(case)
+}
+
+/// Runs a case on this layer; a failure is shrunk and told with its seed.
+///
+/// # Errors
+/// The failure, the seed and the shrunk case.
+pub fn run_and_shrink_on<L: Layer>(case: &Case) -> Result<super::Tally, String> {
+    run_on::<L>(case).map_err(|wrong| {
+        let small = shrink_on::<L>(case);
+        let small_wrong = run_on::<L>(&small).err().unwrap_or_default();
         format!(
             "seed {}: {wrong}\nshrunk: {small_wrong}\n{small:?}",
             case.seed

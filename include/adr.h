@@ -1,0 +1,477 @@
+/* The recording and reading layer for OnStream ADR tapes, for C.
+
+   The layer says which command goes to the drive next and with which bytes,
+   and takes in the drive's replies. It talks to no drive itself: cables,
+   packets and sense data stay with the host. It is a static library for
+   x86-64 (System V calling convention), libadr.a, which the command
+   'rt staticlib adr' writes to target/staticlib:
+
+       cc -Iinclude program.c target/staticlib/libadr.a
+
+   SESSIONS. A session is a struct that the host keeps. Each call takes it by
+   value and hands it back, changed, in its result: keep the new one, give it
+   to the next call, and change nothing in it. The library has no state of its
+   own, allocates nothing and keeps no pointer, so sessions are independent of
+   each other and a call may be made from any thread. Numbers that stand for
+   no session are refused with 7 and come back as they were.
+
+   BUFFERS belong to the host and are lent for one call. Each is a pointer and
+   a length in bytes; the pointer is never null, not even where the length is
+   0. Buffers lent to the same call don't overlap, but for the two headers of
+   adr_choose, which are only read and may be the same. The library writes only
+   to the window of adr_record_block and to the frame of adr_record_fetch, and
+   only if the call is not refused.
+
+   REFUSALS. No call has a precondition on its numbers or lengths: what it
+   can't serve it refuses with a number. A refused call writes to no buffer. 1
+   to 7 leave the session as it was, and the call counts for nothing; 8 to 12
+   end it, and every later call is refused with 7.
+
+   A RECORDING, in short; a reading is the same with READ in place of WRITE:
+
+       struct adr_record_outcome o = adr_record_open_blank(g, depth, 8);
+       while (!o.number) {
+           while (have_block && !o.number) {
+               o = adr_record_block(o.session, block, sizeof block, window, sizeof window);
+               if (!o.number)
+                   have_block = next_block(block);
+           }
+           if (o.number && o.number != ADR_WINDOW_FULL)
+               break;
+           if (!have_block && !closed) {
+               o = adr_record_close(o.session);
+               closed = 1;
+           }
+           struct adr_record_fetched f =
+               adr_record_fetch(o.session, window, sizeof window, frame, sizeof frame);
+           o.session = f.session;
+           o.number = f.number;
+           if (f.answer == ADR_DONE)
+               break;
+           if (f.answer == ADR_COMMAND)
+               o = adr_record_reply(f.session, send(f.command, frame));
+       }
+
+   c/record.c is a whole program. */
+#ifndef ADR_H
+#define ADR_H
+
+#include <stddef.h>
+#include <stdint.h>
+
+#ifdef __cplusplus
+extern "C" {
+#endif
+
+/* Lengths in bytes. A frame is 32,768 bytes of data, then 512 of AUX. A window
+   of W blocks is W times a block. */
+#define ADR_BLOCK_LENGTH 32768
+#define ADR_FRAME_LENGTH 33280
+#define ADR_WINDOW_LENGTH(blocks) ((size_t)(blocks) * ADR_BLOCK_LENGTH)
+
+/* Refusals: the member 'number', 0 where nothing is refused. */
+#define ADR_WRONG_LENGTH 1 /* a lent length is wrong */
+#define ADR_NO_CARTRIDGE 2 /* a geometry with fewer than 3,001 frames, or no geometry */
+#define ADR_BAD_HEADER 3   /* a header is not valid, or two of equal count differ */
+#define ADR_BAD_SIZE 4     /* D is not 1 to 255, or W is not 1 to 64 */
+#define ADR_EXHAUSTED 5    /* the cartridge's passes or update counts are used up */
+#define ADR_WINDOW_FULL 6  /* W elements are not yet on tape: fetch and reply first */
+#define ADR_WRONG_PHASE 7  /* the call does not fit here, or no session was given */
+#define ADR_BAD_REPLY 8    /* the drive's reply is unlawful for its command */
+#define ADR_TAPE_FULL 9    /* no room is left on tape */
+#define ADR_MISSING 10     /* an element is missing on tape */
+#define ADR_FOREIGN 11     /* a frame was not written in this format */
+#define ADR_NOT_FOUND 12   /* no header copy could be written; no end was found */
+
+/* Answers of fetches and of a reading's replies: the member 'answer'. */
+#define ADR_REFUSED 0  /* 'number' says why */
+#define ADR_COMMAND 1  /* send 'command' to the drive and bring its reply */
+#define ADR_IDLE 2     /* nothing to do: accept an element, or close */
+#define ADR_DONE 3     /* the recording is whole and closed */
+#define ADR_END 4      /* everything was read */
+#define ADR_NOTHING 5  /* the reply delivers nothing */
+#define ADR_BLOCK 6    /* the first 32,768 bytes of the lent frame are the next block */
+#define ADR_FILEMARK 7 /* the next element is a filemark */
+
+/* Commands, by operation code. */
+#define ADR_READ 0x08          /* read the frame where the drive stands */
+#define ADR_WRITE 0x0A         /* take the frame of adr_record_fetch, all of it */
+#define ADR_LOCATE 0x2B        /* go to the address */
+#define ADR_READ_POSITION 0x34 /* tell how many frames are still buffered */
+
+/* Load points. */
+#define ADR_BEGINNING 0
+#define ADR_CENTRE 1
+
+/* The size of a cartridge, as the drive tells it. */
+struct adr_geometry {
+    uint32_t segtrk; /* frames on a track, at most 65,535 */
+    uint32_t trks;   /* tracks, at most 65,535 */
+    uint32_t load;   /* ADR_BEGINNING or ADR_CENTRE */
+};
+
+/* The drive's reply to a command: its sense triple as the drive gave it, and
+   the numbers that belong to it. Other numbers are not looked at, but for a
+   skip above 255, which is refused with 8.
+
+       00/00/00  good; on READ POSITION with 'buffered'
+       02/04/01, 02/04/08  busy: the same command comes again
+       03/0C/00  write error, with 'position' and 'skip'
+       0D/00/02  the tape ends before the address of this WRITE
+       01/17/01  a frame read after a correction
+       03/11/00  this address can't be read
+       08/00/05  nothing readable on the next 32 addresses
+       00/00/02  nothing readable from here on */
+struct adr_reply {
+    uint32_t buffered; /* frames still buffered */
+    uint32_t position; /* the address of the failed frame */
+    uint32_t skip;     /* the skip that the drive advises, 0 to 255 */
+    uint8_t key;
+    uint8_t asc;
+    uint8_t ascq;
+};
+
+/* An address, or 0 and the refusal. */
+struct adr_place {
+    uint32_t address;
+    uint8_t number;
+};
+
+/* Which of two headers is the newer: 1 the first, 2 the second, 0 refused. */
+struct adr_choice {
+    uint8_t which;
+    uint8_t number;
+};
+
+/* A command. The address is 0 for READ POSITION. READ and WRITE name the
+   address at which the drive stands; it is not part of what the drive is
+   sent. */
+struct adr_command {
+    uint8_t code;
+    uint32_t address;
+};
+
+/* The structs from here to adr_reading are what sessions consist of. Their
+   members are named for debuggers; a host neither sets nor needs them. Flags
+   are 0 or 1. */
+struct adr_exchange {
+    struct adr_command command; /* the command last given */
+    uint8_t awaiting;           /* its reply is awaited */
+    uint8_t again;              /* it comes again */
+};
+
+struct adr_setup {
+    uint8_t depth;   /* D */
+    uint8_t highest; /* W - 1 */
+};
+
+struct adr_header {
+    uint32_t last;   /* LAST */
+    uint32_t eod;    /* the address of EOD, 0 for none */
+    uint32_t update; /* update count */
+    uint16_t pass;   /* write pass */
+};
+
+struct adr_copies {
+    struct adr_header header;
+    uint8_t group;
+    uint8_t copy;
+    uint8_t outstanding;
+    uint8_t confirmed;
+    uint8_t locate; /* a LOCATE is due */
+};
+
+struct adr_trail {
+    uint32_t filemarks; /* filemarks before the element 'first' */
+    uint32_t marker;    /* the address of the latest */
+};
+
+struct adr_elements {
+    uint32_t first;  /* number of the oldest element not known on tape */
+    uint32_t next;   /* the next address */
+    uint32_t limit;  /* one past the highest address that may be written */
+    uint32_t target; /* where a LOCATE that is due goes */
+    struct adr_trail trail;
+    uint16_t pending;     /* accepted, not known on tape */
+    uint16_t outstanding; /* taken by the drive, not known on tape */
+    uint8_t locate;       /* a LOCATE is due */
+    uint8_t eod;          /* the element due is EOD */
+    uint8_t marks[64];    /* at i % 64: element i is a filemark */
+};
+
+/* A recording session. */
+struct adr_recording {
+    struct adr_setup setup;
+    uint8_t stage; /* 0 opening headers, 1 elements, 2 closing headers, 3 done */
+    uint8_t closed;
+    uint8_t ended;
+    struct adr_exchange exchange;
+    struct adr_copies copies;
+    struct adr_elements elements;
+};
+
+struct adr_told {
+    uint32_t last; /* LAST */
+    uint16_t pass; /* the header's write pass */
+};
+
+/* A reading session. */
+struct adr_reading {
+    struct adr_told told;
+    uint32_t next;     /* the next address */
+    uint32_t expected; /* number of the next element */
+    struct adr_exchange exchange;
+    uint8_t locate; /* a LOCATE is due */
+    uint8_t finished;
+    uint8_t ended;
+};
+
+/* What the calls return: the session after the call, and what is answered. */
+struct adr_record_outcome {
+    struct adr_recording session;
+    uint8_t number;
+};
+
+struct adr_record_fetched {
+    struct adr_recording session;
+    struct adr_command command; /* zeros unless the answer is ADR_COMMAND */
+    uint8_t answer;             /* ADR_COMMAND, ADR_IDLE, ADR_DONE or ADR_REFUSED */
+    uint8_t number;
+};
+
+struct adr_read_opened {
+    struct adr_reading session;
+    uint8_t number;
+};
+
+struct adr_read_fetched {
+    struct adr_reading session;
+    struct adr_command command; /* zeros unless the answer is ADR_COMMAND */
+    uint8_t answer;             /* ADR_COMMAND, ADR_END or ADR_REFUSED */
+    uint8_t number;
+};
+
+struct adr_read_taken {
+    struct adr_reading session;
+    uint8_t answer; /* ADR_NOTHING, ADR_BLOCK, ADR_FILEMARK, ADR_END or ADR_REFUSED */
+    uint8_t number;
+};
+
+/* THE CARTRIDGE */
+
+/* The frames on tape; 0 for numbers that are no geometry. */
+uint32_t adr_frames(struct adr_geometry g);
+
+/* LAST, the highest address, frames - 1. Refused with 2. */
+struct adr_place adr_last(struct adr_geometry g);
+
+/* 1 where 'address' is one that elements are recorded at, on a cartridge with
+   this LAST: 10 to 2,989 and 3,000 to LAST. Else 0. */
+uint8_t adr_is_user(uint32_t last, uint32_t address);
+
+/* The address of a header copy, 0 to 4, of a group, 0 or 1. Copies count
+   modulo 5, groups modulo 2. */
+uint32_t adr_header_address(uint32_t group, uint32_t copy);
+
+/* The newer of two header frames, each of ADR_FRAME_LENGTH bytes. An invalid
+   one gives way to a valid one; of equal ones the first is taken. A header
+   given twice is refused with 3 only if it is not valid. Refused with 1, 2,
+   or 3 where neither is valid or both have the same update count and unlike
+   data. */
+struct adr_choice adr_choose(struct adr_geometry g,
+                             const uint8_t *first, size_t first_length,
+                             const uint8_t *second, size_t second_length);
+
+/* A RECORDING */
+
+/* Opens a recording on a cartridge whose newest header is 'header',
+   ADR_FRAME_LENGTH bytes. 'depth' is D, the frames that the drive buffers, 1
+   to 255; 'window' is W, the blocks of the window, 1 to 64. Refused with 1 to
+   5; the session returned is then an ended one. What was on the cartridge is
+   replaced: elements go to address 10 and on. The write pass is the header's
+   + 1; a recording reads back as accepted if no frame on the cartridge bears
+   that pass, so always give the newest header. */
+struct adr_record_outcome adr_record_open(struct adr_geometry g, uint32_t depth, uint32_t window,
+                                          const uint8_t *header, size_t header_length);
+
+/* The same on a cartridge without a valid header, with write pass 1. Refused
+   with 2 or 4. */
+struct adr_record_outcome adr_record_open_blank(struct adr_geometry g, uint32_t depth,
+                                                uint32_t window);
+
+/* Accepts a block, ADR_BLOCK_LENGTH bytes, which is copied to its place in the
+   window, ADR_WINDOW_LENGTH(W) bytes. The window is lent back to every later
+   adr_record_block and adr_record_fetch of the session, as it was left. May
+   also be called while a reply is awaited. Refused with 7 (after close), 1 or
+   6. */
+struct adr_record_outcome adr_record_block(struct adr_recording s,
+                                           const uint8_t *block, size_t block_length,
+                                           uint8_t *window, size_t window_length);
+
+/* Accepts a filemark. Refused with 7 or 6. */
+struct adr_record_outcome adr_record_filemark(struct adr_recording s);
+
+/* Asks for the recording to be ended. It is whole when adr_record_fetch
+   answers ADR_DONE, and not before. Refused with 7. */
+struct adr_record_outcome adr_record_close(struct adr_recording s);
+
+/* The next command. A WRITE fills the lent frame, ADR_FRAME_LENGTH bytes; no
+   other answer writes to it. After ADR_COMMAND a reply is awaited; after
+   ADR_IDLE and ADR_DONE none is. Refused with 7 (a reply is awaited), 1 or 9. */
+struct adr_record_fetched adr_record_fetch(struct adr_recording s,
+                                           const uint8_t *window, size_t window_length,
+                                           uint8_t *frame, size_t frame_length);
+
+/* Brings the drive's reply to the command fetched. Refused with 7 (none is
+   awaited), 8, 9 or 12. */
+struct adr_record_outcome adr_record_reply(struct adr_recording s, struct adr_reply reply);
+
+/* A READING */
+
+/* Opens a reading of a cartridge whose newest header is 'header',
+   ADR_FRAME_LENGTH bytes. Refused with 1 to 3; the session returned is then an
+   ended one. */
+struct adr_read_opened adr_read_open(struct adr_geometry g,
+                                     const uint8_t *header, size_t header_length);
+
+/* The next command, or ADR_END once everything was read. Refused with 7 (a
+   reply is awaited) or 12. */
+struct adr_read_fetched adr_read_fetch(struct adr_reading s);
+
+/* Brings the drive's reply to the command fetched, and the frame read,
+   ADR_FRAME_LENGTH bytes. A reply that brings no frame is lent a buffer of
+   that length all the same, whose bytes are not looked at. Refused with 7
+   (none is awaited), 1, 8, 10, 11 or 12. */
+struct adr_read_taken adr_read_reply(struct adr_reading s, struct adr_reply reply,
+                                     const uint8_t *frame, size_t frame_length);
+
+/* The layout that the library was compiled for. */
+#ifdef __cplusplus
+#define ADR_ASSERT(truth, text) static_assert(truth, text)
+#else
+#define ADR_ASSERT(truth, text) _Static_assert(truth, text)
+#endif
+#define ADR_SIZE(type, size) ADR_ASSERT(sizeof(struct type) == (size), #type)
+#define ADR_OFFSET(type, member, offset) \
+    ADR_ASSERT(offsetof(struct type, member) == (offset), #type "." #member)
+
+ADR_SIZE(adr_geometry, 12);
+ADR_OFFSET(adr_geometry, segtrk, 0);
+ADR_OFFSET(adr_geometry, trks, 4);
+ADR_OFFSET(adr_geometry, load, 8);
+
+ADR_SIZE(adr_reply, 16);
+ADR_OFFSET(adr_reply, buffered, 0);
+ADR_OFFSET(adr_reply, position, 4);
+ADR_OFFSET(adr_reply, skip, 8);
+ADR_OFFSET(adr_reply, key, 12);
+ADR_OFFSET(adr_reply, asc, 13);
+ADR_OFFSET(adr_reply, ascq, 14);
+
+ADR_SIZE(adr_place, 8);
+ADR_OFFSET(adr_place, address, 0);
+ADR_OFFSET(adr_place, number, 4);
+
+ADR_SIZE(adr_choice, 2);
+ADR_OFFSET(adr_choice, which, 0);
+ADR_OFFSET(adr_choice, number, 1);
+
+ADR_SIZE(adr_command, 8);
+ADR_OFFSET(adr_command, code, 0);
+ADR_OFFSET(adr_command, address, 4);
+
+ADR_SIZE(adr_exchange, 12);
+ADR_OFFSET(adr_exchange, command, 0);
+ADR_OFFSET(adr_exchange, awaiting, 8);
+ADR_OFFSET(adr_exchange, again, 9);
+
+ADR_SIZE(adr_setup, 2);
+ADR_OFFSET(adr_setup, depth, 0);
+ADR_OFFSET(adr_setup, highest, 1);
+
+ADR_SIZE(adr_header, 16);
+ADR_OFFSET(adr_header, last, 0);
+ADR_OFFSET(adr_header, eod, 4);
+ADR_OFFSET(adr_header, update, 8);
+ADR_OFFSET(adr_header, pass, 12);
+
+ADR_SIZE(adr_copies, 24);
+ADR_OFFSET(adr_copies, header, 0);
+ADR_OFFSET(adr_copies, group, 16);
+ADR_OFFSET(adr_copies, copy, 17);
+ADR_OFFSET(adr_copies, outstanding, 18);
+ADR_OFFSET(adr_copies, confirmed, 19);
+ADR_OFFSET(adr_copies, locate, 20);
+
+ADR_SIZE(adr_trail, 8);
+ADR_OFFSET(adr_trail, filemarks, 0);
+ADR_OFFSET(adr_trail, marker, 4);
+
+ADR_SIZE(adr_elements, 96);
+ADR_OFFSET(adr_elements, first, 0);
+ADR_OFFSET(adr_elements, next, 4);
+ADR_OFFSET(adr_elements, limit, 8);
+ADR_OFFSET(adr_elements, target, 12);
+ADR_OFFSET(adr_elements, trail, 16);
+ADR_OFFSET(adr_elements, pending, 24);
+ADR_OFFSET(adr_elements, outstanding, 26);
+ADR_OFFSET(adr_elements, locate, 28);
+ADR_OFFSET(adr_elements, eod, 29);
+ADR_OFFSET(adr_elements, marks, 30);
+
+ADR_SIZE(adr_recording, 140);
+ADR_OFFSET(adr_recording, setup, 0);
+ADR_OFFSET(adr_recording, stage, 2);
+ADR_OFFSET(adr_recording, closed, 3);
+ADR_OFFSET(adr_recording, ended, 4);
+ADR_OFFSET(adr_recording, exchange, 8);
+ADR_OFFSET(adr_recording, copies, 20);
+ADR_OFFSET(adr_recording, elements, 44);
+
+ADR_SIZE(adr_told, 8);
+ADR_OFFSET(adr_told, last, 0);
+ADR_OFFSET(adr_told, pass, 4);
+
+ADR_SIZE(adr_reading, 32);
+ADR_OFFSET(adr_reading, told, 0);
+ADR_OFFSET(adr_reading, next, 8);
+ADR_OFFSET(adr_reading, expected, 12);
+ADR_OFFSET(adr_reading, exchange, 16);
+ADR_OFFSET(adr_reading, locate, 28);
+ADR_OFFSET(adr_reading, finished, 29);
+ADR_OFFSET(adr_reading, ended, 30);
+
+ADR_SIZE(adr_record_outcome, 144);
+ADR_OFFSET(adr_record_outcome, session, 0);
+ADR_OFFSET(adr_record_outcome, number, 140);
+
+ADR_SIZE(adr_record_fetched, 152);
+ADR_OFFSET(adr_record_fetched, session, 0);
+ADR_OFFSET(adr_record_fetched, command, 140);
+ADR_OFFSET(adr_record_fetched, answer, 148);
+ADR_OFFSET(adr_record_fetched, number, 149);
+
+ADR_SIZE(adr_read_opened, 36);
+ADR_OFFSET(adr_read_opened, session, 0);
+ADR_OFFSET(adr_read_opened, number, 32);
+
+ADR_SIZE(adr_read_fetched, 44);
+ADR_OFFSET(adr_read_fetched, session, 0);
+ADR_OFFSET(adr_read_fetched, command, 32);
+ADR_OFFSET(adr_read_fetched, answer, 40);
+ADR_OFFSET(adr_read_fetched, number, 41);
+
+ADR_SIZE(adr_read_taken, 36);
+ADR_OFFSET(adr_read_taken, session, 0);
+ADR_OFFSET(adr_read_taken, answer, 32);
+ADR_OFFSET(adr_read_taken, number, 33);
+
+#undef ADR_OFFSET
+#undef ADR_SIZE
+#undef ADR_ASSERT
+
+#ifdef __cplusplus
+}
+#endif
+
+#endif

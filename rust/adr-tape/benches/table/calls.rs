@@ -1,0 +1,272 @@
+//! Single calls. A session is plain numbers, so each turn sets the number of
+//! its element and needs no recording that leads there.
+
+use std::hint::black_box;
+
+use adr_tape::{ffi, BLOCK_LENGTH, FRAME_LENGTH};
+
+use crate::measure::{median, row, time, Row};
+
+/// Calls that are timed at once; a window of 64 blocks is gone through.
+const COUNT: u32 = 128;
+const LARGEST: ffi::Geometry = ffi::Geometry {
+    segtrk: 65_535,
+    trks: 65_535,
+    load: 0,
+};
+
+/// A recording among its elements, opened with a window of so many blocks.
+fn recording(window: u32) -> ffi::Recording {
+    let buffer = vec![0; window as usize * BLOCK_LENGTH];
+    let mut frame = vec![0; FRAME_LENGTH];
+    let mut session = ffi::record_open_blank(LARGEST, 255, window).session;
+    loop {
+        let fetched = ffi::record_fetch(session, &buffer, &mut frame);
+        if fetched.answer != ffi::COMMAND {
+            return fetched.session;
+        }
+        session = ffi::record_reply(fetched.session, ffi::Reply::default()).session;
+    }
+}
+
+/// The session at this element, at the beginning of tape or near its end.
+fn at(mut session: ffi::Recording, number: u32, full: bool) -> ffi::Recording {
+    let base = if full { 4_000_000_000 } else { 0 };
+    session.elements.first = base + number;
+    session.elements.next = base + 3_000 + number;
+    session.elements.trail.filemarks = base / 2;
+    session
+}
+
+/// A frame as the session writes it for element `number`.
+fn written(session: ffi::Recording, number: u32, full: bool) -> Vec<u8> {
+    let mut window = vec![7; BLOCK_LENGTH];
+    let mut frame = vec![0; FRAME_LENGTH];
+    let accepted = ffi::record_block(at(session, number, full), &[7; BLOCK_LENGTH], &mut window);
+    let fetched = ffi::record_fetch(accepted.session, &window, &mut frame);
+    assert_eq!(fetched.command.code, ffi::WRITE);
+    frame
+}
+
+/// A reading that awaits the reply to a READ and expects element `expected`.
+fn reading(session: &ffi::Recording, expected: u32) -> ffi::Reading {
+    ffi::Reading {
+        told: ffi::Told {
+            last: session.copies.header.last,
+            pass: session.copies.header.pass,
+        },
+        next: 3_000 + expected,
+        expected,
+        exchange: ffi::Exchange {
+            command: ffi::Command {
+                code: ffi::READ,
+                address: 3_000 + expected,
+            },
+            awaiting: 1,
+            again: 0,
+        },
+        ..ffi::Reading::default()
+    }
+}
+
+fn block_of(window: &mut [u8], number: u32) -> &mut [u8] {
+    let blocks = window.len() / BLOCK_LENGTH;
+    let start = number as usize % blocks * BLOCK_LENGTH;
+    &mut window[start..start + BLOCK_LENGTH]
+}
+
+/// The buffers of a call, and of the copy it is compared with.
+struct Buffers {
+    block: Vec<u8>,
+    window: Vec<u8>,
+    frame: Vec<u8>,
+}
+
+fn buffers(blocks: u32) -> Buffers {
+    Buffers {
+        block: vec![5; BLOCK_LENGTH],
+        window: vec![3; blocks as usize * BLOCK_LENGTH],
+        frame: vec![1; FRAME_LENGTH],
+    }
+}
+
+fn accepting(name: &'static str, rounds: u32, blocks: u32) -> Row {
+    let session = recording(blocks);
+    row(
+        name,
+        rounds,
+        COUNT,
+        || buffers(blocks),
+        |lent, number| {
+            let session = at(session, number, false);
+            let accepted = ffi::record_block(session, black_box(&lent.block), &mut lent.window);
+            assert_eq!(black_box(accepted).number, 0);
+        },
+        |lent, number| {
+            block_of(&mut lent.window, number).copy_from_slice(black_box(&lent.block));
+            black_box(&mut lent.window);
+        },
+    )
+}
+
+fn fetching(name: &'static str, rounds: u32, blocks: u32) -> Row {
+    let mut session = recording(blocks);
+    session.elements.pending = 1;
+    row(
+        name,
+        rounds,
+        COUNT,
+        || buffers(blocks),
+        |lent, number| {
+            let session = at(session, number, false);
+            let fetched = ffi::record_fetch(session, black_box(&lent.window), &mut lent.frame);
+            assert_eq!(black_box(fetched).command.code, ffi::WRITE);
+        },
+        |lent, number| {
+            let block = block_of(&mut lent.window, number);
+            lent.frame[..BLOCK_LENGTH].copy_from_slice(black_box(block));
+            black_box(&mut lent.frame);
+        },
+    )
+}
+
+fn replying(name: &'static str, rounds: u32, expected: u32, answer: u8) -> Row {
+    let session = recording(1);
+    let reading = reading(&session, expected);
+    row(
+        name,
+        rounds,
+        COUNT,
+        || Buffers {
+            frame: written(session, 100, false),
+            ..buffers(1)
+        },
+        |lent, _| {
+            let reply = ffi::Reply::default();
+            let taken = ffi::read_reply(black_box(reading), reply, &lent.frame);
+            assert_eq!(black_box(taken).answer, answer);
+        },
+        |lent, _| {
+            lent.block
+                .copy_from_slice(black_box(&lent.frame[..BLOCK_LENGTH]));
+            black_box(&mut lent.block);
+        },
+    )
+}
+
+/// Calls that move a block's bytes or judge them.
+pub fn with_data(rounds: u32) -> Vec<Row> {
+    vec![
+        accepting("accept a block, W = 4", rounds, 4),
+        accepting("accept a block, W = 64", rounds, 64),
+        fetching("fetch a WRITE, W = 4", rounds, 4),
+        fetching("fetch a WRITE, W = 64", rounds, 64),
+        replying("reply to a READ, data", rounds, 100, ffi::BLOCK),
+        replying("reply to a READ, stale frame", rounds, 101, ffi::NOTHING),
+    ]
+}
+
+type Call<'a> = Box<dyn FnMut(u32, bool) + 'a>;
+
+/// Each call at an empty and at a full cartridge.
+fn both(rounds: u32, calls: Vec<(&'static str, Call)>) -> Vec<(&'static str, f64, f64)> {
+    let measured = calls.into_iter().map(|(name, mut call)| {
+        let (mut empty, mut full) = (Vec::new(), Vec::new());
+        time(COUNT, |number| call(number, false));
+        for _ in 0..rounds {
+            empty.push(time(COUNT, |number| call(number, false)));
+            full.push(time(COUNT, |number| call(number, true)));
+        }
+        (name, median(empty), median(full))
+    });
+    measured.collect()
+}
+
+/// Calls that move no data.
+pub fn without_data(rounds: u32) -> Vec<(&'static str, f64, f64)> {
+    let session = recording(1);
+    let window = vec![0; BLOCK_LENGTH];
+    let mut frame = vec![0; FRAME_LENGTH];
+    let mut sent = session;
+    sent.elements.pending = 1;
+    sent.exchange.command.code = ffi::WRITE;
+    sent.exchange.awaiting = 1;
+    let mut located = reading(&session, 0);
+    located.exchange.awaiting = 0;
+    let calls: Vec<(&'static str, Call)> = vec![
+        (
+            "accept a filemark",
+            Box::new(|number, full| {
+                let accepted = ffi::record_filemark(at(session, number, full));
+                assert_eq!(black_box(accepted).number, 0);
+            }),
+        ),
+        (
+            "fetch, idle",
+            Box::new(|number, full| {
+                let session = at(session, number, full);
+                let fetched = ffi::record_fetch(session, &window, &mut frame);
+                assert_eq!(black_box(fetched).answer, ffi::IDLE);
+            }),
+        ),
+        (
+            "reply to a WRITE",
+            Box::new(|number, full| {
+                let mut session = at(sent, number, full);
+                session.exchange.command.address = session.elements.next;
+                let replied = ffi::record_reply(session, ffi::Reply::default());
+                assert_eq!(black_box(replied).number, 0);
+            }),
+        ),
+        (
+            "fetch of a reading",
+            Box::new(|number, full| {
+                let mut session = located;
+                session.next = if full { 4_000_000_000 + number } else { 3_000 };
+                let fetched = ffi::read_fetch(session);
+                assert_eq!(black_box(fetched).answer, ffi::COMMAND);
+            }),
+        ),
+    ];
+    both(rounds, calls)
+}
+
+/// Calls with data at an empty and at a full cartridge.
+pub fn empty_and_full(rounds: u32) -> Vec<(&'static str, f64, f64)> {
+    let session = recording(4);
+    let block = vec![5; BLOCK_LENGTH];
+    let mut window = vec![0; 4 * BLOCK_LENGTH];
+    let lent = window.clone();
+    let mut frame = vec![0; FRAME_LENGTH];
+    let mut due = session;
+    due.elements.pending = 1;
+    let single = recording(1);
+    let data = [false, true].map(|full| written(single, 100, full));
+    let calls: Vec<(&'static str, Call)> = vec![
+        (
+            "accept a block, W = 4",
+            Box::new(|number, full| {
+                let accepted = ffi::record_block(at(session, number, full), &block, &mut window);
+                assert_eq!(black_box(accepted).number, 0);
+            }),
+        ),
+        (
+            "fetch a WRITE, W = 4",
+            Box::new(|number, full| {
+                let fetched = ffi::record_fetch(at(due, number, full), &lent, &mut frame);
+                assert_eq!(black_box(fetched).command.code, ffi::WRITE);
+            }),
+        ),
+        (
+            "reply to a READ, data",
+            Box::new(|_, full| {
+                let expected = if full { 4_000_000_100 } else { 100 };
+                let session = reading(&single, expected);
+                let frame = &data[usize::from(full)];
+                let taken = ffi::read_reply(session, ffi::Reply::default(), frame);
+                assert_eq!(black_box(taken).answer, ffi::BLOCK);
+            }),
+        ),
+    ];
+    both(rounds, calls)
+}

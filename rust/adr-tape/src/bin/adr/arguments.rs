@@ -1,0 +1,187 @@
+//! The words of a command line.
+
+use std::collections::{BTreeMap, BTreeSet};
+use std::ffi::{OsStr, OsString};
+use std::path::Path;
+use std::str::FromStr;
+
+use crate::failure::Failure;
+
+/// The options that a command knows.
+#[derive(Clone, Copy, Debug)]
+pub struct Options {
+    /// Those with a value.
+    pub valued: &'static [&'static str],
+    /// Those without.
+    pub plain: &'static [&'static str],
+}
+
+/// A command's operands and options.
+#[derive(Debug, Default)]
+pub struct Arguments {
+    operands: Vec<OsString>,
+    values: BTreeMap<&'static str, OsString>,
+    given: BTreeSet<&'static str>,
+}
+
+impl Arguments {
+    /// Sorts the words of a command line; `--` ends the options, and `-`
+    /// alone is an operand.
+    pub fn parse(
+        words: impl IntoIterator<Item = OsString>,
+        options: Options,
+    ) -> Result<Arguments, Failure> {
+        let mut words = words.into_iter();
+        let mut arguments = Arguments::default();
+        while let Some(word) = words.next() {
+            let Some(text) = word.to_str().filter(|text| is_option(text)) else {
+                arguments.operands.push(word);
+                continue;
+            };
+            if text == "--" {
+                arguments.operands.extend(words);
+                break;
+            }
+            let (name, value) = match text.split_once('=') {
+                Some((name, value)) => (name, Some(OsString::from(value))),
+                None => (text, None),
+            };
+            arguments.take(name, value, &mut words, options)?;
+        }
+        Ok(arguments)
+    }
+
+    fn take(
+        &mut self,
+        name: &str,
+        value: Option<OsString>,
+        words: &mut impl Iterator<Item = OsString>,
+        options: Options,
+    ) -> Result<(), Failure> {
+        let named = |known: &'static [&'static str]| known.iter().find(|known| **known == name);
+        if let Some(known) = named(options.plain) {
+            if value.is_some() {
+                return Err(Failure::usage(format!("option {name} takes no value")));
+            }
+            self.given.insert(known);
+        } else if let Some(known) = named(options.valued) {
+            let value = value.or_else(|| words.next());
+            let value =
+                value.ok_or_else(|| Failure::usage(format!("option {name} needs a value")))?;
+            self.values.insert(known, value);
+        } else {
+            return Err(Failure::usage(format!("unknown option {name}")));
+        }
+        Ok(())
+    }
+
+    /// Whether an option without a value was given.
+    pub fn has(&self, name: &str) -> bool {
+        self.given.contains(name)
+    }
+
+    /// The value of an option, if it was given.
+    pub fn value(&self, name: &str) -> Option<&OsStr> {
+        self.values.get(name).map(OsString::as_os_str)
+    }
+
+    /// The number that an option gives, if it was given.
+    pub fn number<N: FromStr>(&self, name: &str) -> Result<Option<N>, Failure> {
+        let Some(value) = self.value(name) else {
+            return Ok(None);
+        };
+        let number = value.to_str().and_then(|text| text.parse().ok());
+        number.map(Some).ok_or_else(|| {
+            let shown = value.to_string_lossy();
+            Failure::usage(format!("{name}: '{shown}' is not a number that fits"))
+        })
+    }
+
+    /// The image and the operands behind it.
+    pub fn image(&self) -> Result<(&Path, &[OsString]), Failure> {
+        match self.operands.split_first() {
+            Some((image, _)) if image == "-" => Err(Failure::usage(
+                "an image is a file: standard input or output cannot be one",
+            )),
+            Some((image, rest)) => Ok((Path::new(image), rest)),
+            None => Err(Failure::usage("name the cartridge image")),
+        }
+    }
+
+    /// The image, where nothing may follow.
+    pub fn only_image(&self) -> Result<&Path, Failure> {
+        let (image, rest) = self.image()?;
+        nothing_more(rest)?;
+        Ok(image)
+    }
+
+    /// Refuses operands where there may be none.
+    pub fn no_operands(&self) -> Result<(), Failure> {
+        nothing_more(&self.operands)
+    }
+}
+
+/// Refuses operands behind those that are known.
+pub fn nothing_more(rest: &[OsString]) -> Result<(), Failure> {
+    match rest.first() {
+        None => Ok(()),
+        Some(word) => {
+            let shown = word.to_string_lossy();
+            Err(Failure::usage(format!("unexpected operand '{shown}'")))
+        }
+    }
+}
+
+fn is_option(text: &str) -> bool {
+    text.len() > 1 && text.starts_with('-')
+}
+
+#[cfg(test)]
+mod tests {
+    use super::*;
+
+    const OPTIONS: Options = Options {
+        valued: &["--faults", "-o"],
+        plain: &["--overwrite"],
+    };
+
+    fn parse(words: &[&str]) -> Result<Arguments, Failure> {
+        Arguments::parse(words.iter().map(OsString::from), OPTIONS)
+    }
+
+    #[test]
+    fn operands_and_options() {
+        let words = [
+            "a.adr",
+            "--faults",
+            "7",
+            "-",
+            "--overwrite",
+            "-o=x",
+            "--",
+            "--x",
+        ];
+        let arguments = parse(&words).expect("known options");
+        let (image, rest) = arguments.image().expect("an image");
+        assert_eq!(image, Path::new("a.adr"));
+        assert_eq!(rest, ["-", "--x"]);
+        assert_eq!(arguments.number::<u64>("--faults").ok(), Some(Some(7)));
+        assert_eq!(arguments.value("-o"), Some(OsStr::new("x")));
+        assert!(arguments.has("--overwrite"));
+    }
+
+    #[test]
+    fn wrong_words() {
+        for words in [
+            &["--unknown"][..],
+            &["-x"],
+            &["--faults"],
+            &["--overwrite=1"],
+        ] {
+            assert!(matches!(parse(words), Err(Failure::Usage(_))), "{words:?}");
+        }
+        let arguments = parse(&["--faults=x"]).expect("a value");
+        assert!(arguments.number::<u64>("--faults").is_err());
+        assert!(arguments.image().is_err());
+    }
+}

@@ -1,0 +1,283 @@
+//! An image in the simulated drive.
+
+use std::ops::ControlFlow;
+use std::path::Path;
+
+use adr_model::drive::Drive as SimulatedDrive;
+use adr_model::frame::Frame;
+use adr_tape::{
+    newest_header, read_all, record_all, Address, Element, Geometry, HeaderError, ReadError,
+    RecordError, Refusal, Reply, Sense, Summary, FRAME_LENGTH,
+};
+
+use crate::failure::Failure;
+use crate::faults::hostility;
+use crate::image::{Access, Image};
+use crate::job::reading::{Jobs, Taker};
+use crate::progress::Progress;
+
+/// Where an EOD address stands in a header.
+const EOD_ADDRESS: std::ops::Range<usize> = 32..36;
+/// Bytes of a block.
+const BLOCK: u64 = 32_768;
+
+/// A write error that the drive reported.
+#[derive(Clone, Copy, Debug, PartialEq, Eq)]
+pub struct WriteError {
+    /// The address that failed.
+    pub position: Address,
+    /// How far the drive advised to skip.
+    pub skip: u32,
+}
+
+impl WriteError {
+    /// Where an element that failed is sent again.
+    pub fn target(self) -> Address {
+        let position = adr_model::Address(self.position.0);
+        Address(position.plus(self.skip.max(1)).out_of_gap().0)
+    }
+}
+
+/// A cartridge in the drive.
+pub struct Cartridge {
+    drive: SimulatedDrive<Image>,
+    geometry: Geometry,
+    write_errors: Vec<WriteError>,
+}
+
+impl Cartridge {
+    /// Loads an image into a drive that buffers `depth` frames, with faults
+    /// if there is a seed.
+    pub fn load(
+        path: &Path,
+        access: Access,
+        depth: u32,
+        seed: Option<u64>,
+    ) -> Result<Cartridge, Failure> {
+        let image = Image::open(path, access)?;
+        let geometry = image.geometry();
+        let depth = usize::try_from(depth).unwrap_or(usize::MAX);
+        Ok(Cartridge {
+            drive: SimulatedDrive::new(image, depth, hostility(seed), seed.unwrap_or(0)),
+            geometry,
+            write_errors: Vec::new(),
+        })
+    }
+
+    /// The image.
+    pub fn image(&self) -> &Image {
+        self.drive.tape()
+    }
+
+    /// The image, to be read from beside the drive.
+    pub fn image_mut(&mut self) -> &mut Image {
+        self.drive.tape_mut()
+    }
+
+    /// The write errors reported so far.
+    pub fn write_errors(&self) -> &[WriteError] {
+        &self.write_errors
+    }
+
+    /// The newest header, none on an empty cartridge.
+    pub fn header(&mut self) -> Result<Option<Vec<u8>>, Failure> {
+        let geometry = self.geometry;
+        let header = newest_header(self, geometry).map_err(|error| match error {
+            HeaderError::Refused(refusal) => self.refused("no header was found", refusal),
+            HeaderError::Drive(failure) => failure,
+        })?;
+        if header.is_none() {
+            self.image().require_undamaged()?;
+        }
+        Ok(header)
+    }
+
+    /// The header that a recording opens on. Only on the newest of all, or on
+    /// none where nothing was recorded, is a recording's write pass a new
+    /// one; so every copy must be whole.
+    fn header_for_recording(&mut self) -> Result<Option<Vec<u8>>, Failure> {
+        let header = self.header()?;
+        self.image().require_undamaged()?;
+        if header.is_none() && self.holds_frames() {
+            return Err(Failure::new(format!(
+                "{}: the cartridge holds frames but no header; \
+                 nothing was changed: 'adr format --overwrite' makes an empty one",
+                self.image().path().display()
+            )));
+        }
+        Ok(header)
+    }
+
+    /// Whether anything was ever recorded.
+    pub fn holds_frames(&self) -> bool {
+        self.image().known().any(|(_, reads, _)| reads)
+    }
+
+    /// Records elements and puts the recording in force.
+    pub fn record(
+        &mut self,
+        (depth, window): (u32, u32),
+        elements: impl Iterator<Item = Result<Element<'static>, Failure>>,
+        mut progress: impl FnMut(&Summary),
+    ) -> Result<Summary, Failure> {
+        let header = self.header_for_recording()?;
+        let header = header.as_deref();
+        let geometry = self.geometry;
+        let recorded = record_all(
+            self,
+            geometry,
+            depth,
+            window,
+            header,
+            elements,
+            &mut progress,
+        );
+        let recorded = recorded.map_err(|error| match error {
+            RecordError::Refused(Refusal::Capacity) => Failure::usage(Refusal::Capacity),
+            RecordError::Refused(refusal) => self.refused("recording stopped", refusal),
+            RecordError::Drive(failure) | RecordError::Source(failure) => failure,
+        });
+        let summary = recorded.map_err(Failure::unrecorded)?;
+        self.image_mut().commit()?;
+        Ok(summary)
+    }
+
+    /// Reads elements to the end of data, or until `sink` breaks. An empty
+    /// cartridge has none.
+    pub fn read(
+        &mut self,
+        sink: impl FnMut(Element<'_>) -> Result<ControlFlow<()>, Failure>,
+        progress: &mut Progress,
+    ) -> Result<Summary, Failure> {
+        let Some(header) = self.header()? else {
+            return Ok(Summary::default());
+        };
+        let end = header
+            .get(EOD_ADDRESS)
+            .and_then(|part| part.try_into().ok());
+        let end = u64::from(u32::from_be_bytes(end.unwrap_or([0; 4])));
+        let geometry = self.geometry;
+        let read = read_all(self, geometry, &header, sink, |summary| {
+            let bytes = summary.blocks.saturating_mul(BLOCK);
+            progress.update(bytes, u64::from(summary.address.0), Some(end));
+        });
+        read.map_err(|error| match error {
+            ReadError::Refused(refusal) => self.refused("reading stopped", refusal),
+            ReadError::Drive(failure) | ReadError::Sink(failure) => failure,
+        })
+    }
+
+    /// Reads jobs; see [`Cartridge::read`].
+    pub fn read_jobs<'t>(
+        &mut self,
+        taker: &'t mut Taker<'t>,
+        progress: &mut Progress,
+    ) -> Result<u64, Failure> {
+        let mut jobs = Jobs::new(taker);
+        let mut stopped = false;
+        let read = self.read(
+            |element| {
+                let flow = jobs.take(&element)?;
+                stopped = flow.is_break();
+                Ok(flow)
+            },
+            progress,
+        );
+        match read {
+            Err(Failure::Failed(message)) if jobs.begun() > 0 => {
+                let job = jobs.begun();
+                let place = if jobs.is_within() { "in" } else { "behind" };
+                Err(Failure::Failed(format!("{message}; {place} job {job}")))
+            }
+            Err(failure) => Err(failure),
+            Ok(_) if jobs.is_within() && !stopped => Err(Failure::new(format!(
+                "{}: job {} has no filemark at its end",
+                self.image().path().display(),
+                jobs.begun()
+            ))),
+            Ok(_) => Ok(jobs.begun()),
+        }
+    }
+
+    fn refused(&self, what: &str, refusal: Refusal) -> Failure {
+        let path = self.image().path().display();
+        Failure::new(format!("{path}: {what}: {refusal}{}", self.damage()))
+    }
+
+    /// What was found damaged, for the end of a message.
+    fn damage(&self) -> String {
+        match self.image().damaged().next() {
+            None => String::new(),
+            Some(address) => format!("; the image is damaged at address {address}"),
+        }
+    }
+
+    /// The reply, unless the image failed meanwhile.
+    fn checked(&mut self, reply: adr_model::Reply) -> Result<Reply, Failure> {
+        match self.image_mut().take_error() {
+            Some(failure) => Err(failure),
+            None => Ok(of_model(reply)),
+        }
+    }
+
+    fn send(&mut self, command: adr_model::Command, frame: &Frame) -> Result<Reply, Failure> {
+        let reply = self.drive.record(command, frame);
+        self.checked(reply)
+    }
+}
+
+static NO_FRAME: Frame = [0; FRAME_LENGTH];
+
+impl adr_tape::Drive for Cartridge {
+    type Error = Failure;
+
+    fn locate(&mut self, address: Address) -> Result<Reply, Failure> {
+        let command = adr_model::Command::Locate(adr_model::Address(address.0));
+        self.send(command, &NO_FRAME)
+    }
+
+    fn write(&mut self, address: Address, frame: &[u8]) -> Result<Reply, Failure> {
+        let command = adr_model::Command::Write(adr_model::Address(address.0));
+        let frame = <&Frame>::try_from(frame).unwrap_or(&NO_FRAME);
+        let reply = self.send(command, frame)?;
+        self.note(reply);
+        Ok(reply)
+    }
+
+    fn read(&mut self, address: Address, frame: &mut [u8]) -> Result<Reply, Failure> {
+        let command = adr_model::Command::Read(adr_model::Address(address.0));
+        let Ok(frame) = <&mut Frame>::try_from(frame) else {
+            return Err(Failure::new("a frame of the wrong length was lent"));
+        };
+        let reply = self.drive.read(command, frame);
+        self.checked(reply)
+    }
+
+    fn read_position(&mut self) -> Result<Reply, Failure> {
+        let reply = self.send(adr_model::Command::ReadPosition, &NO_FRAME)?;
+        self.note(reply);
+        Ok(reply)
+    }
+}
+
+impl Cartridge {
+    fn note(&mut self, reply: Reply) {
+        if reply.sense == Sense::WRITE_ERROR {
+            self.write_errors.push(WriteError {
+                position: reply.position,
+                skip: reply.skip,
+            });
+        }
+    }
+}
+
+/// The reply, without the numbers that mean nothing in it: the simulated
+/// drive brings any, and the layer takes no skip above 255.
+fn of_model(reply: adr_model::Reply) -> Reply {
+    let sense = Sense::new(reply.sense.key, reply.sense.asc, reply.sense.ascq);
+    match sense {
+        Sense::WRITE_ERROR => Reply::write_error(Address(reply.position.0), reply.skip),
+        Sense::GOOD => Reply::buffered(reply.buffered),
+        sense => Reply::sense(sense),
+    }
+}

@@ -1,0 +1,137 @@
+//! `adr check`: reads everything and verifies it.
+
+use std::ops::ControlFlow;
+
+use adr_model::tape::Storage;
+
+use crate::arguments::{Arguments, Options};
+use crate::cartridge::Cartridge;
+use crate::failure::Failure;
+use crate::image::Access;
+use crate::job::reading::{Event, Verdict};
+use crate::output;
+use crate::progress::Progress;
+use crate::record::DEPTH;
+use crate::text::{amount, count};
+
+/// The options of `check`.
+pub const OPTIONS: Options = Options {
+    valued: &["--faults"],
+    plain: &["--quiet"],
+};
+
+/// What was found.
+#[derive(Default)]
+struct Findings {
+    jobs: u64,
+    foreign: u64,
+    bytes: u64,
+    wrong: Vec<String>,
+}
+
+/// Runs the command.
+pub fn run(arguments: &Arguments) -> Result<(), Failure> {
+    let path = arguments.only_image()?;
+    let seed = arguments.number("--faults")?;
+    let quiet = arguments.has("--quiet");
+    let mut cartridge = Cartridge::load(path, Access::Read, DEPTH, seed)?;
+    let mut findings = Findings::default();
+    if !cartridge.image().has_both_roots() {
+        findings.wrong.push(String::from(
+            "one of the image's two roots is damaged, perhaps by a power cut; \
+             the next recording writes it anew",
+        ));
+    }
+    read_jobs(&mut cartridge, &mut findings, quiet)?;
+    let frames = read_frames(&mut cartridge, &mut findings, quiet)?;
+
+    let shown = path.display();
+    for wrong in &findings.wrong {
+        output::message(format!("{shown}: {wrong}"));
+    }
+    if !findings.wrong.is_empty() {
+        let wrong = u64::try_from(findings.wrong.len()).unwrap_or(u64::MAX);
+        let wrong = count(wrong, "thing is", "things are");
+        return Err(Failure::new(format!("{shown}: {wrong} wrong")));
+    }
+    let mut told = format!(
+        "{shown}: {}, {}, {} on tape: every checksum holds",
+        count(findings.jobs, "job", "jobs"),
+        amount(findings.bytes),
+        count(frames, "frame", "frames"),
+    );
+    if findings.foreign > 0 {
+        let foreign = count(findings.foreign, "job has", "jobs have");
+        told.push_str(&format!(" ({foreign} none, not being of this tool)"));
+    }
+    output::line(told)
+}
+
+fn read_jobs(
+    cartridge: &mut Cartridge,
+    findings: &mut Findings,
+    quiet: bool,
+) -> Result<(), Failure> {
+    let mut progress = Progress::new("reading", quiet);
+    let mut broken = Vec::new();
+    let (mut foreign, mut bytes) = (0, 0);
+    let mut taker = |number: u64, event: Event<'_>| {
+        match event {
+            Event::End(Verdict::Whole(closing)) => bytes += closing.length,
+            Event::End(Verdict::Broken(why)) => {
+                broken.push(format!("job {number} is not whole: {why}"));
+            }
+            Event::End(Verdict::Foreign) => foreign += 1,
+            Event::Begin(_) | Event::Data(_) => {}
+        }
+        Ok(ControlFlow::Continue(()))
+    };
+    let read = cartridge.read_jobs(&mut taker, &mut progress);
+    findings.wrong.append(&mut broken);
+    findings.foreign = foreign;
+    findings.bytes = bytes;
+    match read {
+        Ok(jobs) => findings.jobs = jobs,
+        // The rest can be looked at all the same.
+        Err(Failure::Failed(message)) => {
+            let path = cartridge.image().path().display().to_string();
+            let message = message.strip_prefix(&format!("{path}: "));
+            let message = message.unwrap_or("reading stopped");
+            findings.wrong.push(message.to_string());
+        }
+        Err(failure) => return Err(failure),
+    }
+    Ok(())
+}
+
+/// Reads every frame, also those that no recording in force needs.
+fn read_frames(
+    cartridge: &mut Cartridge,
+    findings: &mut Findings,
+    quiet: bool,
+) -> Result<u64, Failure> {
+    let mut progress = Progress::new("checking", quiet);
+    let image = cartridge.image_mut();
+    let addresses: Vec<u32> = image
+        .known()
+        .filter(|(_, reads, _)| *reads)
+        .map(|(address, _, _)| address)
+        .collect();
+    let all = u64::try_from(addresses.len()).unwrap_or(u64::MAX);
+    let mut done = 0u64;
+    for address in addresses {
+        // Damage is noted by the image.
+        let _ = image.frame(adr_model::Address(address));
+        if let Some(failure) = image.take_error() {
+            return Err(failure);
+        }
+        done += 1;
+        progress.update(done.saturating_mul(33_280), done, Some(all));
+    }
+    let damaged: Vec<String> = image
+        .damaged()
+        .map(|address| format!("the frame at address {address} is damaged"))
+        .collect();
+    findings.wrong.extend(damaged);
+    Ok(all)
+}

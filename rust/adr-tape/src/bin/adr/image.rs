@@ -1,0 +1,294 @@
+//! A cartridge as a file.
+//!
+//! Frames are never written over while a generation of the content needs
+//! them: a recording puts its frames and its index into cells that the
+//! present generation does not use, has them brought to disk, and then writes
+//! one page, the root that is not in force. Until that page is whole the
+//! other root is in force, and everything it leads to is as it was. So a
+//! power cut, a full disk or a killed process leaves the old content, and
+//! nothing needs to be repaired at the next opening. At last the other root
+//! is written too, so that both lead to the same content.
+
+mod cells;
+mod content;
+mod file;
+mod index;
+mod layout;
+mod making;
+
+use std::collections::BTreeSet;
+use std::fs::File;
+use std::io;
+use std::os::unix::fs::FileExt;
+use std::path::{Path, PathBuf};
+use std::sync::Arc;
+
+use adr_model::tape::{Shared, Storage};
+use adr_tape::{Geometry, FRAME_LENGTH};
+
+use crate::checksum::checksum;
+use crate::failure::{reason, Failure};
+use cells::Cells;
+use content::Content;
+use index::{Entry, Place};
+use layout::{Root, CELL, ROOTS};
+
+pub use file::{refuse_itself, Access};
+pub use making::format;
+
+/// A cartridge image.
+#[derive(Debug)]
+pub struct Image {
+    path: PathBuf,
+    file: File,
+    content: Content,
+    cells: Cells,
+    length_before: u64,
+    /// Whether cells were written that no root leads to.
+    unfinished: bool,
+    /// Addresses whose frame is damaged, as far as they were read.
+    damaged: BTreeSet<u32>,
+    error: Option<io::Error>,
+}
+
+impl Image {
+    /// Opens an image. Nothing is written to it before [`Storage::store`].
+    pub fn open(path: &Path, access: Access) -> Result<Image, Failure> {
+        let (file, length) = file::open(path, access)?;
+        let content = Content::read(path, &file, length)?;
+        let end = layout::cells_in(length).max(content.root.cells);
+        Ok(Image {
+            path: path.to_path_buf(),
+            file,
+            cells: Cells::new(&content.cells, end),
+            content,
+            length_before: length,
+            unfinished: false,
+            damaged: BTreeSet::new(),
+            error: None,
+        })
+    }
+
+    /// The file's name.
+    pub fn path(&self) -> &Path {
+        &self.path
+    }
+
+    /// The cartridge's geometry.
+    pub fn geometry(&self) -> Geometry {
+        self.content.geometry
+    }
+
+    /// Whether both roots are whole.
+    pub fn has_both_roots(&self) -> bool {
+        self.content.both_roots
+    }
+
+    /// The first failure of the file since the last call, if there was one.
+    pub fn take_error(&mut self) -> Option<Failure> {
+        let error = self.error.take()?;
+        Some(Failure::of_file(&self.path, &error))
+    }
+
+    /// Every address that is known, with whether something reads there and
+    /// whether the last write there failed.
+    pub fn known(&self) -> impl Iterator<Item = (u32, bool, bool)> + '_ {
+        self.content
+            .index
+            .iter()
+            .map(|(address, entry)| (*address, entry.place.is_some(), entry.failed))
+    }
+
+    /// Addresses whose frames were read and found damaged.
+    pub fn damaged(&self) -> impl Iterator<Item = u32> + '_ {
+        self.damaged.iter().copied()
+    }
+
+    /// Tells a cartridge whose header is damaged from one that has none.
+    pub fn require_undamaged(&self) -> Result<(), Failure> {
+        match self.damaged.first() {
+            None => Ok(()),
+            Some(address) => Err(Failure::new(format!(
+                "{}: the image is damaged at address {address}, among the copies of the header; \
+                 nothing was changed: restore what it holds, then 'adr format --overwrite' it",
+                self.path.display()
+            ))),
+        }
+    }
+
+    /// The last 512 bytes of a frame, its AUX, which are not checked.
+    pub fn aux(&mut self, address: u32, aux: &mut [u8]) -> bool {
+        let Some(place) = self
+            .content
+            .index
+            .get(&address)
+            .and_then(|entry| entry.place)
+        else {
+            return false;
+        };
+        let start = FRAME_LENGTH.saturating_sub(aux.len());
+        let offset = u64::try_from(start).ok();
+        let offset = offset.and_then(|start| layout::cell_offset(place.cell)?.checked_add(start));
+        let read = self
+            .file
+            .read_exact_at(aux, offset.unwrap_or(u64::MAX >> 1));
+        self.keep(read);
+        self.error.is_none()
+    }
+
+    /// Puts what was stored in force, in one step.
+    pub fn commit(&mut self) -> Result<(), Failure> {
+        if let Some(failure) = self.take_error() {
+            return Err(failure.unrecorded());
+        }
+        let prepared = self.prepare_root();
+        let root = prepared.map_err(|error| Failure::of_file(&self.path, &error).unrecorded())?;
+        // From here on either root may come into force: cut nothing off.
+        self.unfinished = false;
+        let (spare, present) = (1 - self.content.slot, self.content.slot);
+        self.write_root(&root, spare).map_err(|error| {
+            Failure::new(format!(
+                "{}: {}; the cartridge may hold the new content already",
+                self.path.display(),
+                reason(&error)
+            ))
+        })?;
+        // The recording is in force. The other root is made to lead to it
+        // too, so that damage to one of them brings no older content back;
+        // if that fails, the next recording does it.
+        let again = Root {
+            generation: root.generation.saturating_add(1),
+            ..root
+        };
+        let _ = self.write_root(&again, present);
+        Ok(())
+    }
+
+    fn write_root(&self, root: &Root, slot: usize) -> io::Result<()> {
+        let offset = ROOTS.get(slot).copied().unwrap_or(ROOTS[0]);
+        self.file.write_all_at(&root.page(), offset)?;
+        self.file.sync_all()
+    }
+
+    /// Writes the index beside the present content.
+    fn prepare_root(&mut self) -> io::Result<Root> {
+        let entries = u64::try_from(self.content.index.len()).unwrap_or(u64::MAX);
+        let cells: Vec<u64> = (0..index::cells_for(entries))
+            .map(|_| self.cells.take())
+            .collect();
+        let (contents, sum) = index::written(&self.content.index, &cells);
+        for (cell, content) in cells.iter().zip(&contents) {
+            self.write_cell(*cell, content)?;
+        }
+        self.file.sync_all()?;
+        Ok(Root {
+            generation: self.content.root.generation.saturating_add(1),
+            cells: self.cells.end(),
+            index: cells.first().copied().unwrap_or(0),
+            entries,
+            sum,
+        })
+    }
+
+    /// Gives back the cell of a frame that this recording wrote over.
+    fn release(&mut self, entry: Option<Entry>) {
+        if let Some(place) = entry.and_then(|entry| entry.place) {
+            self.cells.give_back(place.cell);
+        }
+    }
+
+    fn write_cell(&mut self, cell: u64, content: &[u8]) -> io::Result<()> {
+        self.unfinished = true;
+        let offset = layout::cell_offset(cell);
+        let offset = offset.ok_or_else(|| io::Error::from(io::ErrorKind::FileTooLarge))?;
+        self.file.write_all_at(content, offset)
+    }
+
+    fn read_frame(&mut self, place: Place) -> io::Result<Option<Shared>> {
+        let mut frame: Shared = Arc::new([0; FRAME_LENGTH]);
+        let offset = layout::cell_offset(place.cell);
+        if let (Some(frame), Some(offset)) = (Arc::get_mut(&mut frame), offset) {
+            match self.file.read_exact_at(frame, offset) {
+                Err(error) if error.kind() == io::ErrorKind::UnexpectedEof => return Ok(None),
+                read => read?,
+            }
+        }
+        Ok((checksum(frame.as_slice()) == place.sum).then_some(frame))
+    }
+
+    fn keep(&mut self, result: io::Result<()>) {
+        if let Err(error) = result {
+            self.error.get_or_insert(error);
+        }
+    }
+}
+
+impl Storage for Image {
+    /// A damaged frame reads as nothing, as a spot on tape would.
+    fn frame(&mut self, address: adr_model::Address) -> Option<Shared> {
+        let place = self.content.index.get(&address.0)?.place?;
+        match self.read_frame(place) {
+            Ok(Some(frame)) => Some(frame),
+            Ok(None) => {
+                self.damaged.insert(address.0);
+                None
+            }
+            Err(error) => {
+                self.keep(Err(error));
+                None
+            }
+        }
+    }
+
+    fn store(&mut self, address: adr_model::Address, frame: Shared) {
+        let cell = self.cells.take();
+        let mut content = vec![0; CELL];
+        layout::put(&mut content, 0, frame.as_slice());
+        let written = self.write_cell(cell, &content);
+        self.keep(written);
+        let place = Place {
+            cell,
+            sum: checksum(frame.as_slice()),
+        };
+        let entry = Entry {
+            place: Some(place),
+            failed: false,
+        };
+        let before = self.content.index.insert(address.0, entry);
+        self.release(before);
+    }
+
+    fn spoil(&mut self, address: adr_model::Address) {
+        let before = self.content.index.remove(&address.0);
+        self.release(before);
+    }
+
+    fn failed(&mut self, address: adr_model::Address) {
+        self.content.index.entry(address.0).or_default().failed = true;
+    }
+
+    fn is_blank(&self, from: adr_model::Address, count: u32) -> bool {
+        let range = from.0..from.0.saturating_add(count);
+        self.content
+            .index
+            .range(range)
+            .all(|(_, entry)| entry.place.is_none())
+    }
+
+    fn is_blank_from(&self, from: adr_model::Address) -> bool {
+        self.content
+            .index
+            .range(from.0..)
+            .all(|(_, entry)| entry.place.is_none())
+    }
+}
+
+impl Drop for Image {
+    /// Gives back the room of a recording that did not come to its end. The
+    /// content in force lies below the length that the file had.
+    fn drop(&mut self) {
+        if self.unfinished {
+            let _ = self.file.set_len(self.length_before);
+        }
+    }
+}

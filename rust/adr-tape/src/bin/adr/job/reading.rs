@@ -1,0 +1,261 @@
+//! Jobs read back from the elements of a cartridge.
+
+use std::collections::VecDeque;
+use std::ops::ControlFlow;
+
+use adr_tape::Element;
+
+use super::{Block, Closing, Description};
+use crate::digest::Sha256;
+use crate::failure::Failure;
+
+/// What a reading comes to.
+#[derive(Debug)]
+pub enum Event<'a> {
+    /// A job begins.
+    Begin(&'a Description),
+    /// Bytes of it.
+    Data(&'a [u8]),
+    /// It ends.
+    End(&'a Verdict),
+}
+
+/// How a job ended.
+#[derive(Clone, Debug, PartialEq, Eq)]
+pub enum Verdict {
+    /// Every byte is there, and the checksum holds.
+    Whole(Closing),
+    /// It is not what was recorded, for this reason.
+    Broken(&'static str),
+    /// It was not recorded by this tool, and no bytes of it were handed on.
+    Foreign,
+}
+
+/// What takes a job's events, with the job's number from 1 on.
+pub type Taker<'t> = dyn FnMut(u64, Event<'_>) -> Result<ControlFlow<()>, Failure> + 't;
+
+/// Puts jobs together from elements.
+pub struct Jobs<'t> {
+    taker: &'t mut Taker<'t>,
+    number: u64,
+    state: State,
+}
+
+enum State {
+    /// Between jobs.
+    Between,
+    /// In a job of this tool.
+    Own(Own),
+    /// In something else.
+    Foreign,
+}
+
+struct Own {
+    digest: Sha256,
+    length: u64,
+    /// The latest two blocks: at a filemark they are the last of the data and
+    /// the closing.
+    held: VecDeque<Block>,
+}
+
+impl<'t> Jobs<'t> {
+    /// Jobs for a taker.
+    pub fn new(taker: &'t mut Taker<'t>) -> Jobs<'t> {
+        Jobs {
+            taker,
+            number: 0,
+            state: State::Between,
+        }
+    }
+
+    /// Jobs begun so far.
+    pub fn begun(&self) -> u64 {
+        self.number
+    }
+
+    /// Whether the latest job has not ended.
+    pub fn is_within(&self) -> bool {
+        !matches!(self.state, State::Between)
+    }
+
+    /// Takes in the next element.
+    pub fn take(&mut self, element: &Element<'_>) -> Result<ControlFlow<()>, Failure> {
+        match element {
+            Element::Block(block) => self.take_block(block),
+            Element::Filemark => self.take_filemark(),
+        }
+    }
+
+    fn take_block(&mut self, block: &[u8]) -> Result<ControlFlow<()>, Failure> {
+        match &mut self.state {
+            State::Between => {
+                self.number += 1;
+                let Some(description) = Description::read(block) else {
+                    self.state = State::Foreign;
+                    return Ok(ControlFlow::Continue(()));
+                };
+                self.state = State::Own(Own {
+                    digest: Sha256::new(),
+                    length: 0,
+                    held: VecDeque::new(),
+                });
+                (self.taker)(self.number, Event::Begin(&description))
+            }
+            State::Own(own) => {
+                own.held.push_back(block.to_vec());
+                if own.held.len() <= 2 {
+                    return Ok(ControlFlow::Continue(()));
+                }
+                let Some(block) = own.held.pop_front() else {
+                    return Ok(ControlFlow::Continue(()));
+                };
+                own.add(&block);
+                (self.taker)(self.number, Event::Data(&block))
+            }
+            State::Foreign => Ok(ControlFlow::Continue(())),
+        }
+    }
+
+    fn take_filemark(&mut self) -> Result<ControlFlow<()>, Failure> {
+        let verdict = match std::mem::replace(&mut self.state, State::Between) {
+            State::Between => {
+                self.number += 1;
+                Verdict::Foreign
+            }
+            State::Foreign => Verdict::Foreign,
+            State::Own(mut own) => match own.rest() {
+                Err(verdict) => verdict,
+                Ok((rest, closing)) => {
+                    if (self.taker)(self.number, Event::Data(&rest))?.is_break() {
+                        return Ok(ControlFlow::Break(()));
+                    }
+                    own.add(&rest);
+                    own.verdict(closing)
+                }
+            },
+        };
+        (self.taker)(self.number, Event::End(&verdict))
+    }
+}
+
+impl Own {
+    fn add(&mut self, data: &[u8]) {
+        self.digest.add(data);
+        self.length += u64::try_from(data.len()).unwrap_or(0);
+    }
+
+    /// The last bytes of the data, without padding, and the closing.
+    fn rest(&mut self) -> Result<(Block, Closing), Verdict> {
+        let closing = self.held.pop_back();
+        let closing = closing.and_then(|block| Closing::read(&block));
+        let closing = closing.ok_or(Verdict::Broken("its last block is missing"))?;
+        let mut last = self.held.pop_front().unwrap_or_default();
+        let missing = closing.length.checked_sub(self.length);
+        let missing = missing.and_then(|missing| usize::try_from(missing).ok());
+        match missing {
+            Some(missing) if missing <= last.len() => last.truncate(missing),
+            _ => return Err(Verdict::Broken("its length is not the one recorded")),
+        }
+        Ok((last, closing))
+    }
+
+    fn verdict(self, closing: Closing) -> Verdict {
+        if self.digest.finish() == closing.digest {
+            Verdict::Whole(closing)
+        } else {
+            Verdict::Broken("its checksum does not hold")
+        }
+    }
+}
+
+#[cfg(test)]
+mod tests {
+    use super::super::source::{Elements, Input};
+    use super::*;
+    use adr_tape::BLOCK_LENGTH;
+
+    fn elements(files: &[Vec<u8>]) -> Vec<Element<'static>> {
+        let inputs = files
+            .iter()
+            .map(|bytes| {
+                let description = Description {
+                    name: b"file".to_vec(),
+                    time: 0,
+                    length: None,
+                };
+                Input::bytes(description, std::io::Cursor::new(bytes.clone()))
+            })
+            .collect();
+        let elements: Result<Vec<_>, Failure> = Elements::new(inputs).collect();
+        elements.expect("bytes at hand")
+    }
+
+    /// The bytes and the verdict of each job.
+    fn read(elements: &[Element<'_>]) -> Vec<(u64, Vec<u8>, Option<Verdict>)> {
+        let mut jobs: Vec<(u64, Vec<u8>, Option<Verdict>)> = Vec::new();
+        let mut taker = |number: u64, event: Event<'_>| {
+            if jobs.last().is_none_or(|job| job.0 != number) {
+                jobs.push((number, Vec::new(), None));
+            }
+            if let Some(job) = jobs.last_mut() {
+                match event {
+                    Event::Begin(_) => {}
+                    Event::Data(data) => job.1.extend_from_slice(data),
+                    Event::End(verdict) => job.2 = Some(verdict.clone()),
+                }
+            }
+            Ok(ControlFlow::Continue(()))
+        };
+        let mut reading = Jobs::new(&mut taker);
+        for element in elements {
+            assert!(reading.take(element).is_ok());
+        }
+        jobs
+    }
+
+    #[test]
+    fn every_length_near_a_block() {
+        let mut lengths = vec![0, 1, 100_000];
+        for blocks in 1..4 {
+            for near in [-1, 0, 1] {
+                lengths.extend((blocks * BLOCK_LENGTH).checked_add_signed(near));
+            }
+        }
+        let files: Vec<Vec<u8>> = lengths
+            .iter()
+            .map(|length| (0..*length).map(|at| (at % 251) as u8).collect())
+            .collect();
+        let jobs = read(&elements(&files));
+        assert_eq!(jobs.len(), files.len());
+        for ((_, bytes, verdict), file) in jobs.iter().zip(&files) {
+            assert_eq!(bytes, file);
+            assert!(matches!(verdict, Some(Verdict::Whole(_))));
+        }
+    }
+
+    #[test]
+    fn broken_and_foreign() {
+        let file = vec![7; 3 * BLOCK_LENGTH];
+        let good = elements(&[file]);
+        assert_eq!(good.len(), 6);
+        for missing in 0..5 {
+            let mut some = good.clone();
+            some.remove(missing);
+            let jobs = read(&some);
+            let verdict = jobs.first().and_then(|job| job.2.clone());
+            let expected = match missing {
+                0 => Verdict::Foreign,
+                4 => Verdict::Broken("its last block is missing"),
+                _ => Verdict::Broken("its length is not the one recorded"),
+            };
+            assert_eq!(verdict, Some(expected), "without {missing}");
+        }
+        let mut altered = good.clone();
+        altered[2] = vec![8; BLOCK_LENGTH].into();
+        let verdict = read(&altered).first().and_then(|job| job.2.clone());
+        assert_eq!(verdict, Some(Verdict::Broken("its checksum does not hold")));
+        let lone = read(&[Element::Filemark, Element::Filemark]);
+        assert_eq!(lone.len(), 2);
+        assert!(lone.iter().all(|job| job.2 == Some(Verdict::Foreign)));
+    }
+}

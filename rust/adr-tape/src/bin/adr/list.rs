@@ -1,0 +1,79 @@
+//! `adr list`: the jobs on a cartridge.
+
+use std::ops::ControlFlow;
+
+use crate::arguments::{Arguments, Options};
+use crate::cartridge::Cartridge;
+use crate::digest::hexadecimal;
+use crate::failure::Failure;
+use crate::image::Access;
+use crate::job::reading::{Event, Verdict};
+use crate::job::Description;
+use crate::output;
+use crate::progress::Progress;
+use crate::record::DEPTH;
+use crate::text::{date, grouped, printable};
+
+/// The options of `list`.
+pub const OPTIONS: Options = Options {
+    valued: &["--faults"],
+    plain: &["--checksums", "--quiet"],
+};
+
+/// Runs the command.
+pub fn run(arguments: &Arguments) -> Result<(), Failure> {
+    let path = arguments.only_image()?;
+    let seed = arguments.number("--faults")?;
+    let mut cartridge = Cartridge::load(path, Access::Read, DEPTH, seed)?;
+    let mut progress = Progress::new("reading", arguments.has("--quiet"));
+    let checksums = arguments.has("--checksums");
+    let mut broken = 0u64;
+    let mut description: Option<Description> = None;
+    let mut taker = |number: u64, event: Event<'_>| {
+        match event {
+            Event::Begin(begun) => description = Some(begun.clone()),
+            Event::Data(_) => {}
+            Event::End(verdict) => {
+                broken += u64::from(matches!(verdict, Verdict::Broken(_)));
+                let description = description.take();
+                output::line(job_line(number, description.as_ref(), verdict, checksums))?;
+            }
+        }
+        Ok(ControlFlow::Continue(()))
+    };
+    cartridge.read_jobs(&mut taker, &mut progress)?;
+    drop(progress);
+    if broken > 0 {
+        return Err(Failure::new(format!(
+            "{}: not every job is whole: see 'adr check'",
+            path.display()
+        )));
+    }
+    Ok(())
+}
+
+fn job_line(
+    number: u64,
+    description: Option<&Description>,
+    verdict: &Verdict,
+    checksums: bool,
+) -> String {
+    let Some(description) = description else {
+        return format!("{number:>4}  (not recorded by this tool)");
+    };
+    let name = printable(&description.name);
+    let time = date(description.time);
+    match verdict {
+        Verdict::Whole(closing) if checksums => {
+            let length = grouped(closing.length);
+            let digest = hexadecimal(&closing.digest);
+            format!("{number:>4}  {length:>15}  {time}  {digest}  {name}")
+        }
+        Verdict::Whole(closing) => {
+            let length = grouped(closing.length);
+            format!("{number:>4}  {length:>15}  {time}  {name}")
+        }
+        Verdict::Broken(why) => format!("{number:>4}  {:>15}  {time}  {name} ({why})", "?"),
+        Verdict::Foreign => format!("{number:>4}  (not recorded by this tool)"),
+    }
+}

@@ -1,0 +1,27 @@
+//! Standard output, line by line.
+
+use std::fmt::Display;
+use std::io::Write;
+
+use crate::failure::Failure;
+
+/// Prints a line.
+pub fn line(text: impl Display) -> Result<(), Failure> {
+    let mut output = std::io::stdout().lock();
+    writeln!(output, "{text}").map_err(|error| Failure::of_output(&error))
+}
+
+/// Prints a text as it is.
+pub fn plain(text: &str) -> Result<(), Failure> {
+    let mut output = std::io::stdout().lock();
+    output
+        .write_all(text.as_bytes())
+        .and_then(|()| output.flush())
+        .map_err(|error| Failure::of_output(&error))
+}
+
+/// Prints a message on standard error.
+pub fn message(text: impl Display) {
+    // Where messages cannot be printed there is nobody to be told so.
+    let _ = writeln!(std::io::stderr(), "adr: {text}");
+}

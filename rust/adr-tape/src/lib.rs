@@ -1,0 +1,106 @@
+//! Recording to and reading from OnStream ADR tapes.
+//!
+//! A safe wrapper of the proved layer `libadr.a`. The layer says which
+//! command goes to the drive next and with which bytes, and takes in the
+//! drive's replies; cables, packets and sense data stay with the host.
+//!
+//! * [`Recorder`] and [`Reader`]: the two sessions, a call at a time.
+//! * [`Drive`], [`newest_header`], [`record_all`] and [`read_all`]: whole
+//!   recordings and readings over the host's own transport.
+//! * [`ffi`]: the calls as C sees them, for hosts with buffers of their own.
+//!
+//! A drive in memory, recorded and read back:
+//!
+//! ```
+//! use std::convert::Infallible;
+//! use std::ops::ControlFlow;
+//!
+//! use adr_tape::{
+//!     newest_header, read_all, record_all, Address, Drive, Element, Geometry, Reply, Sense,
+//! };
+//!
+//! /// Writes at once, so nothing is ever buffered.
+//! struct Memory {
+//!     frames: Vec<Option<Vec<u8>>>,
+//!     at: usize,
+//! }
+//!
+//! impl Drive for Memory {
+//!     type Error = Infallible;
+//!
+//!     fn locate(&mut self, address: Address) -> Result<Reply, Infallible> {
+//!         self.at = address.0 as usize;
+//!         Ok(Reply::good())
+//!     }
+//!
+//!     fn write(&mut self, _: Address, frame: &[u8]) -> Result<Reply, Infallible> {
+//!         self.frames[self.at] = Some(frame.to_vec());
+//!         self.at += 1;
+//!         Ok(Reply::good())
+//!     }
+//!
+//!     fn read(&mut self, _: Address, frame: &mut [u8]) -> Result<Reply, Infallible> {
+//!         self.at += 1;
+//!         Ok(match &self.frames[self.at - 1] {
+//!             Some(found) => {
+//!                 frame.copy_from_slice(found);
+//!                 Reply::good()
+//!             }
+//!             None => Reply::sense(Sense::UNREADABLE),
+//!         })
+//!     }
+//!
+//!     fn read_position(&mut self) -> Result<Reply, Infallible> {
+//!         Ok(Reply::buffered(0))
+//!     }
+//! }
+//!
+//! let geometry = Geometry::beginning(3_001, 1);
+//! let mut drive = Memory { frames: vec![None; 3_001], at: 0 };
+//! let block = vec![7; adr_tape::BLOCK_LENGTH];
+//! let elements = [Element::from(block.as_slice()), Element::Filemark];
+//! let source = elements.clone().into_iter().map(Ok::<_, Infallible>);
+//!
+//! let header = newest_header(&mut drive, geometry)?;
+//! record_all(&mut drive, geometry, 8, 16, header.as_deref(), source, |_| {})?;
+//!
+//! let header = newest_header(&mut drive, geometry)?.expect("it was recorded");
+//! let mut delivered = 0;
+//! let sink = |element: Element<'_>| -> Result<ControlFlow<()>, Infallible> {
+//!     assert_eq!(element, elements[delivered]);
+//!     delivered += 1;
+//!     Ok(ControlFlow::Continue(()))
+//! };
+//! read_all(&mut drive, geometry, &header, sink, |_| {})?;
+//! assert_eq!(delivered, 2);
+//! # Ok::<(), Box<dyn std::error::Error>>(())
+//! ```
+
+mod command;
+mod drive;
+mod element;
+mod error;
+pub mod ffi;
+mod geometry;
+mod header;
+mod read_all;
+mod reader;
+mod record_all;
+mod recorder;
+mod refusal;
+mod reply;
+mod summary;
+
+pub use command::Command;
+pub use drive::Drive;
+pub use element::Element;
+pub use error::{HeaderError, ReadError, RecordError};
+pub use geometry::{header_addresses, Address, Geometry, LoadPoint, BLOCK_LENGTH, FRAME_LENGTH};
+pub use header::{newer, newest_header};
+pub use read_all::read_all;
+pub use reader::{Delivery, ReadNext, Reader};
+pub use record_all::record_all;
+pub use recorder::{Next, Recorder};
+pub use refusal::Refusal;
+pub use reply::{Reply, Sense};
+pub use summary::Summary;

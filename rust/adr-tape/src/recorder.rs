@@ -1,0 +1,154 @@
+//! A recording session with its buffers.
+
+use std::fmt;
+
+use crate::command::Command;
+use crate::ffi;
+use crate::geometry::{Geometry, BLOCK_LENGTH, FRAME_LENGTH};
+use crate::refusal::Refusal;
+use crate::reply::Reply;
+
+/// What a recording wants next.
+#[derive(Clone, Copy, Debug, PartialEq, Eq)]
+#[must_use = "a command that is not sent leaves the session waiting for its reply"]
+pub enum Next<'a> {
+    /// Send this command, a WRITE with this frame, and bring the reply.
+    Send(Command, Option<&'a [u8]>),
+    /// Nothing to do: accept an element, or close.
+    Idle,
+    /// The recording is whole and closed.
+    Done,
+}
+
+/// A recording session, with the window and the frame that it needs.
+///
+/// Fetch a command, send it, bring the reply; accept elements at any time
+/// between, and close.
+///
+/// ```
+/// use adr_tape::{Command, Geometry, Next, Recorder, Refusal, Reply};
+///
+/// let mut recorder = Recorder::open(Geometry::beginning(3_001, 1), 4, 2, None)?;
+/// recorder.accept_block(&[1; adr_tape::BLOCK_LENGTH])?;
+/// recorder.accept_filemark()?;
+/// assert_eq!(recorder.accept_filemark(), Err(Refusal::WindowFull));
+/// recorder.close()?;
+/// let mut written = Vec::new();
+/// while let Next::Send(command, frame) = recorder.fetch()? {
+///     // A drive that writes each frame at once.
+///     if let (Command::Write(address), Some(frame)) = (command, frame) {
+///         written.push((address.0, frame.len()));
+///     }
+///     recorder.reply(Reply::good())?;
+/// }
+/// // Ten header copies, a block, a filemark, EOD, and ten copies more.
+/// assert_eq!(written.len(), 23);
+/// assert_eq!(written[10], (10, 33_280));
+/// # Ok::<(), Refusal>(())
+/// ```
+#[derive(Clone)]
+pub struct Recorder {
+    session: ffi::Recording,
+    window: Vec<u8>,
+    frame: Vec<u8>,
+}
+
+impl Recorder {
+    /// Opens a recording on the newest header, or on none.
+    ///
+    /// `depth` is the frames that the drive buffers, 1 to 255; `window` the
+    /// blocks that may wait here, 1 to 64. The write pass is the header's + 1,
+    /// or 1; a recording reads back as accepted if no frame on the cartridge
+    /// bears that pass, so always give the newest header.
+    ///
+    /// # Errors
+    /// [`Refusal::Length`], [`Refusal::Geometry`], [`Refusal::Header`],
+    /// [`Refusal::Capacity`] or [`Refusal::Exhausted`].
+    pub fn open(
+        geometry: Geometry,
+        depth: u32,
+        window: u32,
+        header: Option<&[u8]>,
+    ) -> Result<Recorder, Refusal> {
+        let opened = match header {
+            Some(header) => ffi::record_open(geometry.into(), depth, window, header),
+            None => ffi::record_open_blank(geometry.into(), depth, window),
+        };
+        Refusal::check(opened.number)?;
+        let blocks = usize::try_from(window).map_err(|_| Refusal::Capacity)?;
+        Ok(Recorder {
+            session: opened.session,
+            window: vec![0; blocks.saturating_mul(BLOCK_LENGTH)],
+            frame: vec![0; FRAME_LENGTH],
+        })
+    }
+
+    /// Accepts a block of 32,768 bytes.
+    ///
+    /// # Errors
+    /// [`Refusal::Length`], [`Refusal::WindowFull`] or [`Refusal::Phase`].
+    pub fn accept_block(&mut self, block: &[u8]) -> Result<(), Refusal> {
+        let outcome = ffi::record_block(self.session, block, &mut self.window);
+        self.keep(outcome)
+    }
+
+    /// Accepts a filemark.
+    ///
+    /// # Errors
+    /// [`Refusal::WindowFull`] or [`Refusal::Phase`].
+    pub fn accept_filemark(&mut self) -> Result<(), Refusal> {
+        self.keep(ffi::record_filemark(self.session))
+    }
+
+    /// Asks for the recording to be ended; it is when a fetch answers
+    /// [`Next::Done`].
+    ///
+    /// # Errors
+    /// [`Refusal::Phase`].
+    pub fn close(&mut self) -> Result<(), Refusal> {
+        self.keep(ffi::record_close(self.session))
+    }
+
+    /// Fetches the next command.
+    ///
+    /// # Errors
+    /// [`Refusal::Phase`] while a reply is awaited; [`Refusal::TapeFull`].
+    pub fn fetch(&mut self) -> Result<Next<'_>, Refusal> {
+        let fetched = ffi::record_fetch(self.session, &self.window, &mut self.frame);
+        self.session = fetched.session;
+        Refusal::check(fetched.number)?;
+        Ok(match fetched.answer {
+            ffi::IDLE => Next::Idle,
+            ffi::DONE => Next::Done,
+            _ => {
+                let command = Command::given(fetched.command);
+                let writes = matches!(command, Command::Write(_));
+                Next::Send(command, writes.then_some(self.frame.as_slice()))
+            }
+        })
+    }
+
+    /// Brings the drive's reply to the command fetched.
+    ///
+    /// # Errors
+    /// [`Refusal::Phase`] if none is awaited; [`Refusal::Reply`],
+    /// [`Refusal::TapeFull`] or [`Refusal::NotFound`].
+    pub fn reply(&mut self, reply: Reply) -> Result<(), Refusal> {
+        self.keep(ffi::record_reply(self.session, reply.into()))
+    }
+
+    fn keep(&mut self, outcome: ffi::RecordOutcome) -> Result<(), Refusal> {
+        self.session = outcome.session;
+        Refusal::check(outcome.number)
+    }
+}
+
+impl fmt::Debug for Recorder {
+    /// The session without the bytes of its buffers.
+    fn fmt(&self, formatter: &mut fmt::Formatter<'_>) -> fmt::Result {
+        formatter
+            .debug_struct("Recorder")
+            .field("session", &self.session)
+            .finish_non_exhaustive()
+    }
+}

@@ -1,0 +1,523 @@
+//! Every call compared with the model on inputs that no drive gives.
+
+mod compared;
+
+use adr_model::check::content::block;
+use adr_model::check::layer::{Layer, ReadingCalls, RecordingCalls};
+use adr_model::frame::{fill_frame, fill_header, Frame, HeaderFields, Kind, Label};
+use adr_model::geometry::{BLOCK_LENGTH, FRAME_LENGTH, HEADER_GROUPS};
+use adr_model::random::Random;
+use adr_model::reply::{BECOMING_READY, GOOD, SENSES, WRITE_ERROR};
+use adr_model::{
+    header, Address, Answer, Command, Geometry, Outcome, Reply, Sense, SequenceNumber,
+};
+use adr_tape::ffi;
+use compared::{geometry_of, Compared, ComparedReading, ComparedRecording};
+
+const ROUNDS: u32 = if cfg!(debug_assertions) { 600 } else { 3_000 };
+
+#[track_caller]
+fn right(wrong: Option<String>, seed: u32) {
+    assert_eq!(wrong, None, "seed {seed}");
+}
+
+fn any_geometry(random: &mut Random) -> Geometry {
+    let frames_per_track = [0, 1, 99, 100, 101, 3_000, 3_001, 3_020, 65_534, 65_535];
+    let tracks = [0, 1, 2, 30, 3_000, 3_001, 65_535];
+    Geometry {
+        frames_per_track: random.one_of(&frames_per_track).copied().unwrap_or(1),
+        tracks: random.one_of(&tracks).copied().unwrap_or(1),
+        load_point: u8::try_from(random.below(3)).unwrap_or(0),
+    }
+}
+
+#[test]
+fn geometries() {
+    let mut random = Random::new(1);
+    for _ in 0..20_000 {
+        let mut geometry = any_geometry(&mut random);
+        if random.chance(500) {
+            geometry.frames_per_track = u16::try_from(random.below(65_536)).unwrap_or(0);
+            geometry.tracks = u16::try_from(random.below(65_536)).unwrap_or(0);
+        }
+        let given = geometry_of(&geometry);
+        assert_eq!(ffi::frames(given), geometry.frames());
+        let place = ffi::last(given);
+        let last = geometry.last();
+        assert_eq!(place.address, last.map_or(0, |last| last.0));
+        assert_eq!(place.number, if last.is_some() { 0 } else { 2 });
+        let near = [
+            9,
+            10,
+            2_989,
+            2_990,
+            2_999,
+            3_000,
+            place.address,
+            random.word(),
+        ];
+        for address in near.into_iter().flat_map(|at| [at, at.wrapping_add(1)]) {
+            let is_user = Address(address).is_user_frame(Address(place.address));
+            assert_eq!(ffi::is_user(place.address, address), u8::from(is_user));
+        }
+    }
+}
+
+/// Numbers that do not fit 16 bits are no geometry.
+#[test]
+fn geometries_too_wide() {
+    for (segtrk, trks, load) in [
+        (65_536 + 3_001, 1, 0),
+        (3_001, 65_537, 0),
+        (u32::MAX, u32::MAX, 0),
+        (3_001, 1, 2),
+        (3_001, 1, 256),
+        (3_001, 1, u32::MAX),
+    ] {
+        let geometry = ffi::Geometry { segtrk, trks, load };
+        assert_eq!(ffi::frames(geometry), 0);
+        assert_eq!(ffi::last(geometry).number, 2);
+        assert_eq!(ffi::record_open_blank(geometry, 1, 1).number, 2);
+        let frame = valid_header(1, 1, 3_000);
+        let header = frame.as_slice();
+        assert_eq!(ffi::record_open(geometry, 1, 1, header).number, 2);
+        assert_eq!(ffi::record_open(geometry, 1, 1, &[]).number, 1);
+        assert_eq!(ffi::read_open(geometry, header).number, 2);
+        assert_eq!(ffi::choose(geometry, header, header).number, 2);
+    }
+}
+
+#[test]
+fn header_addresses() {
+    for (group, copies) in HEADER_GROUPS.iter().enumerate() {
+        for (copy, address) in copies.iter().enumerate() {
+            for turn in [0, 1, 7, 400_000_000] {
+                let group = u32::try_from(group).unwrap_or(0) + 2 * turn;
+                let copy = u32::try_from(copy).unwrap_or(0) + 5 * turn;
+                assert_eq!(ffi::header_address(group, copy), address.0);
+            }
+        }
+    }
+}
+
+fn valid_header(pass: u16, update_count: u32, last: u32) -> Box<Frame> {
+    let mut frame = Box::new([0; FRAME_LENGTH]);
+    let fields = HeaderFields {
+        pass,
+        update_count,
+        last: Address(last),
+        eod: Address(0),
+    };
+    fill_header(&mut frame, &fields);
+    frame
+}
+
+/// A header, often damaged in a byte that counts or one that does not.
+fn any_header(random: &mut Random, geometry: &Geometry) -> Vec<u8> {
+    let passes = [0, 1, 2, 65_533, 65_534, 65_535];
+    let counts = [
+        0,
+        1,
+        2,
+        4_294_967_292,
+        4_294_967_293,
+        4_294_967_294,
+        u32::MAX,
+    ];
+    let last = geometry.last().map_or(3_000, |last| last.0);
+    let mut frame = valid_header(
+        random.one_of(&passes).copied().unwrap_or(1),
+        random.one_of(&counts).copied().unwrap_or(1),
+        last.wrapping_add(u32::from(random.chance(50))),
+    );
+    let eods = [0, 9, 10, 2_989, 2_990, 3_000, last, last.wrapping_add(1)];
+    let eod = random.one_of(&eods).copied().unwrap_or(0);
+    if random.chance(500) {
+        frame[32..36].copy_from_slice(&eod.to_be_bytes());
+    }
+    let bits = if random.chance(500) {
+        0
+    } else {
+        random.below(3)
+    };
+    for _ in 0..bits {
+        let at = match random.below(3) {
+            0 => random.below(40),
+            1 => 32_768 + random.below(30),
+            _ => random.below(33_280),
+        };
+        frame[usize::try_from(at).unwrap_or(0)] ^= 1 << random.below(8);
+    }
+    let length = match random.below(20) {
+        0 => 0,
+        1 => FRAME_LENGTH - 1,
+        _ => FRAME_LENGTH,
+    };
+    frame[..length].to_vec()
+}
+
+#[test]
+fn choices() {
+    let mut random = Random::new(2);
+    let mut seen = [0; 4];
+    for seed in 0..ROUNDS * 3 {
+        let geometry = match random.below(4) {
+            0 => any_geometry(&mut random),
+            _ => Geometry::beginning(3_020, 1),
+        };
+        let first = any_header(&mut random, &geometry);
+        let second = if random.chance(300) {
+            first.clone()
+        } else {
+            any_header(&mut random, &geometry)
+        };
+        let place = |chosen: &[u8]| chosen.as_ptr();
+        let expected = header::choose(&geometry, &first, &second).map(place);
+        let chosen = Compared::choose(&geometry, &first, &second).map(place);
+        assert_eq!(chosen, expected, "seed {seed}");
+        seen[usize::from(chosen.err().unwrap_or(0))] += 1;
+    }
+    assert!(seen.iter().all(|count| *count > 20), "{seen:?}");
+}
+
+#[test]
+fn openings() {
+    let sizes = [
+        0,
+        1,
+        2,
+        63,
+        64,
+        65,
+        254,
+        255,
+        256,
+        257,
+        320,
+        65_536,
+        u32::MAX,
+    ];
+    let mut random = Random::new(3);
+    let mut seen = [0; 6];
+    for seed in 0..ROUNDS * 3 {
+        let geometry = match random.below(4) {
+            0 => any_geometry(&mut random),
+            _ => Geometry::beginning(3_001, 1),
+        };
+        let depth = random.one_of(&sizes).copied().unwrap_or(1);
+        let window_blocks = random.one_of(&sizes).copied().unwrap_or(1);
+        let newest = any_header(&mut random, &geometry);
+        let newest = Some(newest.as_slice()).filter(|_| random.chance(800));
+        let (session, outcome) = ComparedRecording::open(&geometry, depth, window_blocks, newest);
+        right(session.wrong(), seed);
+        let number = match outcome {
+            Outcome::Accepted => 0,
+            Outcome::Refused(number) => {
+                assert_eq!(ffi::record_filemark(session.layer).number, 7);
+                usize::from(number)
+            }
+        };
+        seen[number] += 1;
+        if let Some(newest) = newest {
+            let (session, outcome) = ComparedReading::open(&geometry, newest);
+            right(session.wrong(), seed);
+            if outcome != Outcome::Accepted {
+                assert_eq!(ffi::read_fetch(session.layer).number, 7);
+            }
+        }
+    }
+    assert!(seen.iter().all(|count| *count > 20), "{seen:?}");
+}
+
+#[test]
+fn every_size() {
+    let geometry = Geometry::beginning(3_001, 1);
+    for depth in 0..=300 {
+        for window_blocks in [0, 1, 32, 64, 65, 256, 257, 320] {
+            let (session, outcome) = ComparedRecording::open(&geometry, depth, window_blocks, None);
+            right(session.wrong(), depth);
+            let fits = (1..=255).contains(&depth) && (1..=64).contains(&window_blocks);
+            assert_eq!(outcome == Outcome::Accepted, fits);
+        }
+    }
+    for window_blocks in 0..=600 {
+        let (session, _) = ComparedRecording::open(&geometry, 255, window_blocks, None);
+        right(session.wrong(), window_blocks);
+    }
+}
+
+fn any_sense(random: &mut Random) -> Sense {
+    match random.one_of(&SENSES) {
+        Some((sense, _)) if random.chance(900) => *sense,
+        _ => Sense {
+            key: random.byte() % 16,
+            asc: random.byte() % 32,
+            ascq: random.byte() % 16,
+        },
+    }
+}
+
+/// A reply that often fits where the session stands.
+fn any_reply(random: &mut Random, session: &ffi::Recording) -> Reply {
+    let (next, outstanding) = match session.stage {
+        1 => (
+            session.elements.next,
+            u32::from(session.elements.outstanding),
+        ),
+        _ => (
+            ffi::header_address(session.copies.group.into(), 0)
+                .wrapping_add(session.copies.copy.into()),
+            u32::from(session.copies.outstanding),
+        ),
+    };
+    let writing = session.exchange.command.code != ffi::LOCATE && outstanding > 0;
+    let sense = match random.below(10) {
+        0 => BECOMING_READY,
+        1 | 2 if writing => WRITE_ERROR,
+        3 if random.chance(30) => any_sense(random),
+        _ => GOOD,
+    };
+    let skips = [0, 1, 3, 14, 255, 255, 255, 256, u32::MAX];
+    Reply {
+        sense,
+        buffered: if random.chance(998) {
+            random.below(outstanding + 1)
+        } else {
+            random.word()
+        },
+        position: Address(if random.chance(998) {
+            next.wrapping_sub(random.between(1, outstanding.max(1)))
+        } else {
+            random.between(5, 3_001)
+        }),
+        skip: match random.one_of(&skips) {
+            Some(skip) if random.chance(998) => (*skip).min(255),
+            skip => skip.copied().unwrap_or(0),
+        },
+    }
+}
+
+/// Lists of calls with replies that no drive vouches for.
+#[test]
+fn any_recording() {
+    let mut ends = [0; 13];
+    for seed in 0..ROUNDS {
+        let mut random = Random::new(u64::from(seed) + 77);
+        let geometry = match seed % 3 {
+            0 => Geometry::beginning(3_001, 1),
+            1 => Geometry::beginning(65_535, 65_535),
+            _ => Geometry::centre(100, 3_010),
+        };
+        let depth = random.between(1, 6);
+        let (mut session, _) = ComparedRecording::open(&geometry, depth, 3, None);
+        let mut window = vec![0x11; 3 * BLOCK_LENGTH];
+        let mut frame = [0x22; FRAME_LENGTH];
+        for _ in 0..random.below(1_000) {
+            let before = session.clone();
+            let outcome = match random.below(12) {
+                0 | 1 => session.accept_block(block(random.byte().into()), &mut window),
+                2 => session.accept_filemark(),
+                3 if random.chance(30) => session.close(),
+                4 if random.chance(30) => session.accept_block(&[1; 7], &mut window),
+                5 if random.chance(30) => session.accept_block(block(1), &mut window[1..]),
+                6 if random.chance(30) => number_of(session.fetch(&window, &mut frame[1..])),
+                7 if random.chance(30) => number_of(session.fetch(&window[1..], &mut frame)),
+                3..=7 => number_of(session.fetch(&window, &mut frame)),
+                _ => {
+                    let reply = any_reply(&mut random, &session.layer);
+                    session.reply(&reply)
+                }
+            };
+            right(session.wrong(), seed);
+            match outcome {
+                Outcome::Refused(number @ 1..=7) => {
+                    assert!(
+                        before == session,
+                        "seed {seed}: {number} altered the session"
+                    );
+                }
+                Outcome::Refused(number) => {
+                    ends[usize::from(number)] += 1;
+                    assert_eq!(session.accept_filemark(), Outcome::Refused(7));
+                    break;
+                }
+                Outcome::Accepted => {}
+            }
+        }
+    }
+    println!("{ends:?}");
+    assert!(ends[8] > 0 && ends[9] > 0, "{ends:?}");
+}
+
+fn number_of(answer: Answer) -> Outcome {
+    match answer {
+        Answer::Refused(number) => Outcome::Refused(number),
+        _ => Outcome::Accepted,
+    }
+}
+
+/// A frame near what the reading expects.
+fn any_frame(random: &mut Random, expected: u32, frame: &mut Frame) {
+    let kinds = [Kind::Data, Kind::Data, Kind::Data, Kind::Marker, Kind::Eod];
+    let number = match random.below(20) {
+        0 => expected.wrapping_sub(1),
+        1 if random.chance(100) => expected + 1,
+        _ => expected,
+    };
+    let kind = random.one_of(&kinds).copied().unwrap_or(Kind::Data);
+    let label = Label {
+        kind: if kind == Kind::Eod && random.chance(950) {
+            Kind::Data
+        } else {
+            kind
+        },
+        pass: if random.chance(900) { 7 } else { 6 },
+        last: Address(3_000),
+        number: SequenceNumber(number),
+        filemarks: random.below(3),
+        latest_marker: None,
+    };
+    fill_frame(frame, &label, Some(block(random.byte().into())));
+    if random.chance(60) {
+        let at = BLOCK_LENGTH + usize::try_from(random.below(210)).unwrap_or(0);
+        frame[at] ^= 1 << random.below(8);
+    }
+}
+
+/// Lists of a reading's calls with frames of every kind.
+#[test]
+fn any_reading() {
+    let mut ends = [0; 13];
+    let newest = valid_header(7, 3, 3_000);
+    let mut frame = Box::new([0; FRAME_LENGTH]);
+    for seed in 0..ROUNDS {
+        let mut random = Random::new(u64::from(seed) + 99);
+        let geometry = Geometry::beginning(3_001, 1);
+        let (mut session, _) = ComparedReading::open(&geometry, newest.as_slice());
+        for _ in 0..random.below(400) {
+            let before = session.clone();
+            let number = if random.chance(550) {
+                match session.fetch() {
+                    adr_model::ReadAnswer::Refused(number) => number,
+                    _ => 0,
+                }
+            } else {
+                any_frame(&mut random, session.layer.expected, &mut frame);
+                let sense = match random.below(12) {
+                    0 => any_sense(&mut random),
+                    1 => BECOMING_READY,
+                    2 => adr_model::reply::BLANK,
+                    3 => adr_model::reply::UNREADABLE,
+                    4 => adr_model::reply::RECOVERED,
+                    _ => GOOD,
+                };
+                let sense = match session.layer.exchange.command.code {
+                    ffi::LOCATE if random.chance(950) => GOOD,
+                    _ => sense,
+                };
+                let length = if random.chance(20) { 5 } else { FRAME_LENGTH };
+                match session.reply(&Reply::of(sense), &frame[..length]) {
+                    adr_model::ReadOutcome::Refused(number) => number,
+                    _ => 0,
+                }
+            };
+            right(session.wrong(), seed);
+            match number {
+                0 => {}
+                1..=7 => assert!(before == session, "seed {seed}"),
+                number => {
+                    ends[usize::from(number)] += 1;
+                    break;
+                }
+            }
+        }
+    }
+    println!("{ends:?}");
+    assert!(
+        [8, 10, 11, 12].iter().all(|number| ends[*number] > 0),
+        "{ends:?}"
+    );
+}
+
+/// A skip that does not fit 8 bits is refused with 8 where a reply is awaited,
+/// whatever the triple, and with 7 where none is.
+#[test]
+fn skips_too_wide() {
+    let geometry = geometry_of(&Geometry::beginning(3_001, 1));
+    let opened = ffi::record_open_blank(geometry, 1, 1).session;
+    let header = valid_header(1, 1, 3_000);
+    let reading = ffi::read_open(geometry, header.as_slice()).session;
+    let frame = [0; FRAME_LENGTH];
+    let window = [0; BLOCK_LENGTH];
+    let asked = ffi::record_fetch(opened, &window, &mut [0; FRAME_LENGTH]);
+    let read = ffi::read_fetch(reading).session;
+    assert_eq!(asked.command.code, ffi::LOCATE);
+    for (skip, number) in [(255, 0), (256, 8), (511, 8), (65_536, 8), (u32::MAX, 8)] {
+        let reply = ffi::Reply {
+            skip,
+            ..ffi::Reply::default()
+        };
+        assert_eq!(ffi::record_reply(opened, reply).number, 7);
+        assert_eq!(ffi::read_reply(reading, reply, &frame).number, 7);
+        assert_eq!(ffi::record_reply(asked.session, reply).number, number);
+        assert_eq!(ffi::read_reply(read, reply, &frame).number, number);
+        assert_eq!(ffi::read_reply(read, reply, &frame[1..]).number, 1);
+    }
+}
+
+/// Every triple of 32 x 32 x 16 around those listed, on every kind of command.
+#[test]
+fn every_triple() {
+    let geometry = Geometry::beginning(3_001, 1);
+    let (mut session, _) = ComparedRecording::open(&geometry, 2, 2, None);
+    let mut window = vec![0; 2 * BLOCK_LENGTH];
+    let mut frame = [0; FRAME_LENGTH];
+    session.accept_block(block(1), &mut window);
+    session.accept_block(block(2), &mut window);
+    session.close();
+    let mut seen = Vec::new();
+    for _ in 0..60 {
+        let Answer::Command(command) = session.fetch(&window, &mut frame) else {
+            break;
+        };
+        let kind = match command {
+            Command::Locate(_) => (0, session.layer.stage),
+            Command::Write(_) => (1, session.layer.stage),
+            _ => (2, session.layer.stage),
+        };
+        if !seen.contains(&kind) {
+            seen.push(kind);
+            triples_on(&session);
+        }
+        session.reply(&Reply::of(GOOD));
+        right(session.wrong(), 0);
+    }
+    assert_eq!(seen.len(), 9, "{seen:?}");
+    let newest = valid_header(7, 3, 3_000);
+    let (mut session, _) = ComparedReading::open(&geometry, newest.as_slice());
+    for _ in 0..2 {
+        session.fetch();
+        for sense in triples() {
+            let mut tried = session.clone();
+            tried.reply(&Reply::of(sense), &frame);
+            tried.fetch();
+            right(tried.wrong(), 0);
+        }
+        session.reply(&Reply::of(GOOD), &frame);
+    }
+}
+
+fn triples() -> impl Iterator<Item = Sense> {
+    (0..32u8).flat_map(|key| {
+        (0..32u8).flat_map(move |asc| (0..16u8).map(move |ascq| Sense { key, asc, ascq }))
+    })
+}
+
+fn triples_on(session: &ComparedRecording) {
+    for sense in triples() {
+        let mut tried = session.clone();
+        tried.reply(&Reply::of(sense));
+        tried.accept_filemark();
+        right(tried.wrong(), 0);
+    }
+}

@@ -1,0 +1,400 @@
+//! The tool on images that are damaged, cut off or not images, and after
+//! recordings that did not come to their end.
+
+#[path = "tool_place/mod.rs"]
+mod place;
+
+use std::fs::OpenOptions;
+use std::io::Write;
+use std::process::{Child, Stdio};
+
+use place::{bytes, Place};
+
+const PAGE: usize = 4_096;
+const ROOTS: [usize; 2] = [4_096, 8_192];
+const CELLS: usize = 12_288;
+const CELL: usize = 36_864;
+
+/// Commands that have nothing but an image to work on.
+const ON_AN_IMAGE: [&[&str]; 5] = [
+    &["list", "a.adr"],
+    &["restore", "a.adr", "1"],
+    &["check", "a.adr"],
+    &["map", "a.adr"],
+    &["record", "--overwrite", "a.adr", "file"],
+];
+
+/// A place with an image of one recording.
+fn recorded(name: &str) -> Place {
+    let place = Place::new(name);
+    place.write("file", &bytes(200_000, 1));
+    place.write("new", &bytes(300_000, 2));
+    place.adr(&["format", "a.adr"]).succeeded();
+    place.adr(&["record", "a.adr", "file"]).succeeded();
+    place
+}
+
+/// Every command fails with a message, and the image stays as it is.
+#[track_caller]
+fn refused_and_unchanged(place: &Place, image: &[u8], why: &str) {
+    place.write("a.adr", image);
+    for words in ON_AN_IMAGE {
+        let ran = place.adr(words).failed();
+        assert!(ran.error.contains(why), "{words:?}: {}", ran.error);
+        assert!(place.read("a.adr") == image, "{words:?} changed the image");
+    }
+}
+
+#[test]
+fn no_image() {
+    let place = Place::new("none");
+    place.write("file", b"x");
+    for words in ON_AN_IMAGE {
+        let ran = place.adr(words).failed();
+        assert!(ran.error.contains("no such image; 'adr format'"));
+        assert!(!place.path("a.adr").exists());
+    }
+    std::fs::create_dir(place.path("a.adr")).expect("a directory");
+    for words in ON_AN_IMAGE {
+        place.adr(words).failed();
+    }
+    place.adr(&["format", "--overwrite", "a.adr"]).failed();
+}
+
+#[test]
+fn foreign_files() {
+    let place = Place::new("foreign");
+    place.write("file", b"x");
+    for foreign in [
+        b"".to_vec(),
+        b"ADR".to_vec(),
+        b"%PDF-1.4 and so on".to_vec(),
+        bytes(100_000, 3),
+        vec![0; 100_000],
+    ] {
+        refused_and_unchanged(&place, &foreign, "not a cartridge image");
+        let format = place.adr(&["format", "--overwrite", "a.adr"]);
+        if foreign.is_empty() {
+            format.succeeded();
+        } else {
+            assert!(format.failed().error.contains("left alone"));
+            assert_eq!(place.read("a.adr"), foreign);
+        }
+    }
+}
+
+#[test]
+fn cut_off_images() {
+    let place = recorded("cut");
+    let image = place.read("a.adr");
+    for length in [
+        8,
+        100,
+        PAGE,
+        ROOTS[1],
+        CELLS - 1,
+        CELLS,
+        CELLS + CELL,
+        image.len() - CELL,
+        image.len() - 1,
+    ] {
+        refused_and_unchanged(&place, &image[..length], "truncated");
+    }
+}
+
+#[test]
+fn damaged_heads_roots_and_indexes() {
+    let place = recorded("damaged");
+    let image = place.read("a.adr");
+    for at in [8, 12, 16, 20, 2_000, PAGE - 1] {
+        let mut damaged = image.clone();
+        damaged[at] ^= 1;
+        refused_and_unchanged(&place, &damaged, "the image is damaged");
+    }
+    let mut damaged = image.clone();
+    damaged[ROOTS[0] + 9] ^= 1;
+    damaged[ROOTS[1] + 4_000] ^= 1;
+    refused_and_unchanged(&place, &damaged, "both of its roots");
+    for at in [0, 8, 12, 16, 24, 500] {
+        let mut damaged = image.clone();
+        damaged[index_of(&image) + at] ^= 1;
+        refused_and_unchanged(&place, &damaged, "its index");
+    }
+}
+
+/// Where the index starts that the newer root names.
+fn index_of(image: &[u8]) -> usize {
+    let newer = ROOTS.into_iter().max_by_key(|root| number(image, root + 8));
+    CELLS + number(image, newer.unwrap_or(0) + 24) * CELL
+}
+
+/// The 64-bit number at `at`.
+fn number(image: &[u8], at: usize) -> usize {
+    let bytes = image[at..at + 8].iter();
+    bytes.fold(0, |sum, byte| sum * 256 + usize::from(*byte))
+}
+
+/// Both roots lead to the same content.
+#[test]
+fn one_damaged_root() {
+    let place = recorded("root");
+    place
+        .adr(&["record", "--overwrite", "a.adr", "new"])
+        .succeeded();
+    let image = place.read("a.adr");
+    for root in ROOTS {
+        let mut damaged = image.clone();
+        damaged[root + 8] ^= 1;
+        place.write("a.adr", &damaged);
+        let check = place.adr(&["check", "a.adr"]).failed();
+        assert!(check.error.contains("one of the image's two roots"));
+        let restored = place.adr(&["restore", "a.adr", "1"]).succeeded();
+        assert_eq!(restored.output, place.read("new"));
+        place
+            .adr(&["record", "--overwrite", "a.adr", "file"])
+            .succeeded();
+        place.adr(&["check", "a.adr"]).succeeded();
+    }
+}
+
+#[test]
+fn damaged_frames() {
+    let place = recorded("frames");
+    let image = place.read("a.adr");
+    let cells = (image.len() - CELLS) / CELL;
+    let (mut harmless, mut found) = (0, 0);
+    let index = (index_of(&image) - CELLS) / CELL;
+    for cell in (0..cells).filter(|cell| *cell != index) {
+        let mut damaged = image.clone();
+        damaged[CELLS + cell * CELL + 77] ^= 0x40;
+        place.write("a.adr", &damaged);
+        // A frame that the recording wrote twice is in no cell any more.
+        let check = place.adr(&["check", "a.adr"]);
+        if check.status == Some(0) {
+            harmless += 1;
+            continue;
+        }
+        let check = check.failed();
+        assert!(check.error.contains("is damaged"), "{}", check.error);
+        found += 1;
+        let restored = place.adr(&["restore", "a.adr", "1", "-o", "out"]);
+        if restored.status == Some(0) {
+            // A copy of the header; there are others.
+            assert_eq!(place.read("out"), place.read("file"));
+            std::fs::remove_file(place.path("out")).expect("it");
+        } else {
+            let restored = restored.failed();
+            let told = restored.error.contains("damaged at address");
+            assert!(told, "{}", restored.error);
+            assert!(!place.path("out").exists());
+        }
+        assert!(place.read("a.adr") == damaged);
+    }
+    assert!(found >= 19 && harmless <= 10, "{found} {harmless}");
+}
+
+#[test]
+fn damaged_headers() {
+    let place = recorded("headers");
+    let image = place.read("a.adr");
+    let headers: Vec<usize> = (CELLS..image.len())
+        .step_by(CELL)
+        .filter(|cell| image[*cell..].starts_with(b"ADR_SEQ\0"))
+        .collect();
+    assert_eq!(headers.len(), 10);
+    let mut damaged = image.clone();
+    for header in &headers {
+        damaged[header + 20_000] ^= 1;
+    }
+    refused_and_unchanged(&place, &damaged, "damaged at address");
+    // With one copy left everything can be read, but nothing recorded.
+    damaged[headers[7] + 20_000] ^= 1;
+    place.write("a.adr", &damaged);
+    let restored = place.adr(&["restore", "a.adr", "1"]).succeeded();
+    assert_eq!(restored.output, place.read("file"));
+    let record = place.adr(&["record", "--overwrite", "a.adr", "new"]);
+    assert!(record.failed().error.contains("copies of the header"));
+    assert!(place.read("a.adr") == damaged);
+}
+
+#[test]
+fn killed_while_recording() {
+    let place = recorded("killed");
+    let before = place.read("a.adr").len();
+    for amount in [0, 40_000, 3_000_000, 20_000_000] {
+        let mut child = place
+            .command(&["record", "--overwrite", "a.adr", "-"])
+            .stdin(Stdio::piped())
+            .spawn()
+            .expect("the tool");
+        feed(&mut child, amount);
+        child.kill().expect("it runs");
+        let status = child.wait().expect("it ended");
+        assert!(!status.success());
+        old_content_stands(&place);
+    }
+    assert!(place.read("a.adr").len() > before);
+    place
+        .adr(&["record", "--overwrite", "a.adr", "new"])
+        .succeeded();
+    let restored = place.adr(&["restore", "a.adr", "1"]).succeeded();
+    assert_eq!(restored.output, place.read("new"));
+    place.adr(&["check", "a.adr"]).succeeded();
+}
+
+/// Gives a child some bytes, and keeps its input open.
+fn feed(child: &mut Child, amount: usize) {
+    let input = child.stdin.as_mut().expect("a pipe");
+    let some = bytes(40_000, 7);
+    let mut left = amount;
+    while left > 0 {
+        let part = &some[..left.min(some.len())];
+        input.write_all(part).expect("it reads");
+        left -= part.len();
+    }
+}
+
+#[track_caller]
+fn old_content_stands(place: &Place) {
+    let restored = place.adr(&["restore", "a.adr", "1"]).succeeded();
+    assert_eq!(restored.output, place.read("file"));
+    place.adr(&["check", "a.adr"]).succeeded();
+}
+
+#[test]
+fn no_room_left() {
+    let place = recorded("room-left");
+    let length = place.read("a.adr").len();
+    // Blocks of 512 bytes: a limit below what the new recording needs.
+    for more in [0, 36_864, 200_000, 400_000] {
+        let limit = (length + more) / 512;
+        let line = "$ADR record --overwrite a.adr new";
+        // A write that fails, as on a full disk.
+        let failed = place
+            .shell(&format!("trap '' XFSZ; ulimit -f {limit}; {line}"))
+            .failed();
+        assert!(failed.error.contains("a.adr: "), "{}", failed.error);
+        assert!(failed.error.contains("holds what it held before"));
+        assert_eq!(place.read("a.adr").len(), length);
+        old_content_stands(&place);
+        // A process that is ended in the middle of a write.
+        let ended = place.shell(&format!("ulimit -c 0; ulimit -f {limit}; {line}"));
+        assert_ne!(ended.status, Some(0));
+        old_content_stands(&place);
+        place
+            .shell(&format!("truncate -s {length} a.adr"))
+            .succeeded();
+    }
+    place
+        .adr(&["record", "--overwrite", "a.adr", "new"])
+        .succeeded();
+    place.adr(&["check", "a.adr"]).succeeded();
+}
+
+#[test]
+fn input_that_fails() {
+    let place = recorded("input");
+    let image = place.read("a.adr");
+    std::fs::create_dir(place.path("directory")).expect("a directory");
+    for words in [
+        &["record", "--overwrite", "a.adr", "new", "directory"][..],
+        &["record", "--overwrite", "a.adr", "missing"],
+    ] {
+        place.adr(words).failed();
+        assert!(place.read("a.adr") == image);
+    }
+    // Standard input that is a directory cannot be read.
+    place
+        .shell("$ADR record --overwrite a.adr new - < directory")
+        .failed();
+    old_content_stands(&place);
+    assert_eq!(place.read("a.adr").len(), image.len());
+}
+
+/// A power cut leaves some of the pages written since the last time the file
+/// was brought to disk, in any order. A root is written after all else was
+/// brought there, and the second root after the first was.
+#[test]
+fn power_cut() {
+    let place = recorded("power");
+    let (old, new) = (place.read("file"), place.read("new"));
+    let before = place.read("a.adr");
+    place
+        .adr(&["record", "--overwrite", "a.adr", "new"])
+        .succeeded();
+    let after = place.read("a.adr");
+    let changed: Vec<usize> = (3..after.len() / PAGE)
+        .filter(|page| part(&before, *page) != Some(page_of(&after, *page)))
+        .collect();
+    assert!(changed.len() > 50);
+    let restored = |image: &[u8]| {
+        place.write("a.adr", image);
+        place.adr(&["restore", "a.adr", "1"]).succeeded().output
+    };
+
+    let mut random = adr_model::random::Random::new(1);
+    let mut image = before.clone();
+    for _ in 0..40 {
+        image.clone_from(&before);
+        for page in changed.iter().filter(|_| random.chance(500)) {
+            put(&mut image, *page, page_of(&after, *page));
+        }
+        assert_eq!(restored(&image), old);
+        place.adr(&["check", "a.adr"]).succeeded();
+    }
+    for page in &changed {
+        put(&mut image, *page, page_of(&after, *page));
+    }
+    assert_eq!(restored(&image), old);
+    let first = ROOTS
+        .into_iter()
+        .min_by_key(|root| number(&before, root + 8));
+    let second = ROOTS
+        .into_iter()
+        .max_by_key(|root| number(&before, root + 8));
+    for (root, earlier) in [(first, &old), (second, &new)] {
+        let root = root.expect("a root");
+        for torn in (0..=PAGE).step_by(128) {
+            let mut image = image.clone();
+            image[root..root + torn].copy_from_slice(&after[root..root + torn]);
+            let restored = restored(&image);
+            assert!(restored == *earlier || restored == new, "{root} {torn}");
+        }
+        put(&mut image, root / PAGE, page_of(&after, root / PAGE));
+        assert_eq!(restored(&image), new);
+    }
+    assert!(image == after);
+}
+
+fn page_of(image: &[u8], page: usize) -> &[u8] {
+    &image[page * PAGE..(page + 1) * PAGE]
+}
+
+fn part(image: &[u8], page: usize) -> Option<&[u8]> {
+    image.get(page * PAGE..(page + 1) * PAGE)
+}
+
+fn put(image: &mut Vec<u8>, page: usize, content: &[u8]) {
+    let end = (page + 1) * PAGE;
+    if image.len() < end {
+        image.resize(end, 0);
+    }
+    image[page * PAGE..end].copy_from_slice(content);
+}
+
+#[test]
+fn images_that_may_not_be_written() {
+    let place = recorded("readonly");
+    let image = place.path("a.adr");
+    let mut permissions = std::fs::metadata(&image).expect("it").permissions();
+    permissions.set_readonly(true);
+    std::fs::set_permissions(&image, permissions).expect("its owner");
+    old_content_stands(&place);
+    // The system's administrator may write to it all the same.
+    if OpenOptions::new().write(true).open(&image).is_err() {
+        place
+            .adr(&["record", "--overwrite", "a.adr", "new"])
+            .failed();
+        old_content_stands(&place);
+    }
+}

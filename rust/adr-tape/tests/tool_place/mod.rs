@@ -1,0 +1,103 @@
+//! A directory for one test, and runs of the tool in it.
+#![allow(dead_code)] // Each test program uses its own part.
+
+use std::path::PathBuf;
+use std::process::{Command, Output, Stdio};
+
+/// The tool.
+pub const ADR: &str = env!("CARGO_BIN_EXE_adr");
+
+/// A directory that is removed when the test is over.
+pub struct Place {
+    directory: PathBuf,
+}
+
+/// What a run came to.
+#[derive(Debug, Default)]
+pub struct Ran {
+    pub status: Option<i32>,
+    pub output: Vec<u8>,
+    pub error: String,
+}
+
+impl Place {
+    pub fn new(name: &str) -> Place {
+        let name = format!("adr-tool-{name}-{}", std::process::id());
+        let directory = std::env::temp_dir().join(name);
+        std::fs::create_dir(&directory).expect("a directory of its own");
+        Place { directory }
+    }
+
+    pub fn path(&self, name: &str) -> PathBuf {
+        self.directory.join(name)
+    }
+
+    pub fn read(&self, name: &str) -> Vec<u8> {
+        std::fs::read(self.path(name)).expect("a file")
+    }
+
+    pub fn write(&self, name: &str, bytes: &[u8]) {
+        std::fs::write(self.path(name), bytes).expect("room for a file");
+    }
+
+    /// The tool with some words, not yet run.
+    pub fn command(&self, words: &[&str]) -> Command {
+        let mut command = Command::new(ADR);
+        command.args(words).current_dir(&self.directory);
+        command.stdin(Stdio::null());
+        command
+    }
+
+    pub fn adr(&self, words: &[&str]) -> Ran {
+        Ran::of(self.command(words).output().expect("the tool"))
+    }
+
+    /// Runs a shell's command line; `$ADR` is the tool.
+    pub fn shell(&self, line: &str) -> Ran {
+        let mut command = Command::new("sh");
+        command.args(["-c", line]).env("ADR", ADR);
+        command.current_dir(&self.directory).stdin(Stdio::null());
+        Ran::of(command.output().expect("a shell"))
+    }
+}
+
+impl Drop for Place {
+    fn drop(&mut self) {
+        let _ = std::fs::remove_dir_all(&self.directory);
+    }
+}
+
+impl Ran {
+    fn of(output: Output) -> Ran {
+        Ran {
+            status: output.status.code(),
+            output: output.stdout,
+            error: String::from_utf8_lossy(&output.stderr).into_owned(),
+        }
+    }
+
+    pub fn output_text(&self) -> &str {
+        std::str::from_utf8(&self.output).expect("text")
+    }
+
+    #[track_caller]
+    pub fn succeeded(self) -> Ran {
+        assert_eq!(self.status, Some(0), "{}", self.error);
+        self
+    }
+
+    /// Failed with a message.
+    #[track_caller]
+    pub fn failed(self) -> Ran {
+        assert_eq!(self.status, Some(1), "{}", self.error);
+        assert!(self.error.starts_with("adr: "), "{}", self.error);
+        assert!(!self.error.contains("panicked"), "{}", self.error);
+        self
+    }
+}
+
+/// Bytes that are alike in every run.
+pub fn bytes(length: usize, seed: u64) -> Vec<u8> {
+    let mut random = adr_model::random::Random::new(seed);
+    (0..length).map(|_| random.byte()).collect()
+}
