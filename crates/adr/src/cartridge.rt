@@ -1,6 +1,5 @@
 // The cartridge's addresses, and the choice of the newer header.
 ghost use mathlib.Core.Path.{_≡_};
-ghost use Prim.Native.Nat.{_%_};
 ghost use Rattle.geometry.specs.Cartridge.{framesOf, lastOf, isUser, headerAddress};
 ghost use Rattle.header.specs.Choice.{choiceOf};
 ghost use Rattle.twins.specs.Numbers.{flagNumber};
@@ -44,7 +43,7 @@ pub extern "C" fn adr_is_user(last: u32, address: u32) -> u8
 // The address of a header copy, 0 to 4, of a group, 0 or 1. Copies count modulo 5 and groups modulo 2.
 #[no_mangle]
 pub extern "C" fn adr_header_address(group: u32, copy: u32) -> u32
-    ensures { λ r. ⌜ r ≡ headerAddress (group % 2) (copy % 5) ⌝ }
+    ensures { λ r. ⌜ r ≡ headerAddress group copy ⌝ }
 {
     header_address((group % 2) as u8, (copy % 5) as u8).0
 }

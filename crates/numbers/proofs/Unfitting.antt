@@ -1,39 +1,69 @@
--- Numbers that do not fit are refused as they must be: D and W with 4, a skip with 8. Assumes nothing.
+-- Numbers that do not fit are refused as they must be: a geometry with 2, D and W with 4, a skip with 8. Assumes nothing.
 use Prim.Native.Nat.{ℕ, _<_}
 use mathlib.Core.Path.{_≡_, refl, ap, _∙_}
 use mathlib.Core.Bool.{Bool, false, _||_, not}
 use mathlib.Core.List.{List}
+use mathlib.Core.Logic.{_⊎_, inl, inr}
 use borrow.Author.Tests.{lt-leb, eq-eqb}
 use lib.Dec.{eqb}
 use lib.ListN.{length}
 use Rattle.geometry.proofs.PickLaws.{pick-t, pick-f}
 use Rattle.geometry.proofs.TestLaws.{either-right}
+use Rattle.geometry.specs.Place.{address, refused}
+use Rattle.geometry.specs.Cartridge.{lastOf}
+use Rattle.geometry.specs.declared.cartridge.Geometry.{Geometry}
 use Rattle.frame.specs.Lengths.{frameLength}
 use Rattle.frame.specs.declared.header.Header.{Header}
+use Rattle.header.specs.Read as checked
+use Rattle.header.specs.Read.{valid, readHeader}
 use Rattle.drive.specs.Senses.{meaningIn}
 use Rattle.drive.specs.Cases.{caseOf}
 use Rattle.drive.specs.declared.command.Command.{Command}
 use Rattle.drive.specs.declared.command.Command.the-variants.{Read, Write, Locate, ReadPosition}
 use Rattle.recording_state.specs.declared.state.State.{State}
 use Rattle.recording_state.specs.State.{ending}
-use Rattle.recording_state.specs.Open.{openRefused, openWith}
+use Rattle.copies.specs.Carried.{openingHeader, isExhausted, renewed}
+use Rattle.recording_state.specs.Open.{openRefused, openWith, openOf, openBlankOf}
 use Rattle.recording_state.specs.Reply.{replyBy, replyOf}
 use Rattle.reading_state.specs.declared.state.State as reading
 use Rattle.reading_state.specs.Reply as reading-reply
 use Rattle.numbers.specs.declared.arguments.AdrReply.{AdrReply}
 use Rattle.numbers.specs.Arguments as arguments
-use Rattle.numbers.specs.Arguments.{sizeOf, meaningless}
+use Rattle.numbers.specs.declared.arguments.AdrGeometry.{AdrGeometry}
+use Rattle.numbers.specs.Arguments.{isGeometry, withoutFrames, geometryOf, sizeOf, meaningless}
+
+-- numbers that are no geometry's
+no-geometry : (g : AdrGeometry) → isGeometry g ≡ false → geometryOf g ≡ withoutFrames
+unfolding geometryOf
+no-geometry g h = pick-f _ h
+
+pub last-2 : (g : AdrGeometry) → isGeometry g ≡ false → lastOf (geometryOf g) ≡ refused 2
+last-2 g h = ap lastOf (no-geometry g h)
+
+pub header-2 : (g : AdrGeometry) (header : List ℕ) → isGeometry g ≡ false → length header ≡ frameLength → readHeader (geometryOf g) header ≡ checked.refused 2
+unfolding readHeader
+header-2 g header h k = rw (no-geometry g h, eq-eqb _ _ k)
 
 size-0 : (n : ℕ) → 255 < n → sizeOf n ≡ 0
 size-0 n h = pick-f n (lt-leb n 255 h)
 
-pub depth-4 : (depth window : ℕ) (exhausted : Bool) (h : Header) → 255 < depth → openWith (sizeOf depth) window exhausted h ≡ openRefused 4
+size-4 : (depth window : ℕ) (exhausted : Bool) (h : Header) → (sizeOf depth ≡ 0) ⊎ (sizeOf window ≡ 0) → openWith (sizeOf depth) (sizeOf window) exhausted h ≡ openRefused 4
 unfolding openWith
-depth-4 depth window exhausted h k = rw (size-0 depth k)
+size-4 depth window exhausted h (inl k) = rw k
+size-4 depth window exhausted h (inr k) = rw k (pick-t _ (either-right (eqb (sizeOf depth) 0) _ refl))
 
-pub window-4 : (depth window : ℕ) (exhausted : Bool) (h : Header) → 255 < window → openWith depth (sizeOf window) exhausted h ≡ openRefused 4
-unfolding openWith
-window-4 depth window exhausted h k = rw (size-0 window k) (pick-t _ (either-right (eqb depth 0) _ refl))
+-- D or W above 255, where the cartridge and its header are not refused
+unfitting : (depth window : ℕ) → (255 < depth) ⊎ (255 < window) → (sizeOf depth ≡ 0) ⊎ (sizeOf window ≡ 0)
+unfitting depth window (inl k) = inl (size-0 depth k)
+unfitting depth window (inr k) = inr (size-0 window k)
+
+pub open-4 : (g : Geometry) (depth window : ℕ) (header : List ℕ) (old : Header) → readHeader g header ≡ valid old → (255 < depth) ⊎ (255 < window) → openOf g (sizeOf depth) (sizeOf window) header ≡ openRefused 4
+unfolding openOf
+open-4 g depth window header old h k = rw h (size-4 depth window (isExhausted old) (renewed old) (unfitting depth window k))
+
+pub blank-4 : (g : Geometry) (depth window last : ℕ) → lastOf g ≡ address last → (255 < depth) ⊎ (255 < window) → openBlankOf g (sizeOf depth) (sizeOf window) ≡ openRefused 4
+unfolding openBlankOf
+blank-4 g depth window last h k = rw h (size-4 depth window false (openingHeader last 1 0) (unfitting depth window k))
 
 reply-meaningless : (r : AdrReply) → 255 < r .skip → arguments.replyOf r ≡ meaningless
 unfolding arguments.replyOf
