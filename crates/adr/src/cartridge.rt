@@ -2,14 +2,14 @@
 ghost use mathlib.Core.Path.{_≡_};
 ghost use Prim.Native.Nat.{_%_};
 ghost use Rattle.geometry.specs.Cartridge.{framesOf, lastOf, isUser, headerAddress};
-ghost use Rattle.header.specs.Choice.{choiceOf};
+ghost use Rattle.header_choice.specs.Choice.{choiceOf};
 ghost use Rattle.twins.specs.Numbers.{flagNumber};
 ghost use Rattle.numbers.specs.Arguments.{geometryOf};
 ghost use Rattle.numbers.specs.Cartridge.{placeTwin, choiceTwin};
 use geometry::Address;
 use geometry::header_address;
 use geometry::is_user;
-use header::decide;
+use header_choice::decide;
 use numbers::AdrChoice;
 use numbers::AdrGeometry;
 use numbers::AdrPlace;

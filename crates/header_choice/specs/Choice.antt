@@ -10,10 +10,10 @@ use Rattle.geometry.specs.Refused.{refusalNumber}
 use Rattle.geometry.specs.declared.cartridge.Geometry.{Geometry}
 use Rattle.frame.specs.Lengths.{dataLength}
 use Rattle.buffer.specs.Bytes.{agree}
-use Rattle.header.specs.declared.choice.Choice.{Choice}
-use Rattle.header.specs.declared.choice.Choice.the-variants.{First, Second, Refused}
+use Rattle.header_choice.specs.declared.Choice.{Choice}
+use Rattle.header_choice.specs.declared.Choice.the-variants.{First, Second, Refused}
 use Rattle.header.specs.Valid.{updateOf}
 use Rattle.header.specs.Read.{CheckedSaid, valid, refused, readHeader}
 
 pub data ChoiceSaid : Type 0 where
   first : ChoiceSaid

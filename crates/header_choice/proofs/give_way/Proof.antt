@@ -3,8 +3,8 @@ use Rattle.geometry.proofs.PickLaws.{pick-t, pick-f}
 use borrow.Author.Tests.{eq-eqb, ne-eqb}
 use mathlib.Core.Path.{sym, _∙_}
 use borrow.Author.Needs.{needs}
-use Rattle.header.proofs.choice.give_way.Statement.{statement}
-use Rattle.header.proofs.choice.give_way.Tie as tie
+use Rattle.header_choice.proofs.give_way.Statement.{statement}
+use Rattle.header_choice.proofs.give_way.Tie as tie
 
 number-requires : tie.Need-number-requires
 number-requires c κs = search needs

@@ -1,13 +1,12 @@
--- x Assumes nothing.
-use Rattle.header.proofs.ReadLaws.{taken-long}
 -- Each pair of arms is the case of the definition for what the parts are. Assumes nothing.
-use Rattle.header.proofs.Choices.{by-checked}
+use Rattle.header.proofs.ReadLaws.{taken-long}
+use Rattle.header_choice.proofs.Choices.{by-checked}
 use Rattle.header.specs.Read.{checkedSaid}
-use Rattle.header.specs.Choice.{neither}
+use Rattle.header_choice.specs.Choice.{neither}
 use mathlib.Core.Path.{ap, sym, _∙_}
 use borrow.Author.Needs.{needs}
-use Rattle.header.proofs.choice.decide.Statement.{statement}
-use Rattle.header.proofs.choice.decide.Tie as tie
+use Rattle.header_choice.proofs.decide.Statement.{statement}
+use Rattle.header_choice.proofs.decide.Tie as tie
 
 read-header-requires : tie.Need-read-header-requires
 read-header-requires c κs = search needs

@@ -3,9 +3,7 @@ ghost use mathlib.Core.Path.{_≡_};
 ghost use lib.ListN.{length};
 ghost use Rattle.frame.specs.Lengths.{frameLength};
 ghost use Rattle.geometry.specs.Refused.{refusalNumber, verdictNumber};
-ghost use Rattle.header.specs.Choice.{choiceSaid, newerOf, givesWay, lowerOf, choiceOf, choiceNumber, Returned};
-use crate::read::Checked;
-use crate::read::read_header;
+ghost use Rattle.header_choice.specs.Choice.{choiceSaid, newerOf, givesWay, lowerOf, choiceOf, choiceNumber, Returned};
 use buffer::agrees;
 use buffer::be32_at;
 use frame::DATA_LENGTH;
@@ -13,6 +11,8 @@ use geometry::Geometry;
 use geometry::Refusal;
 use geometry::Verdict;
 use geometry::number;
+use header::Checked;
+use header::read_header;
 
 pub enum Choice {
     First,

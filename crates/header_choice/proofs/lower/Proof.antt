@@ -7,8 +7,8 @@ use borrow.Author.Tests.{lt-ltb, le-ltb}
 use native.Mathlib.Omega.{arith}
 use mathlib.Core.Path.{sym}
 use borrow.Author.Needs.{needs}
-use Rattle.header.proofs.choice.lower.Statement.{statement}
-use Rattle.header.proofs.choice.lower.Tie as tie
+use Rattle.header_choice.proofs.lower.Statement.{statement}
+use Rattle.header_choice.proofs.lower.Tie as tie
 
 number-requires : tie.Need-number-requires
 number-requires c κs = search needs

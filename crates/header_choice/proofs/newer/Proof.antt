@@ -4,10 +4,10 @@ use native.Mathlib.Omega.{arith}
 use borrow.Author.Needs.{needs}
 use lib.Seq.{length-take-le}
 use Rattle.geometry.proofs.PickLaws.{pick-t, pick-f}
 use Rattle.header.specs.Valid.{updateOf}
-use Rattle.header.proofs.Choices.{higher-first, higher-second, equal-counts}
-use Rattle.header.proofs.choice.newer.Statement.{statement}
-use Rattle.header.proofs.choice.newer.Tie as tie
+use Rattle.header_choice.proofs.Choices.{higher-first, higher-second, equal-counts}
+use Rattle.header_choice.proofs.newer.Statement.{statement}
+use Rattle.header_choice.proofs.newer.Tie as tie
 
 be32-at-requires : tie.Need-be32-at-requires
 be32-at-requires c κs = search needs

@@ -1,9 +1,9 @@
 -- Each arm hands back the part that the choice names. Assumes nothing.
 use mathlib.Core.Path.{sym, ap, _∙_}
 use borrow.Author.Needs.{needs}
-use Rattle.header.specs.Choice.{choiceSaid}
-use Rattle.header.proofs.choice.choose.Statement.{statement}
-use Rattle.header.proofs.choice.choose.Tie as tie
+use Rattle.header_choice.specs.Choice.{choiceSaid}
+use Rattle.header_choice.proofs.choose.Statement.{statement}
+use Rattle.header_choice.proofs.choose.Tie as tie
 
 decide-requires : tie.Need-decide-requires
 decide-requires c κs = search needs

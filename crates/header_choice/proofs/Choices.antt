@@ -9,9 +9,9 @@ use Rattle.geometry.specs.Pick.{pick}
 use Rattle.geometry.proofs.PickLaws.{pick-t, pick-f}
 use Rattle.buffer.specs.Bytes.{agree}
 use Rattle.geometry.specs.declared.cartridge.Geometry.{Geometry}
 use Rattle.header.specs.Valid.{updateOf}
 use Rattle.header.specs.Read.{CheckedSaid, readHeader}
-use Rattle.header.specs.Choice.{first, second, neither, newerOf, choiceBy, choiceOf}
+use Rattle.header_choice.specs.Choice.{first, second, neither, newerOf, choiceBy, choiceOf}
 
 -- by what each part is
 pub by-checked : (g : Geometry) (a b : List ℕ) {c d : CheckedSaid} → c ≡ readHeader g a → d ≡ readHeader g b → choiceBy c d a b ≡ choiceOf g a b

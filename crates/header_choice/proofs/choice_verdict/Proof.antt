@@ -1,9 +1,9 @@
 -- Each arm gives the number that the choice names. Assumes nothing.
 use mathlib.Core.Path.{sym, ap, _∙_}
 use borrow.Author.Needs.{needs}
-use Rattle.header.specs.Choice.{choiceSaid, choiceNumber}
-use Rattle.header.proofs.choice.choice_verdict.Statement.{statement}
-use Rattle.header.proofs.choice.choice_verdict.Tie as tie
+use Rattle.header_choice.specs.Choice.{choiceSaid, choiceNumber}
+use Rattle.header_choice.proofs.choice_verdict.Statement.{statement}
+use Rattle.header_choice.proofs.choice_verdict.Tie as tie
 
 decide-requires : tie.Need-decide-requires
 decide-requires c κs = search needs
