@@ -1,6 +1,6 @@
 // Which header the copies carry.
 ghost use mathlib.Core.Path.{_≡_};
-ghost use Rattle.copies.specs.Carried.{openingHeader, isExhausted, renewed, closingOf};
+ghost use Rattle.carried_headers.specs.Carried.{openingHeader, isExhausted, renewed, closingOf};
 use frame::Header;
 use geometry::Address;
 

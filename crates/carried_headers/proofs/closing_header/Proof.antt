@@ -1,10 +1,10 @@
--- `copies::carried::closing_header` meets its contract: the address before the next, and the wrapping sum's promise. Assumes nothing.
+-- `carried_headers::closing_header` meets its contract: the address before the next, and the wrapping sum's promise. Assumes nothing.
 use Prim.Native.Nat.{_-_}
 use mathlib.Core.Path.{_≡_}
 use mathlib.Core.Logic.{⊎-elim}
 use native.Mathlib.Omega.{arith}
-use Rattle.copies.proofs.carried.closing_header.Statement.{statement}
-use Rattle.copies.proofs.carried.closing_header.Tie as tie
+use Rattle.carried_headers.proofs.closing_header.Statement.{statement}
+use Rattle.carried_headers.proofs.closing_header.Tie as tie
 
 wrapping-add-u32-requires : tie.Need-wrapping-add-u32-requires
 wrapping-add-u32-requires c κs = tt
