@@ -1,14 +1,14 @@
 // The cartridge's addresses, and the choice of the newer header.
 ghost use mathlib.Core.Path.{_≡_};
 ghost use Rattle.geometry.specs.Cartridge.{framesOf, lastOf, isUser, headerAddress};
-ghost use Rattle.header.specs.Choice.{choiceOf};
+ghost use Rattle.header_choice.specs.Choice.{choiceOf};
 ghost use Rattle.twins.specs.Numbers.{flagNumber};
 ghost use Rattle.numbers.specs.Arguments.{geometryOf};
 ghost use Rattle.numbers.specs.Cartridge.{placeTwin, choiceTwin};
 use geometry::Address;
 use geometry::header_address;
 use geometry::is_user;
-use header::decide;
+use header_choice::decide;
 use numbers::AdrChoice;
 use numbers::AdrGeometry;
 use numbers::AdrPlace;

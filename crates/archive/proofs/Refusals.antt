@@ -11,7 +11,7 @@ use Rattle.geometry.specs.Cartridge.{lastOf}
 use Rattle.geometry.proofs.PickLaws.{pick-by}
 use Rattle.frame.specs.declared.header.Header.{Header}
 use Rattle.header.specs.Read.{CheckedSaid, valid, refused, readHeader}
-use Rattle.copies.specs.Carried.{openingHeader, isExhausted, renewed}
+use Rattle.carried_headers.specs.Carried.{openingHeader, isExhausted, renewed}
 use Rattle.drive.specs.declared.reply.Reply.{Reply}
 use Rattle.recording_state.specs.Open.{openWith, openFor, openOf, openBlankFor, openBlankOf}
 use Rattle.recording_state.specs.State as session

@@ -3,8 +3,8 @@ use edge_output::print_refused;
 use frame::Header;
 use geometry::Address;
 use geometry::Geometry;
-use header::choose;
 use header_building::build_header;
+use header_choice::choose;
 use reading::Opened;
 use reading::Reading;
 

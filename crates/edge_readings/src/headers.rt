@@ -11,9 +11,9 @@ use edge_reader::open_on;
 use edge_reader::open_short;
 use frame::Header;
 use geometry::Verdict;
-use header::choice_verdict;
-use header::choose;
 use header_building::build_header;
+use header_choice::choice_verdict;
+use header_choice::choose;
 
 pub fn openings() {
     print(b"headers: another name, 3,000 frames, a short one\n");

@@ -1,5 +1,4 @@
 pub mod ReadLaws
-pub mod Choices
 pub mod Facts
 pub mod Built
 pub mod AsRead

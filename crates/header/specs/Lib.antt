@@ -1,3 +1,2 @@
 pub mod Valid
 pub mod Read
-pub mod Choice

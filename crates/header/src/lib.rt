@@ -1,11 +1,6 @@
-// Headers that were read: which are valid, what they tell, and which of two is the newer.
-mod choice;
+// Headers that were read: which are valid and what they tell.
 mod read;
 mod valid;
 
-pub use choice::Choice;
-pub use choice::choice_verdict;
-pub use choice::choose;
-pub use choice::decide;
 pub use read::Checked;
 pub use read::read_header;

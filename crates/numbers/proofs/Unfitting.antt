@@ -22,7 +22,7 @@ use Rattle.drive.specs.declared.command.Command.{Command}
 use Rattle.drive.specs.declared.command.Command.the-variants.{Read, Write, Locate, ReadPosition}
 use Rattle.recording_state.specs.declared.state.State.{State}
 use Rattle.recording_state.specs.State.{ending}
-use Rattle.copies.specs.Carried.{openingHeader, isExhausted, renewed}
+use Rattle.carried_headers.specs.Carried.{openingHeader, isExhausted, renewed}
 use Rattle.recording_state.specs.Open.{openRefused, openWith, openOf, openBlankOf}
 use Rattle.recording_state.specs.Reply.{replyBy, replyOf}
 use Rattle.reading_state.specs.declared.state.State as reading

@@ -2,7 +2,7 @@
 use Prim.Native.Nat.{ℕ}
 use Rattle.geometry.specs.Place as place
 use Rattle.geometry.specs.Place.{PlaceSaid}
-use Rattle.header.specs.Choice.{ChoiceSaid, first, second, neither}
+use Rattle.header_choice.specs.Choice.{ChoiceSaid, first, second, neither}
 use Rattle.numbers.specs.declared.places.AdrPlace.{AdrPlace}
 use Rattle.numbers.specs.declared.places.AdrChoice.{AdrChoice}
 

@@ -1,11 +1,11 @@
 // An address and a choice of headers as numbers.
 ghost use mathlib.Core.Path.{_≡_};
 ghost use Rattle.geometry.specs.Place.{placeSaid};
-ghost use Rattle.header.specs.Choice.{choiceSaid};
+ghost use Rattle.header_choice.specs.Choice.{choiceSaid};
 ghost use Rattle.numbers.specs.Cartridge.{placeTwin, choiceTwin};
 use geometry::Place;
 use geometry::number;
-use header::Choice;
+use header_choice::Choice;
 
 // An address, or 0 and the number of the refusal.
 #[repr(C)]

@@ -11,7 +11,7 @@ use Rattle.geometry.specs.declared.cartridge.Geometry.{Geometry}
 use Rattle.frame.specs.declared.header.Header.{Header}
 use Rattle.header.specs.Read.{CheckedSaid, valid, refused, readHeader}
 use Rattle.drive.specs.Exchange.{unsent}
-use Rattle.copies.specs.Carried.{openingHeader, isExhausted, renewed}
+use Rattle.carried_headers.specs.Carried.{openingHeader, isExhausted, renewed}
 use Rattle.copies.specs.Copies as copies
 use Rattle.elements.specs.Elements as elements
 use Rattle.elements.specs.Trail.{noTrail}

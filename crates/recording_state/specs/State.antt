@@ -7,7 +7,7 @@ use Rattle.geometry.specs.Refused.{verdictNumber}
 use Rattle.frame.specs.Lengths.{dataLength}
 use Rattle.frame.specs.declared.header.Header.{Header}
 use Rattle.drive.specs.declared.exchange.Exchange.{Exchange}
-use Rattle.copies.specs.Carried.{closingOf}
+use Rattle.carried_headers.specs.Carried.{closingOf}
 use Rattle.copies.specs.Copies as copies
 use Rattle.copies.specs.declared.copies.Copies.{Copies}
 use Rattle.elements.specs.Elements as elements

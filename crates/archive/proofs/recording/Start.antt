@@ -27,7 +27,7 @@ use Rattle.archive.specs.Tape.{Tape, Cartridge}
 use Rattle.copies.proofs.Counts.{start-counts}
 use Rattle.copies.proofs.DueAddress.{start-placed}
 use Rattle.recording_state.specs.State.{OutcomeSaid, accepting}
-use Rattle.copies.specs.Carried.{isExhausted, renewed, openingHeader}
+use Rattle.carried_headers.specs.Carried.{isExhausted, renewed, openingHeader}
 use Rattle.recording_state.specs.Open.{fresh, openRefused, openWith, openFor, openOf, openBlankFor, openBlankOf}
 use Rattle.recording_state.specs.declared.state.State.{State}
 use Rattle.recording_state.specs.declared.state.Stage.the-variants as S

@@ -28,7 +28,7 @@ use Rattle.elements.specs.Trail.{trailOf}
 use Rattle.elements.specs.Due.{dueOf}
 use Rattle.elements.specs.Reply as reply
 use Rattle.elements.specs.declared.elements.Elements.{Elements}
-use Rattle.copies.specs.Carried.{isExhausted, renewed}
+use Rattle.carried_headers.specs.Carried.{isExhausted, renewed}
 use Rattle.recording_state.specs.Open.{fresh, openWith, openFor, openOf}
 use Rattle.recording_state.specs.State.{accepting, settledOf}
 use Rattle.recording_state.specs.Accept.{filemarkOf, closeOf}

@@ -1,7 +1,7 @@
 -- `adr::cartridge::adr_choose` meets its contract: by what the choice below promises. Assumes nothing.
 use mathlib.Core.Path.{_≡_, ap, sym, _∙_}
 use Rattle.geometry.specs.declared.cartridge.Geometry.{Geometry}
-use Rattle.header.specs.Choice.{choiceOf}
+use Rattle.header_choice.specs.Choice.{choiceOf}
 use Rattle.numbers.specs.Cartridge.{choiceTwin}
 use Rattle.adr.proofs.cartridge.adr_choose.Statement.{statement}
 use Rattle.adr.proofs.cartridge.adr_choose.Tie as tie
