@@ -1,8 +1,10 @@
-/* Records blocks and filemarks on a small drive in memory that has a bad spot,
-   reads them back and compares; then does so once more on the same cartridge.
-   The commands are printed, each LOCATE on a line of its own with what follows
-   it: W a WRITE, R a READ, P a READ POSITION with the frames still buffered,
-   ! a write error with the address that failed. */
+/* Records blocks and filemarks on a small drive in memory that has a bad spot
+   and is often busy, reads them back and compares; then does so once more on
+   the same cartridge, of whose header copies only one is left. At last it meets
+   header copies that differ, and a cartridge without any. The commands are
+   printed, each LOCATE on a line of its own with what follows it: W a WRITE, R
+   a READ, C a READ with a correction, P a READ POSITION with the frames still
+   buffered, B a busy reply, ! a write error with the address that failed. */
 #include "adr.h"
 
 #include <stdio.h>
@@ -10,6 +12,7 @@
 #include <string.h>
 
 enum { FRAMES = 3001, DEPTH = 3, WINDOW = 4, BAD_SPOT = 12, SKIP = 3 };
+enum { HARD_TO_READ = 7, BUSY_TURN = 7 };
 
 static const struct adr_geometry geometry = { FRAMES, 1, ADR_BEGINNING };
 
@@ -21,6 +24,7 @@ struct drive {
     uint32_t buffered;
     uint32_t front; /* where the oldest buffered frame goes, or the next to be read */
     int stopped;    /* at a bad spot, until LOCATE */
+    unsigned sent;  /* every BUSY_TURN-th command is answered busy */
 };
 
 static struct adr_reply sense(uint8_t key, uint8_t asc, uint8_t ascq)
@@ -58,12 +62,32 @@ static void write_oldest(struct drive *drive)
     memmove(drive->buffer[0], drive->buffer[1], drive->buffered * (size_t)ADR_FRAME_LENGTH);
 }
 
+/* Reads the next address. 00/00/02 where nothing reads from there on. */
+static struct adr_reply read_next(struct drive *drive, uint8_t *frame)
+{
+    uint32_t address = drive->front, readable = address;
+    while (readable < FRAMES && !drive->tape[readable])
+        readable++;
+    if (readable == FRAMES)
+        return sense(0x00, 0x00, 0x02);
+    drive->front++;
+    if (readable != address)
+        return sense(0x03, 0x11, 0x00);
+    memcpy(frame, drive->tape[address], ADR_FRAME_LENGTH);
+    return address == HARD_TO_READ ? sense(0x01, 0x17, 0x01) : sense(0, 0, 0);
+}
+
 static struct adr_reply send(struct drive *drive, struct adr_command command, uint8_t *frame)
 {
     struct adr_reply reply = sense(0, 0, 0);
+    if (command.code == ADR_LOCATE)
+        printf("\nLOCATE %u:", (unsigned)command.address);
+    if (++drive->sent % BUSY_TURN == 0) {
+        printf(" B");
+        return sense(0x02, 0x04, drive->sent % 2 ? 0x01 : 0x08);
+    }
     switch (command.code) {
     case ADR_LOCATE:
-        printf("\nLOCATE %u:", (unsigned)command.address);
         drive->front = command.address;
         drive->buffered = 0;
         drive->stopped = 0;
@@ -84,10 +108,8 @@ static struct adr_reply send(struct drive *drive, struct adr_command command, ui
         printf("%u", (unsigned)drive->buffered);
         return reply;
     default: /* READ */
-        printf(" R");
-        if (!drive->tape[drive->front++])
-            return sense(0x03, 0x11, 0x00);
-        memcpy(frame, drive->tape[drive->front - 1], ADR_FRAME_LENGTH);
+        reply = read_next(drive, frame);
+        printf(reply.key == 0x01 ? " C" : " R");
         return reply;
     }
 }
@@ -113,24 +135,32 @@ static int failed(const char *what, uint8_t number)
     return 0;
 }
 
+/* What is to be recorded, and how much of it is accepted. */
+struct source {
+    unsigned count, turn, accepted;
+    int closed;
+};
+
 /* Accepts elements until the window is full or all are accepted, then closes. */
 static struct adr_record_outcome accept(struct adr_recording session, uint8_t *window,
-                                        unsigned *accepted, unsigned count, unsigned turn)
+                                        struct source *source)
 {
     static uint8_t block[ADR_BLOCK_LENGTH];
     struct adr_record_outcome outcome = { session, 0 };
-    while (*accepted < count && outcome.number == 0) {
-        if (is_filemark(*accepted)) {
+    while (source->accepted < source->count && outcome.number == 0) {
+        if (is_filemark(source->accepted)) {
             outcome = adr_record_filemark(outcome.session);
         } else {
-            fill_block(block, *accepted, turn);
+            fill_block(block, source->accepted, source->turn);
             outcome = adr_record_block(outcome.session, block, sizeof block,
                                        window, ADR_WINDOW_LENGTH(WINDOW));
         }
-        *accepted += outcome.number == 0;
+        source->accepted += outcome.number == 0;
     }
-    if (*accepted == count && outcome.number == 0 && !outcome.session.closed)
+    if (source->accepted == source->count && !source->closed) {
         outcome = adr_record_close(outcome.session);
+        source->closed = 1;
+    }
     return outcome;
 }
 
@@ -141,11 +171,11 @@ static int record(struct drive *drive, const uint8_t *header, unsigned count, un
     struct adr_record_outcome outcome =
         header ? adr_record_open(geometry, DEPTH, WINDOW, header, ADR_FRAME_LENGTH)
                : adr_record_open_blank(geometry, DEPTH, WINDOW);
-    unsigned accepted = 0;
+    struct source source = { count, turn, 0, 0 };
     if (outcome.number)
         return failed("opening", outcome.number);
     for (;;) {
-        outcome = accept(outcome.session, window, &accepted, count, turn);
+        outcome = accept(outcome.session, window, &source);
         if (outcome.number && outcome.number != ADR_WINDOW_FULL)
             return failed("accepting", outcome.number);
         struct adr_record_fetched fetched =
@@ -164,24 +194,74 @@ static int record(struct drive *drive, const uint8_t *header, unsigned count, un
     }
 }
 
-/* Copies the newest header to 'newest'; whether there is one. */
-static int newest_header(struct drive *drive, uint8_t *newest)
+static int is_sense(struct adr_reply reply, uint8_t key, uint8_t asc, uint8_t ascq)
+{
+    return reply.key == key && reply.asc == asc && reply.ascq == ascq;
+}
+
+/* Sends a command, again while the drive is busy. */
+static struct adr_reply send_until_taken(struct drive *drive, uint8_t code, uint32_t address,
+                                         uint8_t *frame)
+{
+    struct adr_command command = { code, address };
+    struct adr_reply reply;
+    do
+        reply = send(drive, command, frame);
+    while (is_sense(reply, 0x02, 0x04, 0x01) || is_sense(reply, 0x02, 0x04, 0x08));
+    return reply;
+}
+
+enum found { NONE, FOUND, FAILED };
+
+/* Reads the frame at an address. */
+static enum found read_at(struct drive *drive, uint32_t address, uint8_t *frame)
+{
+    struct adr_reply reply = send_until_taken(drive, ADR_LOCATE, address, frame);
+    if (!is_sense(reply, 0x00, 0x00, 0x00))
+        return FAILED;
+    reply = send_until_taken(drive, ADR_READ, address, frame);
+    if (is_sense(reply, 0x00, 0x00, 0x00) || is_sense(reply, 0x01, 0x17, 0x01))
+        return FOUND;
+    if (is_sense(reply, 0x03, 0x11, 0x00) || is_sense(reply, 0x08, 0x00, 0x05) ||
+        is_sense(reply, 0x00, 0x00, 0x02))
+        return NONE;
+    return FAILED;
+}
+
+/* Which of two header frames is the newer, 0 where neither is. */
+static uint8_t newer(const uint8_t *first, const uint8_t *second)
+{
+    return adr_choose(geometry, first, ADR_FRAME_LENGTH, second, ADR_FRAME_LENGTH).which;
+}
+
+/* Copies the newest header to 'newest'. A copy that can't be judged is no
+   reason to go on without it: it may be the newest. */
+static enum found newest_header(struct drive *drive, uint8_t *newest)
 {
     static uint8_t frame[ADR_FRAME_LENGTH];
-    int found = 0;
+    enum found found = NONE;
+    int undecided = 0;
     for (uint32_t copy = 0; copy < 10; copy++) {
-        uint32_t address = adr_header_address(copy / 5, copy % 5);
-        struct adr_command locate = { ADR_LOCATE, address }, read = { ADR_READ, address };
-        send(drive, locate, frame);
-        struct adr_reply reply = send(drive, read, frame);
-        if (reply.key != 0)
+        enum found here = read_at(drive, adr_header_address(copy / 5, copy % 5), frame);
+        if (here == FAILED) {
+            failed("reading a header copy", ADR_BAD_REPLY);
+            return FAILED;
+        }
+        /* Chosen against itself, a frame is refused only if it is not valid. */
+        if (here == NONE || !newer(frame, frame))
             continue;
-        /* The first is compared with itself: it is taken if it is valid. */
-        struct adr_choice choice = adr_choose(geometry, found ? newest : frame, ADR_FRAME_LENGTH,
-                                              frame, ADR_FRAME_LENGTH);
-        if (choice.which == 2 || (choice.which == 1 && !found))
+        uint8_t which = found == NONE ? 2 : newer(newest, frame);
+        if (which == 2) {
             memcpy(newest, frame, ADR_FRAME_LENGTH);
-        found = found || choice.which != 0;
+            found = FOUND;
+            undecided = 0;
+        } else if (which == 0) {
+            undecided = 1; /* both are valid: of the same count, with unlike data */
+        }
+    }
+    if (undecided) {
+        failed("the choice of the newest header", ADR_BAD_HEADER);
+        return FAILED;
     }
     return found;
 }
@@ -229,21 +309,63 @@ static int read_back(struct drive *drive, const uint8_t *header, unsigned count,
     return delivered == count;
 }
 
+/* Leaves one header copy, the one that is hard to read. */
+static void lose_copies(struct drive *drive)
+{
+    for (uint32_t copy = 0; copy < 10; copy++) {
+        uint32_t address = adr_header_address(copy / 5, copy % 5);
+        if (address != HARD_TO_READ) {
+            free(drive->tape[address]);
+            drive->tape[address] = NULL;
+        }
+    }
+}
+
+/* Finds the newest header, records and reads back; whether all went well. */
+static int record_and_read_back(struct drive *drive, uint8_t *newest, unsigned count,
+                                unsigned turn)
+{
+    printf("\nreading the header copies");
+    enum found found = newest_header(drive, newest);
+    if (found == FAILED)
+        return 0;
+    printf("\n\nrecording %u elements on a cartridge with%s a header", count,
+           found == FOUND ? "" : "out");
+    if (!record(drive, found == FOUND ? newest : NULL, count, turn))
+        return 0;
+    printf("\n\nreading the header copies");
+    if (newest_header(drive, newest) != FOUND)
+        return 0;
+    printf("\n\nreading back");
+    return read_back(drive, newest, count, turn);
+}
+
+/* One copy gets other data than those of its count; whether this is noticed. */
+static int refuses_unlike_copies(struct drive *drive, uint8_t *newest)
+{
+    printf("\nreading header copies of which one was altered");
+    drive->tape[adr_header_address(1, 4)][ADR_BLOCK_LENGTH - 1] ^= 1;
+    return newest_header(drive, newest) == FAILED;
+}
+
+static int finds_none_on_a_blank(uint8_t *newest)
+{
+    static struct drive blank;
+    printf("\nreading the header copies of a blank cartridge");
+    int none = newest_header(&blank, newest) == NONE;
+    printf("\n%s\n", none ? "none is valid" : "a header was taken that is not there");
+    return none;
+}
+
 int main(void)
 {
     static struct drive drive;
     static uint8_t newest[ADR_FRAME_LENGTH];
-    const unsigned counts[] = { 8, 5 };
-    int whole = 1;
     printf("LAST is %u\n", (unsigned)adr_last(geometry).address);
-    for (unsigned turn = 0; whole && turn < 2; turn++) {
-        printf("\nrecording %u elements", counts[turn]);
-        whole = record(&drive, turn ? newest : NULL, counts[turn], turn);
-        printf("\n\nreading the header copies");
-        whole = whole && newest_header(&drive, newest);
-        printf("\n\nreading back");
-        whole = whole && read_back(&drive, newest, counts[turn], turn);
-    }
+    int whole = record_and_read_back(&drive, newest, 8, 0);
+    lose_copies(&drive);
+    whole = whole && record_and_read_back(&drive, newest, 5, 1) &&
+            refuses_unlike_copies(&drive, newest) && finds_none_on_a_blank(newest);
     for (size_t address = 0; address < FRAMES; address++)
         free(drive.tape[address]);
     return !whole;

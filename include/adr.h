@@ -4,7 +4,8 @@
    and takes in the drive's replies. It talks to no drive itself: cables,
    packets and sense data stay with the host. It is a static library for
    x86-64 (System V calling convention), libadr.a, which the command
-   'rt staticlib adr' writes to target/staticlib:
+   'rt staticlib adr' writes to target/staticlib. Programs in C11 or C++11 use
+   it by this header:
 
        cc -Iinclude program.c target/staticlib/libadr.a
 
@@ -13,7 +14,9 @@
    to the next call, and change nothing in it. The library has no state of its
    own, allocates nothing and keeps no pointer, so sessions are independent of
    each other and a call may be made from any thread. Numbers that stand for
-   no session are refused with 7 and come back as they were.
+   no session are refused with 7 and come back as they were. Not every altered
+   session is told from a session: a call on another one still returns and
+   writes only to the buffers lent, but what it answers means nothing.
 
    BUFFERS belong to the host and are lent for one call. Each is a pointer and
    a length in bytes; the pointer is never null, not even where the length is
@@ -27,7 +30,8 @@
    to 7 leave the session as it was, and the call counts for nothing; 8 to 12
    end it, and every later call is refused with 7.
 
-   A RECORDING, in short; a reading is the same with READ in place of WRITE:
+   A RECORDING, in short. 'send' sends a command to the drive and returns its
+   reply; it sends the frame with a WRITE, and fills it with what a READ brings:
 
        struct adr_record_outcome o = adr_record_open_blank(g, depth, 8);
        while (!o.number) {
@@ -52,7 +56,27 @@
                o = adr_record_reply(f.session, send(f.command, frame));
        }
 
-   c/record.c is a whole program. */
+   After it o.number is 0 if the recording is whole, else the refusal.
+
+   A READING. The replies deliver the elements, and there is nothing to close:
+
+       struct adr_read_opened o = adr_read_open(g, header, sizeof header);
+       struct adr_read_taken t = { o.session, ADR_NOTHING, o.number };
+       while (!t.number) {
+           struct adr_read_fetched f = adr_read_fetch(t.session);
+           t.number = f.number;
+           if (f.answer != ADR_COMMAND)
+               break;
+           struct adr_reply reply = send(f.command, frame);
+           t = adr_read_reply(f.session, reply, frame, sizeof frame);
+           switch (t.answer) {
+           case ADR_BLOCK: take_block(frame); break;
+           case ADR_FILEMARK: take_filemark(); break;
+           }
+       }
+
+   After it t.number is 0 if everything was read, else the refusal. c/record.c
+   is a whole program; it also finds the newest header. */
 #ifndef ADR_H
 #define ADR_H
 
@@ -114,14 +138,23 @@ struct adr_geometry {
    the numbers that belong to it. Other numbers are not looked at, but for a
    skip above 255, which is refused with 8.
 
-       00/00/00  good; on READ POSITION with 'buffered'
-       02/04/01, 02/04/08  busy: the same command comes again
-       03/0C/00  write error, with 'position' and 'skip'
-       0D/00/02  the tape ends before the address of this WRITE
-       01/17/01  a frame read after a correction
-       03/11/00  this address can't be read
-       08/00/05  nothing readable on the next 32 addresses
-       00/00/02  nothing readable from here on */
+       every command
+         00/00/00  good; on READ POSITION with 'buffered', on READ with a frame
+         02/04/01, 02/04/08  busy: the same command comes again
+       WRITE and READ POSITION
+         03/0C/00  write error, with 'position' and 'skip'
+       WRITE, but not of a header
+         0D/00/02  not executed: the tape ends before this address
+       READ
+         01/17/01  a frame read after a correction
+         03/11/00  this address can't be read
+         08/00/05  nothing readable on the next 32 addresses
+         00/00/02  nothing readable from here on: refused with 12
+
+   Any other triple, and one that is not listed for its command, is refused
+   with 8. A frame is outstanding from the WRITE answered good until it is known
+   to be on tape: a 'buffered' above the number of those and a 'position' that
+   is not the address of one are refused with 8. */
 struct adr_reply {
     uint32_t buffered; /* frames still buffered */
     uint32_t position; /* the address of the failed frame */
@@ -155,9 +188,9 @@ struct adr_command {
    members are named for debuggers; a host neither sets nor needs them. Flags
    are 0 or 1. */
 struct adr_exchange {
-    struct adr_command command; /* the command last given */
+    struct adr_command command; /* the command last given; nothing before the first */
     uint8_t awaiting;           /* its reply is awaited */
-    uint8_t again;              /* it comes again */
+    uint8_t again;              /* it was answered busy and comes again */
 };
 
 struct adr_setup {
@@ -173,38 +206,38 @@ struct adr_header {
 };
 
 struct adr_copies {
-    struct adr_header header;
-    uint8_t group;
-    uint8_t copy;
-    uint8_t outstanding;
-    uint8_t confirmed;
-    uint8_t locate; /* a LOCATE is due */
+    struct adr_header header; /* what the copies say */
+    uint8_t group;            /* the group of the next copy, 0 or 1 */
+    uint8_t copy;             /* its number in the group; 5 behind the last */
+    uint8_t outstanding;      /* of this group: taken by the drive, not known on tape */
+    uint8_t confirmed;        /* of both groups: known on tape */
+    uint8_t locate;           /* a LOCATE of the next copy's address comes first */
 };
 
 struct adr_trail {
     uint32_t filemarks; /* filemarks before the element 'first' */
-    uint32_t marker;    /* the address of the latest */
+    uint32_t marker;    /* the address of the latest, FFFFFFFF where there is none */
 };
 
 struct adr_elements {
     uint32_t first;  /* number of the oldest element not known on tape */
-    uint32_t next;   /* the next address */
+    uint32_t next;   /* where the next frame goes, unless a LOCATE comes first */
     uint32_t limit;  /* one past the highest address that may be written */
-    uint32_t target; /* where a LOCATE that is due goes */
+    uint32_t target; /* the address of the LOCATE that 'locate' asks for */
     struct adr_trail trail;
-    uint16_t pending;     /* accepted, not known on tape */
-    uint16_t outstanding; /* taken by the drive, not known on tape */
-    uint8_t locate;       /* a LOCATE is due */
-    uint8_t eod;          /* the element due is EOD */
-    uint8_t marks[64];    /* at i % 64: element i is a filemark */
+    uint16_t pending;     /* accepted, or EOD, and not known on tape */
+    uint16_t outstanding; /* of these: taken by the drive */
+    uint8_t locate;       /* a LOCATE of 'target' comes first */
+    uint8_t eod;          /* EOD became due */
+    uint8_t marks[64];    /* at i % 64: the pending element i is a filemark */
 };
 
 /* A recording session. */
 struct adr_recording {
     struct adr_setup setup;
-    uint8_t stage; /* 0 opening headers, 1 elements, 2 closing headers, 3 done */
-    uint8_t closed;
-    uint8_t ended;
+    uint8_t stage;  /* 0 opening headers, 1 elements, 2 closing headers, 3 done */
+    uint8_t closed; /* adr_record_close was called */
+    uint8_t ended;  /* by a refusal of 8 to 12, or by a refused opening */
     struct adr_exchange exchange;
     struct adr_copies copies;
     struct adr_elements elements;
@@ -218,12 +251,12 @@ struct adr_told {
 /* A reading session. */
 struct adr_reading {
     struct adr_told told;
-    uint32_t next;     /* the next address */
+    uint32_t next;     /* the address read next, unless a LOCATE comes first */
     uint32_t expected; /* number of the next element */
     struct adr_exchange exchange;
-    uint8_t locate; /* a LOCATE is due */
-    uint8_t finished;
-    uint8_t ended;
+    uint8_t locate;   /* a LOCATE of 'next' comes first */
+    uint8_t finished; /* EOD was read */
+    uint8_t ended;    /* by a refusal of 8 to 12, or by a refused opening */
 };
 
 /* What the calls return: the session after the call, and what is answered. */
@@ -277,7 +310,17 @@ uint32_t adr_header_address(uint32_t group, uint32_t copy);
    one gives way to a valid one; of equal ones the first is taken. A header
    given twice is refused with 3 only if it is not valid. Refused with 1, 2,
    or 3 where neither is valid or both have the same update count and unlike
-   data. */
+   data.
+
+   The newest header of a cartridge is found by reading all ten copies. For
+   each address that adr_header_address gives, send LOCATE and then READ, each
+   again while its reply is busy. 00/00/00 and 01/17/01 bring a frame, and
+   03/11/00, 08/00/05 and 00/00/02 none; on any other reply give up, for a copy
+   that is left out may be the newest, and the write pass of the next recording
+   would then be one that is on tape already. Choose pairwise among the valid
+   frames. Two that are refused with 3 leave it undecided: give up unless a
+   later copy is newer than both. If no copy is valid, record with
+   adr_record_open_blank. */
 struct adr_choice adr_choose(struct adr_geometry g,
                              const uint8_t *first, size_t first_length,
                              const uint8_t *second, size_t second_length);
@@ -300,10 +343,10 @@ struct adr_record_outcome adr_record_open_blank(struct adr_geometry g, uint32_t 
                                                 uint32_t window);
 
 /* Accepts a block, ADR_BLOCK_LENGTH bytes, which is copied to its place in the
-   window, ADR_WINDOW_LENGTH(W) bytes. The window is lent back to every later
-   adr_record_block and adr_record_fetch of the session, as it was left. May
-   also be called while a reply is awaited. Refused with 7 (after close), 1 or
-   6. */
+   window, ADR_WINDOW_LENGTH(W) bytes. The window is lent to every
+   adr_record_block and adr_record_fetch of the session, as the last
+   adr_record_block left it. May also be called while a reply is awaited.
+   Refused with 7 (after close), 1 or 6. */
 struct adr_record_outcome adr_record_block(struct adr_recording s,
                                            const uint8_t *block, size_t block_length,
                                            uint8_t *window, size_t window_length);
@@ -315,9 +358,11 @@ struct adr_record_outcome adr_record_filemark(struct adr_recording s);
    answers ADR_DONE, and not before. Refused with 7. */
 struct adr_record_outcome adr_record_close(struct adr_recording s);
 
-/* The next command. A WRITE fills the lent frame, ADR_FRAME_LENGTH bytes; no
-   other answer writes to it. After ADR_COMMAND a reply is awaited; after
-   ADR_IDLE and ADR_DONE none is. Refused with 7 (a reply is awaited), 1 or 9. */
+/* The next command. The window is lent at every fetch, also before the first
+   block, when its bytes mean nothing. A WRITE fills the lent frame,
+   ADR_FRAME_LENGTH bytes; no other answer writes to it. After ADR_COMMAND a
+   reply is awaited; after ADR_IDLE and ADR_DONE none is. Refused with 7 (a
+   reply is awaited), 1 or 9. */
 struct adr_record_fetched adr_record_fetch(struct adr_recording s,
                                            const uint8_t *window, size_t window_length,
                                            uint8_t *frame, size_t frame_length);

@@ -2,7 +2,9 @@
 
 pub mod case;
 pub mod content;
+pub mod guarded;
 pub mod layer;
+pub mod longer;
 pub mod plain;
 pub mod reading_back;
 pub mod recorder;

@@ -7,6 +7,7 @@ use crate::fault::Fault;
 use crate::frame::{Kind, Label};
 use crate::geometry::{Address, SequenceNumber, FIRST_USER, GAP_END, GAP_FIRST};
 use crate::reply::{Meaning, Reply};
+use crate::state::{ElementsState, Going};
 
 /// The state of a recording between its headers.
 #[derive(Clone, Debug, PartialEq, Eq)]
@@ -37,7 +38,8 @@ pub struct Elements {
     remembered: BTreeMap<u32, Option<Address>>,
 }
 
-fn count(number: usize) -> u32 {
+/// A count of frames as a number.
+pub(crate) fn count(number: usize) -> u32 {
     u32::try_from(number).unwrap_or(u32::MAX)
 }
 
@@ -87,6 +89,29 @@ impl Elements {
     #[must_use]
     pub fn eod(&self) -> Option<Address> {
         self.eod
+    }
+
+    /// Where they stand. Before LOCATE 10 was answered, that is where they go;
+    /// EOD that a fetch would make due is due.
+    #[must_use]
+    pub fn state(&self, located: bool, eod_due: bool) -> ElementsState {
+        let mut pending: Vec<Kind> = self.waiting.iter().copied().collect();
+        if eod_due && pending.is_empty() {
+            pending.push(Kind::Eod);
+        }
+        ElementsState {
+            first: SequenceNumber(self.confirmed),
+            pending,
+            outstanding: count(self.outstanding),
+            going: match self.target {
+                Some(target) => Going::Locate(target),
+                None if located => Going::Next(self.next),
+                None => Going::Locate(FIRST_USER),
+            },
+            end: self.end,
+            filemarks: self.filemarks,
+            latest_marker: self.latest_marker,
+        }
     }
 
     /// Adds an accepted element.

@@ -1,8 +1,10 @@
 //! The walk over the ten header copies.
 
 use crate::command::Command;
+use crate::elements::count;
 use crate::geometry::{Address, HEADER_GROUPS};
 use crate::reply::{Meaning, Reply};
+use crate::state::CopiesState;
 
 const COPIES: usize = 5;
 
@@ -39,6 +41,18 @@ impl HeaderCopies {
             outstanding: 0,
             good: 0,
             located: false,
+        }
+    }
+
+    /// Where the walk stands.
+    #[must_use]
+    pub fn state(&self) -> CopiesState {
+        CopiesState {
+            group: count(self.group),
+            copy: count(self.copy),
+            outstanding: count(self.outstanding),
+            confirmed: count(self.good),
+            locate: !self.located,
         }
     }
 

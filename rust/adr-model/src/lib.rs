@@ -5,7 +5,7 @@
 //! * [`geometry`], [`frame`], [`header`], [`judgement`]: what stands on tape.
 //! * [`reply`], [`command`]: what passes between host, session and drive.
 //! * [`recording`] (with [`header_copies`] and [`elements`]) and [`reading`]:
-//!   the two sessions, call by call.
+//!   the two sessions, call by call; [`state`]: where they stand.
 //! * [`drive`] (with [`hostility`], [`tape`] and [`random`]): the drive.
 //! * [`check`]: whole cartridges recorded and read back; [`fault`]: planted
 //!   faults that the checks must find.
@@ -27,6 +27,7 @@ pub mod random;
 pub mod reading;
 pub mod recording;
 pub mod reply;
+pub mod state;
 pub mod tape;
 
 pub use command::{Answer, Command, Outcome, ReadAnswer, ReadOutcome};

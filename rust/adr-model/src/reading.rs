@@ -7,6 +7,7 @@ use crate::geometry::{Address, Geometry, SequenceNumber, FIRST_USER, GAP_END, GA
 use crate::header;
 use crate::judgement::{judge_with, Expectation, Judgement};
 use crate::reply::{Meaning, Reply};
+use crate::state::{ExchangeState, ReadingState};
 
 /// The addresses that 08/00/05 tells to be blank.
 const BLANK_STRETCH: u32 = 32;
@@ -54,6 +55,23 @@ impl Reading {
     /// Plants a fault for the checks to find.
     pub fn plant(&mut self, fault: Fault) {
         self.fault = fault;
+    }
+
+    /// Where the session stands; none once a refusal has ended it.
+    #[must_use]
+    pub fn state(&self) -> Option<ReadingState> {
+        (!self.ended).then_some(ReadingState {
+            pass: self.expectation.pass,
+            last: self.expectation.last,
+            next: self.next,
+            locate: self.locate,
+            expected: self.expectation.number,
+            finished: self.at_end,
+            exchange: ExchangeState {
+                awaited: self.awaited,
+                again: self.again,
+            },
+        })
     }
 
     /// Fetches the next command.

@@ -1,13 +1,14 @@
 //! A recording session.
 
 use crate::command::{Answer, Command, Outcome};
-use crate::elements::Elements;
+use crate::elements::{count, Elements};
 use crate::fault::Fault;
 use crate::frame::{fill_frame, fill_header, Frame, HeaderFields, Kind};
 use crate::geometry::{Address, Geometry, BLOCK_LENGTH, FIRST_USER, FRAME_LENGTH};
 use crate::header;
 use crate::header_copies::{HeaderCopies, Walk};
 use crate::reply::{Meaning, Reply};
+use crate::state::{CopiesState, ElementsState, ExchangeState, RecordingState, StageName};
 
 /// Where a recording stands.
 #[derive(Clone, Debug, PartialEq, Eq)]
@@ -221,30 +222,65 @@ impl Recording {
         }
     }
 
-    fn fill(&mut self, window: &[u8], frame: &mut Frame) {
-        let (count, eod) = match &self.stage {
-            Stage::OpeningHeaders(_) => (self.update_count, Address(0)),
-            Stage::ClosingHeaders(_) => (
-                self.update_count
-                    .saturating_add(u32::from(self.fault != Fault::UpdateCountKept)),
-                self.elements.eod().unwrap_or(Address(0)),
-            ),
-            _ => {
-                if let Some(label) = self.elements.sending() {
-                    let block = window.get(self.window_place(label.number.0));
-                    let block = block.filter(|_| label.kind == Kind::Data);
-                    fill_frame(frame, &label, block);
-                }
-                return;
-            }
-        };
-        let fields = HeaderFields {
+    /// What the header copies say: the closing ones from their stage on.
+    fn header(&self) -> HeaderFields {
+        let closing = matches!(self.stage, Stage::ClosingHeaders(_) | Stage::Done);
+        let counted = closing && self.fault != Fault::UpdateCountKept;
+        HeaderFields {
             pass: self.pass,
-            update_count: count,
+            update_count: self.update_count.saturating_add(u32::from(counted)),
             last: self.last,
-            eod,
-        };
-        fill_header(frame, &fields);
+            eod: self.elements.eod().unwrap_or(Address(0)),
+        }
+    }
+
+    fn fill(&mut self, window: &[u8], frame: &mut Frame) {
+        if let Stage::OpeningHeaders(_) | Stage::ClosingHeaders(_) = self.stage {
+            fill_header(frame, &self.header());
+        } else if let Some(label) = self.elements.sending() {
+            let block = window.get(self.window_place(label.number.0));
+            let block = block.filter(|_| label.kind == Kind::Data);
+            fill_frame(frame, &label, block);
+        }
+    }
+
+    /// Where the session stands; none once a refusal has ended it.
+    #[must_use]
+    pub fn state(&self) -> Option<RecordingState> {
+        (!self.ended).then(|| RecordingState {
+            depth: count(self.depth),
+            window_blocks: count(self.window_blocks),
+            stage: match self.stage {
+                Stage::OpeningHeaders(_) => StageName::OpeningHeaders,
+                Stage::LocateFirst | Stage::Elements => StageName::Elements,
+                Stage::ClosingHeaders(_) => StageName::ClosingHeaders,
+                Stage::Done => StageName::Done,
+            },
+            closed: self.closed,
+            exchange: ExchangeState {
+                awaited: self.awaited,
+                again: self.again,
+            },
+            header: self.header(),
+            copies: self.copies_state(),
+            elements: self.elements_state(),
+        })
+    }
+
+    fn copies_state(&self) -> Option<CopiesState> {
+        match &self.stage {
+            Stage::OpeningHeaders(copies) | Stage::ClosingHeaders(copies) => Some(copies.state()),
+            _ => None,
+        }
+    }
+
+    fn elements_state(&self) -> Option<ElementsState> {
+        match self.stage {
+            Stage::OpeningHeaders(_) => Some(self.elements.state(false, false)),
+            Stage::LocateFirst => Some(self.elements.state(false, self.closed)),
+            Stage::Elements => Some(self.elements.state(true, self.closed)),
+            Stage::ClosingHeaders(_) | Stage::Done => None,
+        }
     }
 
     /// Brings the reply to the command awaited.

@@ -3,13 +3,15 @@
 mod compared;
 
 use adr_model::check::content::block;
+use adr_model::check::guarded::Guarded;
 use adr_model::check::layer::{Layer, ReadingCalls, RecordingCalls};
 use adr_model::frame::{fill_frame, fill_header, Frame, HeaderFields, Kind, Label};
 use adr_model::geometry::{BLOCK_LENGTH, FRAME_LENGTH, HEADER_GROUPS};
 use adr_model::random::Random;
 use adr_model::reply::{BECOMING_READY, GOOD, SENSES, WRITE_ERROR};
 use adr_model::{
-    header, Address, Answer, Command, Geometry, Outcome, Reply, Sense, SequenceNumber,
+    header, Address, Answer, Command, Geometry, Outcome, ReadAnswer, ReadOutcome, Reply, Sense,
+    SequenceNumber,
 };
 use adr_tape::ffi;
 use compared::{geometry_of, Compared, ComparedReading, ComparedRecording};
@@ -297,6 +299,70 @@ fn any_reply(random: &mut Random, session: &ffi::Recording) -> Reply {
     }
 }
 
+/// The buffers of a recording, and what they must hold.
+struct Lent {
+    window: Guarded,
+    held: Guarded,
+    frame: Guarded,
+    untouched: Guarded,
+}
+
+impl Lent {
+    fn new(blocks: usize) -> Lent {
+        let window = Guarded::filled(0x11, blocks * BLOCK_LENGTH);
+        let frame = Guarded::filled(0x22, FRAME_LENGTH);
+        Lent {
+            held: window.clone(),
+            window,
+            untouched: frame.clone(),
+            frame,
+        }
+    }
+
+    /// Accepts a block with the window from here on; the session compares
+    /// what becomes of it.
+    fn accept(&mut self, session: &mut ComparedRecording, block: &[u8], from: usize) -> Outcome {
+        let outcome = session.accept_block(block, &mut self.window[from..]);
+        if outcome == Outcome::Accepted {
+            self.held.copy_from_slice(&self.window);
+        }
+        outcome
+    }
+
+    /// Fetches with window and frame from here on; only a WRITE alters the
+    /// frame.
+    fn fetch(&mut self, session: &mut ComparedRecording, window: usize, frame: usize) -> Outcome {
+        let answer = session.fetch(&self.window[window..], &mut self.frame[frame..]);
+        if let Answer::Command(Command::Write(_)) = answer {
+            assert!(self.frame.is_intact(), "bytes beside the frame");
+            self.frame.copy_from_slice(&self.untouched);
+        }
+        number_of(answer)
+    }
+
+    fn is_as_held(&self) -> bool {
+        self.window == self.held && self.frame == self.untouched
+    }
+}
+
+/// A call of any kind, now and then with a wrong length.
+fn any_call(random: &mut Random, session: &mut ComparedRecording, lent: &mut Lent) -> Outcome {
+    match random.below(12) {
+        0 | 1 => lent.accept(session, block(random.byte().into()), 0),
+        2 => session.accept_filemark(),
+        3 if random.chance(30) => session.close(),
+        4 if random.chance(30) => lent.accept(session, &[1; 7], 0),
+        5 if random.chance(30) => lent.accept(session, block(1), 1),
+        6 if random.chance(30) => lent.fetch(session, 0, 1),
+        7 if random.chance(30) => lent.fetch(session, 1, 0),
+        3..=7 => lent.fetch(session, 0, 0),
+        _ => {
+            let reply = any_reply(random, &session.layer);
+            session.reply(&reply)
+        }
+    }
+}
+
 /// Lists of calls with replies that no drive vouches for.
 #[test]
 fn any_recording() {
@@ -310,25 +376,12 @@ fn any_recording() {
         };
         let depth = random.between(1, 6);
         let (mut session, _) = ComparedRecording::open(&geometry, depth, 3, None);
-        let mut window = vec![0x11; 3 * BLOCK_LENGTH];
-        let mut frame = [0x22; FRAME_LENGTH];
+        let mut lent = Lent::new(3);
         for _ in 0..random.below(1_000) {
             let before = session.clone();
-            let outcome = match random.below(12) {
-                0 | 1 => session.accept_block(block(random.byte().into()), &mut window),
-                2 => session.accept_filemark(),
-                3 if random.chance(30) => session.close(),
-                4 if random.chance(30) => session.accept_block(&[1; 7], &mut window),
-                5 if random.chance(30) => session.accept_block(block(1), &mut window[1..]),
-                6 if random.chance(30) => number_of(session.fetch(&window, &mut frame[1..])),
-                7 if random.chance(30) => number_of(session.fetch(&window[1..], &mut frame)),
-                3..=7 => number_of(session.fetch(&window, &mut frame)),
-                _ => {
-                    let reply = any_reply(&mut random, &session.layer);
-                    session.reply(&reply)
-                }
-            };
+            let outcome = any_call(&mut random, &mut session, &mut lent);
             right(session.wrong(), seed);
+            assert!(lent.is_as_held(), "seed {seed}: a buffer was altered");
             match outcome {
                 Outcome::Refused(number @ 1..=7) => {
                     assert!(
@@ -357,7 +410,7 @@ fn number_of(answer: Answer) -> Outcome {
 }
 
 /// A frame near what the reading expects.
-fn any_frame(random: &mut Random, expected: u32, frame: &mut Frame) {
+fn any_frame(random: &mut Random, expected: u32) -> Guarded {
     let kinds = [Kind::Data, Kind::Data, Kind::Data, Kind::Marker, Kind::Eod];
     let number = match random.below(20) {
         0 => expected.wrapping_sub(1),
@@ -377,10 +430,47 @@ fn any_frame(random: &mut Random, expected: u32, frame: &mut Frame) {
         filemarks: random.below(3),
         latest_marker: None,
     };
-    fill_frame(frame, &label, Some(block(random.byte().into())));
+    let mut frame = Box::new([0; FRAME_LENGTH]);
+    fill_frame(&mut frame, &label, Some(block(random.byte().into())));
     if random.chance(60) {
         let at = BLOCK_LENGTH + usize::try_from(random.below(210)).unwrap_or(0);
         frame[at] ^= 1 << random.below(8);
+    }
+    let length = if random.chance(20) { 5 } else { FRAME_LENGTH };
+    Guarded::of(&frame[..length])
+}
+
+/// A reply that is often one for where the reading stands.
+fn any_read_reply(random: &mut Random, session: &ffi::Reading) -> Reply {
+    let sense = match random.below(12) {
+        0 => any_sense(random),
+        1 => BECOMING_READY,
+        2 => adr_model::reply::BLANK,
+        3 => adr_model::reply::UNREADABLE,
+        4 => adr_model::reply::RECOVERED,
+        _ => GOOD,
+    };
+    Reply::of(match session.exchange.command.code {
+        ffi::LOCATE if random.chance(950) => GOOD,
+        _ => sense,
+    })
+}
+
+/// A call of any kind; the refusal, 0 for none.
+fn any_read_call(random: &mut Random, session: &mut ComparedReading) -> u8 {
+    if random.chance(550) {
+        return match session.fetch() {
+            ReadAnswer::Refused(number) => number,
+            _ => 0,
+        };
+    }
+    let frame = any_frame(random, session.layer.expected);
+    let lent = frame.clone();
+    let outcome = session.reply(&any_read_reply(random, &session.layer), &lent);
+    assert!(lent == frame, "{outcome:?} altered the frame");
+    match outcome {
+        ReadOutcome::Refused(number) => number,
+        _ => 0,
     }
 }
 
@@ -389,38 +479,13 @@ fn any_frame(random: &mut Random, expected: u32, frame: &mut Frame) {
 fn any_reading() {
     let mut ends = [0; 13];
     let newest = valid_header(7, 3, 3_000);
-    let mut frame = Box::new([0; FRAME_LENGTH]);
     for seed in 0..ROUNDS {
         let mut random = Random::new(u64::from(seed) + 99);
         let geometry = Geometry::beginning(3_001, 1);
         let (mut session, _) = ComparedReading::open(&geometry, newest.as_slice());
         for _ in 0..random.below(400) {
             let before = session.clone();
-            let number = if random.chance(550) {
-                match session.fetch() {
-                    adr_model::ReadAnswer::Refused(number) => number,
-                    _ => 0,
-                }
-            } else {
-                any_frame(&mut random, session.layer.expected, &mut frame);
-                let sense = match random.below(12) {
-                    0 => any_sense(&mut random),
-                    1 => BECOMING_READY,
-                    2 => adr_model::reply::BLANK,
-                    3 => adr_model::reply::UNREADABLE,
-                    4 => adr_model::reply::RECOVERED,
-                    _ => GOOD,
-                };
-                let sense = match session.layer.exchange.command.code {
-                    ffi::LOCATE if random.chance(950) => GOOD,
-                    _ => sense,
-                };
-                let length = if random.chance(20) { 5 } else { FRAME_LENGTH };
-                match session.reply(&Reply::of(sense), &frame[..length]) {
-                    adr_model::ReadOutcome::Refused(number) => number,
-                    _ => 0,
-                }
-            };
+            let number = any_read_call(&mut random, &mut session);
             right(session.wrong(), seed);
             match number {
                 0 => {}
@@ -470,40 +535,46 @@ fn skips_too_wide() {
 fn every_triple() {
     let geometry = Geometry::beginning(3_001, 1);
     let (mut session, _) = ComparedRecording::open(&geometry, 2, 2, None);
-    let mut window = vec![0; 2 * BLOCK_LENGTH];
-    let mut frame = [0; FRAME_LENGTH];
-    session.accept_block(block(1), &mut window);
-    session.accept_block(block(2), &mut window);
+    let mut lent = Lent::new(2);
+    lent.accept(&mut session, block(1), 0);
+    lent.accept(&mut session, block(2), 0);
     session.close();
     let mut seen = Vec::new();
     for _ in 0..60 {
-        let Answer::Command(command) = session.fetch(&window, &mut frame) else {
+        lent.fetch(&mut session, 0, 0);
+        if session.layer.exchange.awaiting == 0 {
             break;
-        };
-        let kind = match command {
-            Command::Locate(_) => (0, session.layer.stage),
-            Command::Write(_) => (1, session.layer.stage),
-            _ => (2, session.layer.stage),
-        };
+        }
+        let kind = (session.layer.exchange.command.code, session.layer.stage);
         if !seen.contains(&kind) {
             seen.push(kind);
             triples_on(&session);
         }
         session.reply(&Reply::of(GOOD));
         right(session.wrong(), 0);
+        assert!(lent.is_as_held());
     }
     assert_eq!(seen.len(), 9, "{seen:?}");
+}
+
+/// The same on both commands of a reading.
+#[test]
+fn every_triple_of_a_reading() {
+    let geometry = Geometry::beginning(3_001, 1);
     let newest = valid_header(7, 3, 3_000);
+    let frame = Guarded::filled(0, FRAME_LENGTH);
+    let lent = frame.clone();
     let (mut session, _) = ComparedReading::open(&geometry, newest.as_slice());
     for _ in 0..2 {
         session.fetch();
         for sense in triples() {
             let mut tried = session.clone();
-            tried.reply(&Reply::of(sense), &frame);
+            tried.reply(&Reply::of(sense), &lent);
             tried.fetch();
             right(tried.wrong(), 0);
+            assert!(lent == frame);
         }
-        session.reply(&Reply::of(GOOD), &frame);
+        session.reply(&Reply::of(GOOD), &lent);
     }
 }
 

@@ -205,7 +205,6 @@ fn fields_are_where_they_are_named() {
     (failed.elements.pending, failed.elements.outstanding) = (3, 0);
     (failed.elements.locate, failed.elements.target) = (1, 2_006);
     let outcome = ffi::record_reply(session, error);
-    failed.elements.next = outcome.session.elements.next;
     assert_eq!((outcome.session, outcome.number), (failed, 0));
 
     let reading = ffi::Reading {

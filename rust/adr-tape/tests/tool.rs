@@ -5,9 +5,17 @@ mod place;
 
 use std::fs;
 use std::io::Write;
+use std::os::unix::fs::PermissionsExt;
 use std::process::{Command, Stdio};
+use std::time::{Duration, UNIX_EPOCH};
 
 use place::{bytes, Place};
+
+/// One byte more than a job's name may have.
+const LONG: &str = match std::str::from_utf8(&[b'n'; 256]) {
+    Ok(name) => name,
+    Err(_) => "",
+};
 
 /// Seeds of faults that are tried; a build without optimisation is slow.
 const SEEDS: usize = if cfg!(debug_assertions) { 12 } else { 24 };
@@ -55,6 +63,11 @@ fn wrong_command_lines() {
         &["record", "a.adr", "-", "-"],
         &["record", "a.adr", "file", "--name", "x"],
         &["record", "a.adr", "file", "--faults", "x"],
+        &["record", "a.adr", "file", "--faults", "1", "--faults", "2"],
+        &["record", "a.adr", "-", "--name", ""],
+        &["record", "a.adr", "-", "--name", ".."],
+        &["record", "a.adr", "-", "--name", "a/b"],
+        &["record", "a.adr", "-", "--name", LONG],
         &["list"],
         &["list", "a.adr", "b.adr"],
         &["list", "a.adr", "--into", "x"],
@@ -63,6 +76,8 @@ fn wrong_command_lines() {
         &["restore", "a.adr", "x"],
         &["restore", "a.adr", "1", "2"],
         &["restore", "a.adr", "1", "--into", "x", "-o", "y"],
+        &["restore", "a.adr", "1", "--output", "x", "-o", "y"],
+        &["restore", "a.adr", "1", "-o", "x", "-o", "y"],
         &["check"],
         &["map"],
         &["demo", "a.adr"],
@@ -175,9 +190,12 @@ fn a_pipe_with_tar() {
         .succeeded();
     let list = place.adr(&["list", "a.adr"]).succeeded();
     assert!(list.output_text().ends_with("  parts.tar\n"));
-    // Whoever reads the output may go away.
-    let ran = place.shell("$ADR restore a.adr 1 | head -c 10 | wc -c");
-    assert_eq!(ran.succeeded().error, "");
+    // Whoever reads the output may go away: no message, but a failure.
+    let ran = place
+        .shell("{ $ADR restore a.adr 1; echo $? > status; } | head -c 10 | wc -c")
+        .succeeded();
+    assert_eq!((ran.output_text().trim(), ran.error.as_str()), ("10", ""));
+    assert_eq!(place.read("status"), b"1\n");
 }
 
 #[test]
@@ -321,26 +339,118 @@ fn the_gap_is_crossed_and_the_tape_ends() {
     assert!(check.output_text().contains("1 job, 98.0 MB"));
 }
 
+/// Names of any bytes are restored, and give a terminal no orders.
 #[test]
-fn names_stay_in_the_directory() {
+fn names_of_any_bytes() {
     let place = Place::new("names");
-    fs::create_dir(place.path("out")).expect("a directory");
+    place.directory("out");
     place.adr(&["format", "a.adr"]).succeeded();
-    let absolute = place.path("escaped");
-    let absolute = absolute.to_string_lossy();
-    for name in ["../escaped", "..", ".", "a/../../escaped", "", &absolute] {
+    let longest = &LONG[1..];
+    for (name, shown) in [
+        ("a\\033[2Jb", "a?[2Jb"),
+        ("\\377", "\u{FFFD}"),
+        (longest, longest),
+    ] {
+        let line = "$ADR record --overwrite a.adr -";
         place
-            .shell(&format!(
-                "printf x | $ADR record --overwrite a.adr - --name '{name}'"
-            ))
+            .shell(&format!("printf x | {line} --name=\"$(printf '{name}')\""))
             .succeeded();
-        let refused = place.adr(&["restore", "--into", "out", "a.adr"]).failed();
-        assert!(refused.error.contains("lead out"), "{}", refused.error);
-        let bytes = place.adr(&["restore", "a.adr", "1"]).succeeded();
-        assert_eq!(bytes.output, b"x");
+        let list = place.adr(&["list", "a.adr"]).succeeded();
+        assert!(list.output_text().ends_with(&format!("  {shown}\n")));
+        let into = ["restore", "--into", "out", "a.adr"];
+        place.adr(&into).succeeded();
+        let exists = place.adr(&into).failed();
+        let told = format!("adr: out/{shown}: exists; use '--overwrite' to replace it\n");
+        assert_eq!(exists.error, told);
     }
-    assert!(!place.path("escaped").exists());
-    assert_eq!(fs::read_dir(place.path("out")).expect("it").count(), 0);
+    assert_eq!(place.names("out").len(), 3);
+}
+
+#[test]
+fn jobs_with_one_name() {
+    let place = Place::new("same");
+    for directory in ["p", "q", "out", "two"] {
+        place.directory(directory);
+    }
+    place.write("p/same", b"first");
+    place.write("q/same", b"second");
+    place.write("other", b"third");
+    place.adr(&["format", "a.adr"]).succeeded();
+    place
+        .adr(&["record", "a.adr", "p/same", "q/same", "other"])
+        .succeeded();
+    for option in ["--quiet", "--overwrite"] {
+        let refused = place.adr(&["restore", "--into", "out", "a.adr", option]);
+        let refused = refused.failed();
+        let told = "job 2, 'same': job 1 has that name too: restore it by number with '--output";
+        assert!(refused.error.contains(told), "{}", refused.error);
+        assert_eq!(place.names("out"), ["other", "same"]);
+        assert_eq!(place.read("out/same"), b"first");
+        fs::remove_file(place.path("out/other")).expect("it");
+        if option == "--quiet" {
+            fs::remove_file(place.path("out/same")).expect("it");
+        }
+    }
+    place
+        .adr(&["restore", "--into", "two", "a.adr", "2"])
+        .succeeded();
+    assert_eq!(place.read("two/same"), b"second");
+}
+
+#[test]
+fn restored_files_have_their_time() {
+    let place = Place::new("time");
+    let time = UNIX_EPOCH + Duration::from_secs(981_173_100);
+    place.write("file", b"x");
+    let file = fs::File::options()
+        .write(true)
+        .open(place.path("file"))
+        .expect("it");
+    file.set_modified(time).expect("its owner");
+    place.adr(&["format", "a.adr"]).succeeded();
+    place.adr(&["record", "a.adr", "file"]).succeeded();
+    place
+        .adr(&["restore", "a.adr", "1", "-o", "out"])
+        .succeeded();
+    let restored = fs::metadata(place.path("out")).expect("it");
+    assert_eq!(restored.modified().ok(), Some(time));
+}
+
+#[test]
+fn missing_directories() {
+    let place = Place::new("missing");
+    place.write("file", b"x");
+    place.adr(&["format", "a.adr"]).succeeded();
+    place.adr(&["record", "a.adr", "file"]).succeeded();
+    let into = place.adr(&["restore", "--into", "none", "a.adr"]).failed();
+    let told = "adr: none: no such directory; make it with 'mkdir none'\n";
+    assert_eq!(into.error, told);
+    let into = place.adr(&["restore", "--into", "file", "a.adr"]).failed();
+    assert_eq!(into.error, "adr: file: not a directory\n");
+    let output = place.adr(&["restore", "a.adr", "1", "-o", "none/a"]);
+    let told = "adr: none/a: No such file or directory\n";
+    assert_eq!(output.failed().error, told);
+}
+
+#[test]
+fn replaced_images_keep_their_mode() {
+    let place = Place::new("mode");
+    for (name, option) in [("empty", "--centre"), ("image", "--overwrite")] {
+        let path = place.path(name);
+        place.write(name, b"");
+        if name == "image" {
+            place.adr(&["format", name]).succeeded();
+        }
+        fs::set_permissions(&path, fs::Permissions::from_mode(0o620)).expect("its owner");
+        place.adr(&["format", name, option]).succeeded();
+        let mode = fs::metadata(&path).expect("it").permissions().mode();
+        assert_eq!(mode & 0o777, 0o620, "{name}");
+        place.adr(&["check", name]).succeeded();
+    }
+    // A link to nothing is not replaced, and what it leads to is not made.
+    std::os::unix::fs::symlink("nothing", place.path("link")).expect("a link");
+    place.adr(&["format", "link"]).failed();
+    assert_eq!(place.names("."), ["empty", "image", "link"]);
 }
 
 #[test]
@@ -419,8 +529,10 @@ fn demo() {
     let shown = fs::read(shown).expect("the picture in the documents");
     let made = "run 'sh scripts/demo --svg docs/demo-map.svg'";
     assert!(place.read("demo.svg") == shown, "{made}");
-    let left = fs::read_dir(place.path(".")).expect("it").count();
-    assert_eq!(left, 1, "the picture alone");
+    let piped = place.shell("TMPDIR=. $ADR demo --svg -").succeeded();
+    let both = [first.output.as_slice(), &shown].concat();
+    assert!(piped.output == both, "the text, then the picture");
+    assert_eq!(place.names("."), ["demo.svg"], "the picture alone");
     for seed in 0..SEEDS {
         place
             .shell(&format!("TMPDIR=. $ADR demo --faults {seed}"))

@@ -8,12 +8,11 @@ use std::fs::OpenOptions;
 use std::io::Write;
 use std::process::{Child, Stdio};
 
+use place::image::{
+    cells_with, crc, entries, index_of, newer_root, number, seal_description, seal_index,
+    seal_roots, set_number, CELL, CELLS, PAGE, ROOTS,
+};
 use place::{bytes, Place};
-
-const PAGE: usize = 4_096;
-const ROOTS: [usize; 2] = [4_096, 8_192];
-const CELLS: usize = 12_288;
-const CELL: usize = 36_864;
 
 /// Commands that have nothing but an image to work on.
 const ON_AN_IMAGE: [&[&str]; 5] = [
@@ -122,16 +121,134 @@ fn damaged_heads_roots_and_indexes() {
     }
 }
 
-/// Where the index starts that the newer root names.
-fn index_of(image: &[u8]) -> usize {
-    let newer = ROOTS.into_iter().max_by_key(|root| number(image, root + 8));
-    CELLS + number(image, newer.unwrap_or(0) + 24) * CELL
+#[test]
+fn indexes_that_lead_out_of_the_file() {
+    let place = recorded("leads-out");
+    let image = place.read("a.adr");
+    let mut same = image.clone();
+    seal_index(&mut same);
+    assert!(same == image, "the checksums are those of the tool");
+    let cells = number(&image, newer_root(&image) + 16) as u64;
+    let all = entries(&image);
+    for entry in [all[0], all[11], all[all.len() - 1]] {
+        for cell in [cells, cells + 1, u64::MAX / CELL as u64, u64::MAX] {
+            let mut altered = image.clone();
+            set_number(&mut altered, entry + 8, cell);
+            seal_index(&mut altered);
+            refused_and_unchanged(&place, &altered, "its index leads out of the file");
+        }
+    }
 }
 
-/// The 64-bit number at `at`.
-fn number(image: &[u8], at: usize) -> usize {
-    let bytes = image[at..at + 8].iter();
-    bytes.fold(0, |sum, byte| sum * 256 + usize::from(*byte))
+/// An index cell that leads back to itself.
+#[test]
+fn indexes_without_an_end() {
+    let place = recorded("no-end");
+    let mut image = place.read("a.adr");
+    let (root, index) = (newer_root(&image), index_of(&image));
+    let cell = number(&image, root + 24) as u64;
+    set_number(&mut image, index, cell);
+    for root in ROOTS {
+        set_number(&mut image, root + 32, 2_000);
+    }
+    let twice = image[index..index + CELL].repeat(2);
+    seal_roots(&mut image, crc(&twice));
+    refused_and_unchanged(&place, &image, "its index is not what was written");
+}
+
+/// What is kept in memory does not grow with the length of the file.
+#[test]
+fn long_files() {
+    let place = recorded("long");
+    place.shell("truncate -s 8T a.adr").succeeded();
+    for words in [
+        "list a.adr",
+        "check a.adr",
+        "map a.adr",
+        "restore a.adr 1 -o old",
+        "record --overwrite a.adr new",
+        "restore a.adr 1 -o again",
+    ] {
+        place
+            .shell(&format!("ulimit -v 200000; $ADR {words}"))
+            .succeeded();
+    }
+    assert_eq!(place.read("old"), place.read("file"));
+    assert_eq!(place.read("again"), place.read("new"));
+}
+
+/// A name that the tool would not record.
+#[test]
+fn names_from_a_tape() {
+    let place = recorded("tape-names");
+    place.directory("out");
+    let image = place.read("a.adr");
+    let start = cells_with(&image, b"ADRJOB 1")[0];
+    assert_eq!(image[start + 24..start + 30], *b"\0\x04file");
+    for name in [&b"../x"[..], b"a/bc", b"..", b".", b"", b"/tmp", b"a\0bc"] {
+        let mut altered = image.clone();
+        altered[start + 25] = u8::try_from(name.len()).expect("a short name");
+        altered[start + 26..start + 26 + name.len()].copy_from_slice(name);
+        seal_description(&mut altered, start);
+        place.write("a.adr", &altered);
+        let refused = place.adr(&["restore", "--into", "out", "a.adr"]).failed();
+        assert!(refused.error.contains("lead out"), "{}", refused.error);
+        let restored = place.adr(&["restore", "a.adr", "1"]).succeeded();
+        assert_eq!(restored.output, place.read("file"));
+    }
+    assert!(place.names("out").is_empty());
+    assert!(!place.path("x").exists());
+}
+
+/// Jobs that another program recorded.
+#[test]
+fn foreign_jobs() {
+    let place = recorded("foreign-jobs");
+    place.directory("out");
+    place.adr(&["format", "--overwrite", "a.adr"]).succeeded();
+    place.adr(&["record", "a.adr", "file", "new"]).succeeded();
+    let mut image = place.read("a.adr");
+    let starts = cells_with(&image, b"ADRJOB 1");
+    let start = starts.into_iter().find(|start| image[start + 26] == b'f');
+    let start = start.expect("the job of 'file'");
+    image[start] = b'a';
+    seal_description(&mut image, start);
+    place.write("a.adr", &image);
+    let list = place.adr(&["list", "a.adr"]).succeeded();
+    assert!(list
+        .output_text()
+        .contains("1  (not recorded by this tool)"));
+    let told = "job 1 was not recorded by this tool";
+    let restored = place.adr(&["restore", "--into", "out", "a.adr"]).failed();
+    assert!(restored.error.contains(told), "{}", restored.error);
+    assert!(restored.error.contains("1 job was not restored"));
+    assert_eq!(place.names("out"), ["new"]);
+    assert_eq!(place.read("out/new"), place.read("new"));
+    let restored = place.adr(&["restore", "a.adr", "1"]).failed();
+    assert!(restored.error.contains(told), "{}", restored.error);
+}
+
+/// A file that is not whole never has the job's name.
+#[test]
+fn killed_while_restoring() {
+    let place = recorded("killed-restoring");
+    place.directory("out");
+    let line = "ulimit -f 100; $ADR restore --into out a.adr";
+    // A write that fails, as on a full disk.
+    let failed = place.shell(&format!("trap '' XFSZ; {line}")).failed();
+    assert!(failed.error.starts_with("adr: out/file: "));
+    assert!(!failed.error.contains("job 1"), "{}", failed.error);
+    assert!(place.names("out").is_empty());
+    // A process that is ended in the middle of a write.
+    let ended = place.shell(&format!("ulimit -c 0; {line}"));
+    assert_ne!(ended.status, Some(0));
+    let names = place.names("out");
+    assert_eq!(names.len(), 1, "{names:?}");
+    assert!(names[0].starts_with("file.") && names[0].ends_with(".part"));
+    place
+        .adr(&["restore", "--into", "out", "a.adr"])
+        .succeeded();
+    assert_eq!(place.read("out/file"), place.read("file"));
 }
 
 /// Both roots lead to the same content.
@@ -197,23 +314,21 @@ fn damaged_frames() {
 fn damaged_headers() {
     let place = recorded("headers");
     let image = place.read("a.adr");
-    let headers: Vec<usize> = (CELLS..image.len())
-        .step_by(CELL)
-        .filter(|cell| image[*cell..].starts_with(b"ADR_SEQ\0"))
-        .collect();
+    let headers = cells_with(&image, b"ADR_SEQ\0");
     assert_eq!(headers.len(), 10);
     let mut damaged = image.clone();
     for header in &headers {
         damaged[header + 20_000] ^= 1;
     }
     refused_and_unchanged(&place, &damaged, "damaged at address");
+    refused_and_unchanged(&place, &damaged, "no other copy reads");
     // With one copy left everything can be read, but nothing recorded.
     damaged[headers[7] + 20_000] ^= 1;
     place.write("a.adr", &damaged);
     let restored = place.adr(&["restore", "a.adr", "1"]).succeeded();
     assert_eq!(restored.output, place.read("file"));
     let record = place.adr(&["record", "--overwrite", "a.adr", "new"]);
-    assert!(record.failed().error.contains("copies of the header"));
+    assert!(record.failed().error.contains("restore what it holds"));
     assert!(place.read("a.adr") == damaged);
 }
 

@@ -13,66 +13,75 @@ use adr_model::tape::Tape;
 use adr_model::{drive, Fault};
 use adr_tape::{
     newest_header, read_all, record_all, Element, Geometry, ReadError, RecordError, Refusal,
+    Summary,
 };
 use simulated::{elements, read_back, sent, Simulated};
 
 const CARTRIDGES: u64 = if cfg!(debug_assertions) { 100 } else { 600 };
 
+const LAST: adr_model::Address = adr_model::Address(3_019);
+const LARGER: Geometry = Geometry::beginning(3_020, 1);
+
+/// A hostile drive with the cartridge of this case, on which nothing bears
+/// the pass of the next recording.
+fn drive_of(case: &Case) -> Simulated {
+    let hostility = Hostility {
+        unlisted: 0,
+        ..case.hostility
+    };
+    let depth = usize::try_from(case.depth).expect("a depth");
+    let mut tape = case.cartridge(LAST);
+    let newest = tape.newest_header(LAST);
+    tape.erase_pass(newest.map_or(1, |(_, old)| old.pass.wrapping_add(1)), LAST);
+    Simulated(drive::Drive::new(tape, depth, hostility, case.seed))
+}
+
+/// Reads a closed cartridge back and compares.
+fn read_back_as_recorded(
+    seed: u64,
+    drive: &mut Simulated,
+    elements: &[Element],
+    recorded: Summary,
+) {
+    let (blocks, filemarks) = (recorded.blocks, recorded.filemarks);
+    assert_eq!(blocks + filemarks, elements.len() as u64, "seed {seed}");
+    let header = newest_header(drive, LARGER).ok().flatten();
+    let header = header.expect("a closed cartridge has a header");
+    let (delivered, read) = read_back(drive, LARGER, &header).expect("it can be read");
+    assert!(delivered == elements, "seed {seed}");
+    assert_eq!((read.blocks, read.filemarks), (blocks, filemarks));
+}
+
+/// Records on the cartridge of this seed; whether it was closed.
+fn recorded_and_read_back(seed: u64) -> bool {
+    let case = Case::of_seed(seed, Fault::None);
+    let mut drive = drive_of(&case);
+    let Ok(header) = newest_header(&mut drive, LARGER) else {
+        // Damaged copies of the same age.
+        return false;
+    };
+    let newest = drive.0.tape().newest_header(LAST);
+    assert_eq!(header.is_some(), newest.is_some(), "seed {seed}");
+    let elements = elements(&mut Random::new(seed));
+    let (depth, window) = (case.depth, case.window_blocks);
+    let source = sent(&elements);
+    let header = header.as_deref();
+    match record_all(&mut drive, LARGER, depth, window, header, source, |_| {}) {
+        Ok(summary) => {
+            read_back_as_recorded(seed, &mut drive, &elements, summary);
+            true
+        }
+        Err(RecordError::Refused(Refusal::Exhausted | Refusal::TapeFull | Refusal::NotFound)) => {
+            false
+        }
+        Err(error) => panic!("seed {seed}: {error}"),
+    }
+}
+
 #[test]
 fn cartridges() {
-    let mut done = 0;
-    for seed in 0..CARTRIDGES {
-        let case = Case::of_seed(seed, Fault::None);
-        let mut random = Random::new(seed);
-        let last = adr_model::Address(3_019);
-        let hostility = Hostility {
-            unlisted: 0,
-            ..case.hostility
-        };
-        let depth = usize::try_from(case.depth).expect("a depth");
-        let geometry = Geometry::beginning(3_020, 1);
-        let mut tape = case.cartridge(last);
-        let pass = tape
-            .newest_header(last)
-            .map_or(1, |(_, old)| old.pass.wrapping_add(1));
-        tape.erase_pass(pass, last);
-        let mut drive = Simulated(drive::Drive::new(tape, depth, hostility, seed));
-        let Ok(header) = newest_header(&mut drive, geometry) else {
-            // Damaged copies of the same age.
-            continue;
-        };
-        let newest = drive.0.tape().newest_header(last);
-        assert_eq!(header.is_some(), newest.is_some(), "seed {seed}");
-        let elements = elements(&mut random);
-        let recorded = record_all(
-            &mut drive,
-            geometry,
-            case.depth,
-            case.window_blocks,
-            header.as_deref(),
-            sent(&elements),
-            |_| {},
-        );
-        match recorded {
-            Ok(summary) => {
-                done += 1;
-                assert_eq!(summary.blocks + summary.filemarks, elements.len() as u64);
-                let header = newest_header(&mut drive, geometry).ok().flatten();
-                let header = header.expect("a closed cartridge has a header");
-                let (delivered, read) =
-                    read_back(&mut drive, geometry, &header).expect("it can be read");
-                assert!(delivered == elements, "seed {seed}");
-                assert_eq!(
-                    (read.blocks, read.filemarks),
-                    (summary.blocks, summary.filemarks)
-                );
-            }
-            Err(RecordError::Refused(
-                Refusal::Exhausted | Refusal::TapeFull | Refusal::NotFound,
-            )) => {}
-            Err(error) => panic!("seed {seed}: {error}"),
-        }
-    }
+    let done = (0..CARTRIDGES).filter(|seed| recorded_and_read_back(*seed));
+    let done = done.count() as u64;
     assert!(done > CARTRIDGES / 4, "{done}");
 }
 

@@ -2,6 +2,7 @@
 
 use super::case::Case;
 use super::content::{block, Element};
+use super::guarded::Guarded;
 use super::layer::{Layer, ReadingCalls};
 use crate::command::{Command, Outcome, ReadAnswer, ReadOutcome};
 use crate::drive::Drive;
@@ -110,19 +111,61 @@ fn read<S: ReadingCalls>(
         return Err(format!("the reading opened with {outcome:?}"));
     }
     session.plant(case.fault);
-    let finished = read_with(&mut session, case, drive, accepted, seed);
+    let mut lent = Lent::new();
+    let finished = read_with(&mut session, &mut lent, case, drive, accepted, seed);
+    lent.is_unaltered()?;
     session.wrong().map_or(finished, Err)
+}
+
+/// The frame that is lent with a reply, and what it must hold.
+struct Lent {
+    frame: Guarded,
+    held: Box<Frame>,
+    /// What the drive brings.
+    brought: Box<Frame>,
+}
+
+impl Lent {
+    fn new() -> Lent {
+        let held = Box::new([0; FRAME_LENGTH]);
+        Lent {
+            frame: Guarded::of(held.as_slice()),
+            brought: held.clone(),
+            held,
+        }
+    }
+
+    /// Sends a command to the drive.
+    fn send(&mut self, drive: &mut Drive, command: Command) -> Result<Reply, String> {
+        let reply = drive.read(command, &mut self.brought);
+        if let Meaning::Good | Meaning::Recovered = reply.sense.meaning() {
+            self.is_unaltered()?;
+            self.frame.copy_from_slice(self.brought.as_slice());
+            std::mem::swap(&mut self.held, &mut self.brought);
+        }
+        Ok(reply)
+    }
+
+    /// Looks at the whole frame. What a reply altered there stays so until
+    /// another frame is brought: it is seen before that, or at the end.
+    fn is_unaltered(&self) -> Result<(), String> {
+        if self.frame.is_intact() && *self.frame == *self.held {
+            Ok(())
+        } else {
+            Err("a reply altered the frame or bytes beside it".into())
+        }
+    }
 }
 
 fn read_with<S: ReadingCalls>(
     session: &mut S,
+    lent: &mut Lent,
     case: &Case,
     drive: &mut Drive,
     accepted: &[Element],
     seed: u64,
 ) -> Result<(usize, Finish), String> {
     let mut random = Random::new(seed ^ 0x4EAD);
-    let mut frame = Box::new([0; FRAME_LENGTH]);
     let mut delivered = 0;
     // Each address is read once at most, and located before that.
     let mut bound = 2 * u64::from(case.geometry.frames()) + 2;
@@ -137,17 +180,21 @@ fn read_with<S: ReadingCalls>(
         if matches!(command, Command::Read(address) if address != drive.next()) {
             return Err(format!("{command:?}, but the drive is elsewhere"));
         }
-        let reply = drive.read(command, &mut frame);
+        let reply = lent.send(drive, command)?;
         if reply.sense.meaning() != Meaning::Busy {
             bound = bound.checked_sub(1).ok_or("replies without bound")?;
         }
-        match session.reply(&reply, frame.as_slice()) {
+        let outcome = session.reply(&reply, &lent.frame);
+        if !lent.frame.is_intact() {
+            return Err(format!("{outcome:?} altered bytes beside the frame"));
+        }
+        match outcome {
             ReadOutcome::Nothing => {}
             ReadOutcome::End => break,
             ReadOutcome::Refused(number) => return Ok((delivered, Finish::Refused(number))),
             outcome => {
                 let element = accepted.get(delivered);
-                if !is_delivered(outcome, &frame, element) {
+                if !is_delivered(outcome, &lent.held, element) {
                     return Err(format!("{outcome:?} where {element:?} was due"));
                 }
                 delivered += 1;
@@ -179,11 +226,13 @@ fn refused_calls<S: ReadingCalls>(
     }
     let before = session.clone();
     let off = if random.chance(500) { 1 } else { -1 };
-    let wrong = vec![0; FRAME_LENGTH.saturating_add_signed(off)];
+    let wrong = Guarded::filled(0, FRAME_LENGTH.saturating_add_signed(off));
+    let lent = wrong.clone();
     let number = if awaited.is_some() { 1 } else { 7 };
-    let outcome = session.reply(&Reply::of(GOOD), &wrong);
+    let outcome = session.reply(&Reply::of(GOOD), &lent);
+    let refused = outcome == ReadOutcome::Refused(number);
     let fetched_twice = awaited.is_some() && session.fetch() != ReadAnswer::Refused(7);
-    if outcome != ReadOutcome::Refused(number) || fetched_twice || before != *session {
+    if !refused || fetched_twice || lent != wrong || before != *session {
         return Err(format!(
             "a refused call answered {outcome:?}, or altered something"
         ));

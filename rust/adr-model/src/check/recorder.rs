@@ -4,6 +4,7 @@ use std::collections::{BTreeMap, VecDeque};
 
 use super::case::{Call, Case};
 use super::content::{block, Element};
+use super::guarded::Guarded;
 use super::layer::RecordingCalls;
 use super::replies::UNTOUCHED;
 use crate::command::{Answer, Command, Outcome};
@@ -30,9 +31,10 @@ pub struct Recorder<R> {
     pub(super) pass: u16,
     pub(super) update_count: u32,
     pub(super) closed: bool,
-    pub(super) window: Vec<u8>,
+    pub(super) window: Guarded,
+    /// What the window must hold.
     pub(super) shadow: Vec<u8>,
-    pub(super) frame: Box<Frame>,
+    pub(super) frame: Guarded,
     pub(super) expected: Box<Frame>,
     pub(super) awaited: Option<(Command, Reply)>,
     /// The command answered busy.
@@ -61,6 +63,39 @@ pub(super) enum Sent {
     Eod,
 }
 
+/// What an opening must make of the newest header.
+struct Opened {
+    pass: u16,
+    update_count: u32,
+    /// Whether pass or update count are used up.
+    spent: bool,
+}
+
+impl Opened {
+    fn on(newest: Option<&HeaderFields>) -> Opened {
+        newest.map_or(
+            Opened {
+                pass: 1,
+                update_count: 0,
+                spent: false,
+            },
+            |old| Opened {
+                pass: old.pass.wrapping_add(1),
+                update_count: old.update_count.wrapping_add(1),
+                spent: old.pass == 65_534 || old.update_count > 4_294_967_293,
+            },
+        )
+    }
+
+    fn outcome(&self) -> Outcome {
+        if self.spent {
+            Outcome::Refused(5)
+        } else {
+            Outcome::Accepted
+        }
+    }
+}
+
 impl<R: RecordingCalls> Recorder<R> {
     /// Opens a recording on the newest header.
     ///
@@ -75,37 +110,38 @@ impl<R: RecordingCalls> Recorder<R> {
         let header = newest.as_ref().map(|(frame, _)| frame.as_slice());
         let (mut session, outcome) =
             R::open(&case.geometry, case.depth, case.window_blocks, header);
-        let fields = newest.as_ref().map(|(_, fields)| *fields);
-        let (pass, update_count, spent) = fields.map_or((1, 0, false), |old| {
-            let spent = old.pass == 65_534 || old.update_count > 4_294_967_293;
-            let pass = old.pass.wrapping_add(1);
-            (pass, old.update_count.wrapping_add(1), spent)
-        });
-        let expected = if spent {
-            Outcome::Refused(5)
-        } else {
-            Outcome::Accepted
-        };
-        if outcome != expected {
+        let opened = Opened::on(newest.as_ref().map(|(_, fields)| fields));
+        if outcome != opened.outcome() {
             return Err(format!("opening answered {outcome:?}"));
         }
         session.plant(case.fault);
+        Ok(Recorder::at_start(case, last, drive, session, &opened))
+    }
+
+    fn at_start(
+        case: &Case,
+        last: Address,
+        drive: Drive,
+        session: R,
+        opened: &Opened,
+    ) -> Recorder<R> {
         let blocks = usize::try_from(case.window_blocks).unwrap_or(0);
-        let window = vec![0x5A; if spent { 0 } else { blocks * BLOCK_LENGTH }];
-        Ok(Recorder {
+        let lent = if opened.spent { 0 } else { blocks };
+        let window = Guarded::filled(0x5A, lent * BLOCK_LENGTH);
+        Recorder {
             drive,
             accepted: Vec::new(),
             done: false,
-            refused: spent.then_some(5),
+            refused: opened.spent.then_some(5),
             session,
             last,
             end: last,
-            pass,
-            update_count,
+            pass: opened.pass,
+            update_count: opened.update_count,
             closed: false,
-            shadow: window.clone(),
+            shadow: window.to_vec(),
             window,
-            frame: Box::new(UNTOUCHED),
+            frame: Guarded::of(&UNTOUCHED),
             expected: Box::new([0; FRAME_LENGTH]),
             awaited: None,
             again: None,
@@ -117,7 +153,7 @@ impl<R: RecordingCalls> Recorder<R> {
             eod: None,
             window_blocks: blocks,
             fetches: 0,
-        })
+        }
     }
 
     /// Makes the calls, closes, and goes on until done or a refusal that ends
@@ -140,7 +176,18 @@ impl<R: RecordingCalls> Recorder<R> {
             self.call(call)?;
         }
         self.call(Call::Fetch)?;
+        self.window_is_right()?;
         self.only_allowed_addresses()
+    }
+
+    /// Looks at the whole window. What a fetch altered there stays so until an
+    /// accept: it is seen before that, or at the end.
+    fn window_is_right(&self) -> Result<(), String> {
+        if *self.window == self.shadow {
+            Ok(())
+        } else {
+            Err("the window is not as it should be".into())
+        }
     }
 
     fn only_allowed_addresses(&self) -> Result<(), String> {
@@ -156,7 +203,12 @@ impl<R: RecordingCalls> Recorder<R> {
 
     fn call(&mut self, call: Call) -> Result<(), String> {
         let answered = self.answered_rightly(call);
-        self.session.wrong().map_or(answered, Err)
+        self.session.wrong().map_or(answered, Err)?;
+        if self.window.is_intact() && self.frame.is_intact() {
+            Ok(())
+        } else {
+            Err("bytes beside a buffer were altered".into())
+        }
     }
 
     fn answered_rightly(&mut self, call: Call) -> Result<(), String> {
@@ -187,9 +239,9 @@ impl<R: RecordingCalls> Recorder<R> {
             Call::WrongWindow(off) => {
                 let before = self.session.clone();
                 let length = self.window.len().saturating_add_signed(isize::from(off));
-                let mut window = vec![1; length];
+                let mut window = Guarded::filled(1, length);
                 let outcome = self.session.accept_block(block(1), &mut window);
-                if window.iter().any(|byte| *byte != 1) {
+                if window != Guarded::filled(1, length) {
                     return Err("a refused window was altered".into());
                 }
                 self.look(outcome, self.phase_or_length(), &before)
@@ -216,11 +268,12 @@ impl<R: RecordingCalls> Recorder<R> {
 
     fn wrong_fetch(&mut self, window: usize, length: usize) -> Result<(), String> {
         let before = self.session.clone();
-        let mut frame = vec![1; length];
-        let answer = self.session.fetch(&vec![2; window], &mut frame);
+        let (one, other) = (Guarded::filled(2, window), Guarded::filled(1, length));
+        let (lent, mut frame) = (one.clone(), other.clone());
+        let answer = self.session.fetch(&lent, &mut frame);
         let phase = self.awaited.is_some() || self.refused.is_some();
         let expected = Answer::Refused(if phase { 7 } else { 1 });
-        if answer != expected || frame.iter().any(|byte| *byte != 1) || before != self.session {
+        if answer != expected || (lent, frame) != (one, other) || before != self.session {
             return Err(format!("answered {answer:?}, or altered something"));
         }
         Ok(())
@@ -236,7 +289,8 @@ impl<R: RecordingCalls> Recorder<R> {
         if !fits {
             return Err(format!("answered {outcome:?}, not {refusals:?}"));
         }
-        if outcome != Outcome::Accepted && (self.session != *before || self.window != self.shadow) {
+        if outcome != Outcome::Accepted && (self.session != *before || *self.window != self.shadow)
+        {
             return Err("a refused call altered the session or the window".into());
         }
         Ok(())
@@ -256,6 +310,7 @@ impl<R: RecordingCalls> Recorder<R> {
     fn accept_block(&mut self, number: u16) -> Result<(), String> {
         let before = self.session.clone();
         let refusals = self.phase_or_full();
+        self.window_is_right()?;
         let outcome = self.session.accept_block(block(number), &mut self.window);
         if outcome == Outcome::Accepted {
             let start = self.accepted.len() % self.window_blocks * BLOCK_LENGTH;
@@ -263,9 +318,7 @@ impl<R: RecordingCalls> Recorder<R> {
                 place.copy_from_slice(block(number));
             }
             self.accepted.push(Element::Block(number));
-            if self.window != self.shadow {
-                return Err("the window is not as it should be".into());
-            }
+            self.window_is_right()?;
         }
         self.look(outcome, refusals, &before)
     }

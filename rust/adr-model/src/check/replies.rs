@@ -23,7 +23,7 @@ impl<R: RecordingCalls> Recorder<R> {
             return Err("the recording goes on for ever".into());
         }
         let before = self.session.clone();
-        let answer = self.session.fetch(&self.window, self.frame.as_mut_slice());
+        let answer = self.session.fetch(&self.window, &mut self.frame);
         if !matches!(answer, Answer::Command(Command::Write(_))) && *self.frame != UNTOUCHED {
             return Err(format!("{answer:?} altered the frame"));
         }
@@ -70,9 +70,10 @@ impl<R: RecordingCalls> Recorder<R> {
             Command::Locate(_) | Command::ReadPosition => {}
             Command::Read(_) => return Err("READ in a recording".into()),
         }
-        let reply = self.drive.record(command, &self.frame);
+        let sent = <&Frame>::try_from(&*self.frame).map_err(|wrong| wrong.to_string())?;
+        let reply = self.drive.record(command, sent);
         if let Command::Write(_) = command {
-            *self.frame = UNTOUCHED;
+            self.frame.copy_from_slice(&UNTOUCHED);
         }
         self.awaited = Some((command, reply));
         Ok(())
@@ -115,7 +116,7 @@ impl<R: RecordingCalls> Recorder<R> {
                 self.markers.insert(index, address);
             }
         }
-        if self.frame == self.expected {
+        if *self.frame == *self.expected {
             Ok(())
         } else {
             Err(format!("the frame for {address:?} has wrong bytes"))

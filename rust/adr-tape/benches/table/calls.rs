@@ -2,13 +2,15 @@
 //! its element and needs no recording that leads there.
 
 use std::hint::black_box;
+use std::sync::atomic::{compiler_fence, Ordering};
 
 use adr_tape::{ffi, BLOCK_LENGTH, FRAME_LENGTH};
 
-use crate::measure::{median, row, time, Row};
+use crate::measure::{median, rows, subject, time, Row, Subject};
 
 /// Calls that are timed at once; a window of 64 blocks is gone through.
 const COUNT: u32 = 128;
+const LOOP: &str = "a loop of 16-byte moves, same places";
 const LARGEST: ffi::Geometry = ffi::Geometry {
     segtrk: 65_535,
     trks: 65_535,
@@ -90,80 +92,112 @@ fn buffers(blocks: u32) -> Buffers {
     }
 }
 
-fn accepting(name: &'static str, rounds: u32, blocks: u32) -> Row {
-    let session = recording(blocks);
-    row(
-        name,
-        rounds,
-        COUNT,
-        || buffers(blocks),
-        |lent, number| {
-            let session = at(session, number, false);
-            let accepted = ffi::record_block(session, black_box(&lent.block), &mut lent.window);
-            assert_eq!(black_box(accepted).number, 0);
-        },
-        |lent, number| {
-            block_of(&mut lent.window, number).copy_from_slice(black_box(&lent.block));
-            black_box(&mut lent.window);
-        },
-    )
+/// The places that a call copies between.
+type Places = for<'a> fn(&'a mut Buffers, u32) -> (&'a [u8], &'a mut [u8]);
+
+fn into_window(lent: &mut Buffers, number: u32) -> (&[u8], &mut [u8]) {
+    (&lent.block, block_of(&mut lent.window, number))
 }
 
-fn fetching(name: &'static str, rounds: u32, blocks: u32) -> Row {
+fn into_frame(lent: &mut Buffers, number: u32) -> (&[u8], &mut [u8]) {
+    let block = block_of(&mut lent.window, number);
+    (block, &mut lent.frame[..BLOCK_LENGTH])
+}
+
+fn into_block(lent: &mut Buffers, _: u32) -> (&[u8], &mut [u8]) {
+    (&lent.frame[..BLOCK_LENGTH], &mut lent.block)
+}
+
+/// The plain copy between these places.
+fn copying<'a>(places: Places) -> Subject<'a, Buffers> {
+    subject("copy", COUNT, move |lent: &mut Buffers, number| {
+        let (from, to) = places(lent, number);
+        to.copy_from_slice(black_box(from));
+        black_box(to);
+    })
+}
+
+/// The same by a loop of 16-byte moves in ascending order, 128 bytes a turn,
+/// as the library's.
+fn looping<'a>(places: Places) -> Subject<'a, Buffers> {
+    subject(LOOP, COUNT, move |lent: &mut Buffers, number| {
+        let (from, to) = places(lent, number);
+        let (from, to) = (black_box(from).as_chunks().0, to.as_chunks_mut().0);
+        for (to, from) in to.iter_mut().zip(from) {
+            move_128(to, from);
+        }
+        black_box(to);
+    })
+}
+
+/// The fences, which are no instructions, keep the compiler from altering the
+/// order and from making a `memcpy` of the loop.
+#[inline(always)]
+fn move_128(to: &mut [u8; 128], from: &[u8; 128]) {
+    let (to, from) = (to.as_chunks_mut::<16>().0, from.as_chunks().0);
+    for (to, from) in to.iter_mut().zip(from) {
+        *to = *from;
+        compiler_fence(Ordering::SeqCst);
+    }
+}
+
+/// A call that copies a block, and such a loop alone, beside a copy.
+fn moving(
+    name: &'static str,
+    rounds: u32,
+    blocks: u32,
+    places: Places,
+    call: impl FnMut(&mut Buffers, u32),
+) -> Vec<Row> {
+    let subjects = vec![subject(name, COUNT, call), looping(places)];
+    rows(rounds, || buffers(blocks), subjects, copying(places))
+}
+
+fn accepting(name: &'static str, rounds: u32, blocks: u32) -> Vec<Row> {
+    let session = recording(blocks);
+    moving(name, rounds, blocks, into_window, |lent, number| {
+        let session = at(session, number, false);
+        let accepted = ffi::record_block(session, black_box(&lent.block), &mut lent.window);
+        assert_eq!(black_box(accepted).number, 0);
+    })
+}
+
+fn fetching(name: &'static str, rounds: u32, blocks: u32) -> Vec<Row> {
     let mut session = recording(blocks);
     session.elements.pending = 1;
-    row(
-        name,
-        rounds,
-        COUNT,
-        || buffers(blocks),
-        |lent, number| {
-            let session = at(session, number, false);
-            let fetched = ffi::record_fetch(session, black_box(&lent.window), &mut lent.frame);
-            assert_eq!(black_box(fetched).command.code, ffi::WRITE);
-        },
-        |lent, number| {
-            let block = block_of(&mut lent.window, number);
-            lent.frame[..BLOCK_LENGTH].copy_from_slice(black_box(block));
-            black_box(&mut lent.frame);
-        },
-    )
+    moving(name, rounds, blocks, into_frame, |lent, number| {
+        let session = at(session, number, false);
+        let fetched = ffi::record_fetch(session, black_box(&lent.window), &mut lent.frame);
+        assert_eq!(black_box(fetched).command.code, ffi::WRITE);
+    })
 }
 
-fn replying(name: &'static str, rounds: u32, expected: u32, answer: u8) -> Row {
+fn replying(name: &'static str, rounds: u32, expected: u32, answer: u8) -> Vec<Row> {
     let session = recording(1);
     let reading = reading(&session, expected);
-    row(
-        name,
-        rounds,
-        COUNT,
-        || Buffers {
-            frame: written(session, 100, false),
-            ..buffers(1)
-        },
-        |lent, _| {
-            let reply = ffi::Reply::default();
-            let taken = ffi::read_reply(black_box(reading), reply, &lent.frame);
-            assert_eq!(black_box(taken).answer, answer);
-        },
-        |lent, _| {
-            lent.block
-                .copy_from_slice(black_box(&lent.frame[..BLOCK_LENGTH]));
-            black_box(&mut lent.block);
-        },
-    )
+    let lent = || Buffers {
+        frame: written(session, 100, false),
+        ..buffers(1)
+    };
+    let call = subject(name, COUNT, |lent: &mut Buffers, _| {
+        let reply = ffi::Reply::default();
+        let taken = ffi::read_reply(black_box(reading), reply, &lent.frame);
+        assert_eq!(black_box(taken).answer, answer);
+    });
+    rows(rounds, lent, vec![call], copying(into_block))
 }
 
 /// Calls that move a block's bytes or judge them.
 pub fn with_data(rounds: u32) -> Vec<Row> {
-    vec![
+    let measured = [
         accepting("accept a block, W = 4", rounds, 4),
         accepting("accept a block, W = 64", rounds, 64),
         fetching("fetch a WRITE, W = 4", rounds, 4),
         fetching("fetch a WRITE, W = 64", rounds, 64),
         replying("reply to a READ, data", rounds, 100, ffi::BLOCK),
         replying("reply to a READ, stale frame", rounds, 101, ffi::NOTHING),
-    ]
+    ];
+    measured.into_iter().flatten().collect()
 }
 
 type Call<'a> = Box<dyn FnMut(u32, bool) + 'a>;

@@ -9,7 +9,7 @@ use adr_tape::{
     BLOCK_LENGTH, FRAME_LENGTH,
 };
 
-use crate::measure::{median, time};
+use crate::measure::{median, ratio, time};
 
 const FRAMES: usize = 3_001;
 const BLOCKS: usize = 2_000;
@@ -71,53 +71,69 @@ fn rate(nanoseconds: f64) -> f64 {
     (BLOCKS * BLOCK_LENGTH) as f64 * 1e3 / nanoseconds
 }
 
-/// MB/s of a recording, a reading and a plain copy to or from the same tape,
-/// and the share of the copy's rate.
-pub fn rates(rounds: u32) -> Vec<(&'static str, f64, f64)> {
-    let mut drive = Memory::new();
+fn copy_to(drive: &mut Memory, block: &[u8]) {
+    drive.at = 10;
+    for _ in 0..BLOCKS {
+        drive.place()[..BLOCK_LENGTH].copy_from_slice(black_box(block));
+    }
+}
+
+fn copy_from(drive: &mut Memory, block: &mut [u8]) {
+    drive.at = 10;
+    for _ in 0..BLOCKS {
+        block.copy_from_slice(&drive.place()[..BLOCK_LENGTH]);
+        black_box(&mut *block);
+    }
+}
+
+fn record(drive: &mut Memory, block: &[u8]) {
+    let blocks = (0..BLOCKS).map(|_| Ok::<_, Infallible>(Element::from(block)));
+    let summary = record_all(drive, GEOMETRY, 16, 16, None, blocks, |_| {});
+    assert!(summary.is_ok_and(|summary| summary.blocks == BLOCKS as u64));
+}
+
+fn read(drive: &mut Memory, header: &[u8], target: &mut [u8]) {
+    let take = |element: Element<'_>| {
+        if let Element::Block(block) = element {
+            target.copy_from_slice(&block);
+            black_box(&mut *target);
+        }
+        Ok::<_, Infallible>(ControlFlow::Continue(()))
+    };
+    let summary = read_all(drive, GEOMETRY, header, take, |_| {});
+    assert!(summary.is_ok_and(|summary| summary.blocks == BLOCKS as u64));
+}
+
+/// Nanoseconds of a copy to the tape, a recording, a copy from the tape and a
+/// reading.
+fn round(drive: &mut Memory) -> [f64; 4] {
     let block = vec![9; BLOCK_LENGTH];
     let mut target = vec![0; BLOCK_LENGTH];
-    let (mut copying, mut recording, mut reading) = (Vec::new(), Vec::new(), Vec::new());
-    for _ in 0..rounds {
-        drive.at = 10;
-        let copied = time(1, |_| {
-            for _ in 0..BLOCKS {
-                drive.place()[..BLOCK_LENGTH].copy_from_slice(black_box(&block));
-            }
-        });
-        drive.written.fill(false);
-        let recorded = time(1, |_| {
-            let blocks = (0..BLOCKS).map(|_| Ok::<_, Infallible>(Element::from(block.as_slice())));
-            let summary = record_all(&mut drive, GEOMETRY, 16, 16, None, blocks, |_| {});
-            assert!(summary.is_ok_and(|summary| summary.blocks == BLOCKS as u64));
-        });
-        let header = newest_header(&mut drive, GEOMETRY).ok().flatten();
-        let header = header.unwrap_or_default();
-        let read = time(1, |_| {
-            let take = |element: Element<'_>| {
-                if let Element::Block(block) = element {
-                    target.copy_from_slice(&block);
-                }
-                Ok::<_, Infallible>(ControlFlow::Continue(()))
-            };
-            let summary = read_all(&mut drive, GEOMETRY, &header, take, |_| {});
-            assert!(summary.is_ok_and(|summary| summary.blocks == BLOCKS as u64));
-        });
-        copying.push(copied);
-        recording.push(recorded);
-        reading.push(read);
-    }
-    let share = |times: &[f64]| {
-        let ratios = times.iter().zip(&copying).map(|(time, copy)| copy / time);
-        median(ratios.collect())
-    };
-    vec![
-        ("a copy to the tape", rate(median(copying.clone())), 1.0),
-        (
-            "a recording",
-            rate(median(recording.clone())),
-            share(&recording),
-        ),
-        ("a reading", rate(median(reading.clone())), share(&reading)),
-    ]
+    let to = time(1, |_| copy_to(drive, &block));
+    drive.written.fill(false);
+    let recorded = time(1, |_| record(drive, &block));
+    let header = newest_header(drive, GEOMETRY).ok().flatten();
+    let header = header.unwrap_or_default();
+    let from = time(1, |_| copy_from(drive, &mut target));
+    let read = time(1, |_| read(drive, &header, &mut target));
+    [to, recorded, from, read]
+}
+
+/// MB/s of a recording and of a reading, each behind a plain copy of as many
+/// blocks to or from the same tape, and the share of that copy's rate.
+pub fn rates(rounds: u32) -> Vec<(&'static str, f64, f64)> {
+    let mut drive = Memory::new();
+    let rounds: Vec<[f64; 4]> = (0..rounds).map(|_| round(&mut drive)).collect();
+    let times = |at: usize| rounds.iter().map(|times| times[at]).collect::<Vec<_>>();
+    let named = [
+        ("a copy to the tape", 0, 0),
+        ("a recording", 1, 0),
+        ("a copy from the tape", 2, 2),
+        ("a reading", 3, 2),
+    ];
+    let rated = named.map(|(name, at, copy)| {
+        let share = ratio(&times(copy), &times(at));
+        (name, rate(median(times(at))), share)
+    });
+    rated.to_vec()
 }

@@ -65,11 +65,11 @@ pub struct Command {
 #[repr(C)]
 #[derive(Clone, Copy, Debug, Default, PartialEq, Eq)]
 pub struct Exchange {
-    /// The command.
+    /// The command; nothing before the first.
     pub command: Command,
     /// 1 while its reply is awaited.
     pub awaiting: u8,
-    /// 1 if it comes again.
+    /// 1 if it was answered busy and comes again.
     pub again: u8,
 }
 
@@ -103,15 +103,15 @@ pub struct Header {
 pub struct Copies {
     /// What they say.
     pub header: Header,
-    /// The group, 0 or 1.
+    /// The group of the next copy, 0 or 1.
     pub group: u8,
-    /// The copy in its group.
+    /// Its number in the group; 5 behind the last.
     pub copy: u8,
-    /// Taken by the drive, not known on tape.
+    /// Of this group: taken by the drive, not known on tape.
     pub outstanding: u8,
-    /// Known on tape.
+    /// Of both groups: known on tape.
     pub confirmed: u8,
-    /// 1 if a LOCATE is due.
+    /// 1 if a LOCATE of the next copy's address comes first.
     pub locate: u8,
 }
 
@@ -122,7 +122,7 @@ pub struct Copies {
 pub struct Trail {
     /// How many.
     pub filemarks: u32,
-    /// The address of the latest.
+    /// The address of the latest, FFFFFFFF where there is none.
     pub marker: u32,
 }
 
@@ -132,23 +132,23 @@ pub struct Trail {
 pub struct Elements {
     /// The number of the oldest not known on tape.
     pub first: u32,
-    /// The next address.
+    /// Where the next frame goes, unless a LOCATE comes first.
     pub next: u32,
     /// One past END, the highest address that may be written.
     pub limit: u32,
-    /// Where that LOCATE goes.
+    /// The address of the LOCATE that `locate` asks for.
     pub target: u32,
-    /// The filemarks before that element.
+    /// The filemarks before the element `first`.
     pub trail: Trail,
-    /// Accepted and not known on tape.
+    /// Accepted, or EOD, and not known on tape.
     pub pending: u16,
-    /// Taken by the drive and not known on tape.
+    /// Of these: taken by the drive.
     pub outstanding: u16,
-    /// 1 if a LOCATE is due.
+    /// 1 if a LOCATE of `target` comes first.
     pub locate: u8,
-    /// 1 if the element due is EOD.
+    /// 1 once EOD became due.
     pub eod: u8,
-    /// At i mod 64, 1 if element i is a filemark.
+    /// At i mod 64, 1 if the pending element i is a filemark.
     pub marks: [u8; 64],
 }
 
@@ -163,7 +163,7 @@ pub struct Recording {
     pub stage: u8,
     /// 1 once close was called.
     pub closed: u8,
-    /// 1 once a refusal ended it.
+    /// 1 once a refusal of 8 to 12 ended it, or if its opening was refused.
     pub ended: u8,
     /// The command last given.
     pub exchange: Exchange,
@@ -190,17 +190,17 @@ pub struct Told {
 pub struct Reading {
     /// What the header told.
     pub told: Told,
-    /// The next address.
+    /// The address read next, unless a LOCATE comes first.
     pub next: u32,
     /// The number of the element expected.
     pub expected: u32,
     /// The command last given.
     pub exchange: Exchange,
-    /// 1 if a LOCATE is due.
+    /// 1 if a LOCATE of `next` comes first.
     pub locate: u8,
     /// 1 once EOD was read.
     pub finished: u8,
-    /// 1 once a refusal ended it.
+    /// 1 once a refusal of 8 to 12 ended it, or if its opening was refused.
     pub ended: u8,
 }
 

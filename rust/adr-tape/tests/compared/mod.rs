@@ -1,87 +1,47 @@
 //! The layer and the model side by side: every call is made on both, and
-//! answers, buffers and the bytes around them are compared.
+//! answers, sessions and buffers are compared. Who lends a window or a frame
+//! lends a guarded one and looks at the bytes around it; blocks and headers
+//! are guarded here.
 #![allow(dead_code)]
+
+pub mod sessions;
 
 use std::cell::RefCell;
 
+use adr_model::check::guarded::Guarded;
 use adr_model::check::layer::{Layer, ReadingCalls, RecordingCalls};
 use adr_model::reply::WRITE_ERROR;
 use adr_model::{
     Address, Answer, Command, Fault, Geometry, Outcome, ReadAnswer, ReadOutcome, Reading,
     Recording, Reply,
 };
-use adr_tape::{ffi, FRAME_LENGTH};
-
-/// Bytes before and behind a lent buffer; not a multiple of a word, so that
-/// buffers are lent unaligned.
-const GUARD: usize = 61;
-const GUARD_BYTE: u8 = 0xC7;
-/// One in so many fetches lends guarded copies: a window is large.
-const CLOSELY: u32 = 8;
+use adr_tape::ffi;
 
 thread_local! {
     /// Buffers used again: large ones are costly to allocate.
-    static BUFFERS: RefCell<Vec<Vec<u8>>> = const { RefCell::new(Vec::new()) };
-    /// What the model wrote last; it writes all of a frame.
-    static OWN_FRAME: RefCell<Vec<u8>> = const { RefCell::new(Vec::new()) };
+    static BUFFERS: RefCell<Vec<Guarded>> = const { RefCell::new(Vec::new()) };
+    /// What the model wrote last: its window or frame.
+    static OWN: RefCell<Vec<u8>> = const { RefCell::new(Vec::new()) };
 }
 
-/// Lends a copy of `content` with guard bytes on either side. The third
-/// result is whether the guard bytes are as they were.
-pub fn guarded<T>(content: &[u8], act: impl FnOnce(&mut [u8]) -> T) -> (T, Vec<u8>, bool) {
-    let mut bytes = BUFFERS.with_borrow_mut(Vec::pop).unwrap_or_default();
-    bytes.clear();
-    bytes.resize(GUARD, GUARD_BYTE);
-    bytes.extend_from_slice(content);
-    bytes.resize(GUARD + content.len() + GUARD, GUARD_BYTE);
-    let (before, rest) = bytes.split_at_mut(GUARD);
-    let (lent, behind) = rest.split_at_mut(content.len());
-    let result = act(lent);
-    let intact = before
-        .iter()
-        .chain(behind.iter())
-        .all(|byte| *byte == GUARD_BYTE);
-    (result, bytes, intact)
+/// Lends a guarded copy of `content`. The third result is whether the guard
+/// bytes are as they were.
+pub fn guarded<T>(content: &[u8], act: impl FnOnce(&mut [u8]) -> T) -> (T, Guarded, bool) {
+    let mut lent = Guarded::of(content);
+    let result = act(&mut lent);
+    let intact = lent.is_intact();
+    (result, lent, intact)
 }
 
-/// Gives a buffer of [`guarded`] back.
-fn done_with(bytes: Vec<u8>) {
-    BUFFERS.with_borrow_mut(|buffers| buffers.push(bytes));
-}
-
-/// Lends a guarded copy of `content`, which must come back as `expected` says
-/// of the result.
-fn lend<T>(
-    content: &[u8],
-    act: impl FnOnce(&mut [u8]) -> T,
-    expected: impl FnOnce(&T, &[u8]) -> bool,
-) -> (T, bool) {
-    let (result, bytes, intact) = guarded(content, act);
-    let lent = &bytes[GUARD..bytes.len() - GUARD];
-    let right = intact && expected(&result, lent);
-    done_with(bytes);
+/// Lends a guarded copy of `content`, which must come back as it was.
+fn lend<T>(content: &[u8], act: impl FnOnce(&[u8]) -> T) -> (T, bool) {
+    let copy = BUFFERS.with_borrow_mut(Vec::pop);
+    let mut copy = copy.unwrap_or_else(|| Guarded::of(&[]));
+    copy.refill(content);
+    let result = act(&copy);
+    let right = copy.is_intact() && *copy == *content;
+    BUFFERS.with_borrow_mut(|buffers| buffers.push(copy));
     (result, right)
-}
-
-/// Lends guarded copies of both; the first comes back as it was.
-fn lend_both<T>(
-    read: &[u8],
-    written: &[u8],
-    act: impl FnOnce(&[u8], &mut [u8]) -> T,
-    expected: impl FnOnce(&[u8]) -> bool,
-) -> (T, bool) {
-    let ((result, one), other) = lend(
-        read,
-        |read| {
-            lend(
-                written,
-                |written| act(read, written),
-                |_, lent| expected(lent),
-            )
-        },
-        |_, lent| lent == read,
-    );
-    (result, one && other)
 }
 
 pub fn geometry_of(geometry: &Geometry) -> ffi::Geometry {
@@ -117,6 +77,7 @@ pub fn outcome_of(number: u8) -> Outcome {
     }
 }
 
+/// The command that the numbers stand for.
 fn command_of(command: ffi::Command) -> Option<Command> {
     let address = Address(command.address);
     match command.code {
@@ -169,7 +130,6 @@ pub struct ComparedRecording {
     pub layer: ffi::Recording,
     pub model: Recording,
     wrong: Option<String>,
-    fetches: u32,
 }
 
 impl PartialEq for ComparedRecording {
@@ -179,61 +139,35 @@ impl PartialEq for ComparedRecording {
 }
 
 impl ComparedRecording {
-    fn note(&mut self, what: &str, right: bool, model: Outcome, number: u8) -> Outcome {
+    /// Takes the layer's session after a call and compares it.
+    fn follow(&mut self, what: &str, layer: ffi::Recording) {
+        self.layer = layer;
+        let (stands, model) = (sessions::recording_state(&layer), self.model.state());
+        if stands.as_ref() != Ok(&model) {
+            self.complain(format!("{what}: {stands:?}, but the model's is {model:?}"));
+        }
+    }
+
+    fn note(
+        &mut self,
+        what: &str,
+        right: bool,
+        model: Outcome,
+        layer: ffi::RecordOutcome,
+    ) -> Outcome {
+        let number = layer.number;
         if !right {
             self.complain(format!("{what}: a buffer is not as the model has it"));
         }
         if outcome_of(number) != model {
             self.complain(format!("{what}: {number}, but the model answers {model:?}"));
         }
+        self.follow(what, layer.session);
         outcome_of(number)
     }
 
     fn complain(&mut self, wrong: String) {
         self.wrong.get_or_insert(wrong);
-    }
-
-    /// Whether this fetch lends guarded copies.
-    fn closely(&mut self) -> bool {
-        self.fetches = (self.fetches + 1) % CLOSELY;
-        self.fetches == 0
-    }
-
-    fn fetch_closely(
-        &mut self,
-        window: &[u8],
-        frame: &mut [u8],
-    ) -> (ffi::RecordFetched, Answer, bool) {
-        let before = self.layer;
-        let unaltered = frame.to_vec();
-        let answer = self.model.fetch(window, frame);
-        let (fetched, right) = lend_both(
-            window,
-            &unaltered,
-            |window, frame| ffi::record_fetch(before, window, frame),
-            |lent| lent == frame,
-        );
-        (fetched, answer, right)
-    }
-
-    /// Lends the buffers as they are. The caller sees what becomes of the
-    /// window, and of the frame if the answer is no WRITE.
-    fn fetch_plainly(
-        &mut self,
-        window: &[u8],
-        frame: &mut [u8],
-    ) -> (ffi::RecordFetched, Answer, bool) {
-        let fetched = ffi::record_fetch(self.layer, window, frame);
-        if fetched.command.code != ffi::WRITE {
-            let answer = self.model.fetch(window, frame);
-            return (fetched, answer, true);
-        }
-        let (answer, right) = OWN_FRAME.with_borrow_mut(|own| {
-            own.resize(frame.len(), 0);
-            let answer = self.model.fetch(window, own);
-            (answer, own == frame)
-        });
-        (fetched, answer, right)
     }
 }
 
@@ -248,19 +182,16 @@ impl RecordingCalls for ComparedRecording {
         let geometry = geometry_of(geometry);
         let (opened, right) = match newest {
             None => (ffi::record_open_blank(geometry, depth, window_blocks), true),
-            Some(header) => lend(
-                header,
-                |lent| ffi::record_open(geometry, depth, window_blocks, lent),
-                |_, lent| lent == header,
-            ),
+            Some(header) => lend(header, |lent| {
+                ffi::record_open(geometry, depth, window_blocks, lent)
+            }),
         };
         let mut session = ComparedRecording {
             layer: opened.session,
             model,
             wrong: None,
-            fetches: 0,
         };
-        let outcome = session.note("opening", right, outcome, opened.number);
+        let outcome = session.note("opening", right, outcome, opened);
         (session, outcome)
     }
 
@@ -269,59 +200,57 @@ impl RecordingCalls for ComparedRecording {
     }
 
     fn accept_block(&mut self, block: &[u8], window: &mut [u8]) -> Outcome {
-        let before = self.layer;
-        let ((accepted, block_right), bytes, intact) = guarded(window, |window| {
-            lend(
-                block,
-                |block| ffi::record_block(before, block, window),
-                |_, lent| lent == block,
-            )
+        let (outcome, accepted, right) = OWN.with_borrow_mut(|own| {
+            own.clear();
+            own.extend_from_slice(window);
+            let outcome = self.model.accept_block(block, own);
+            let (accepted, right) =
+                lend(block, |block| ffi::record_block(self.layer, block, window));
+            (outcome, accepted, right && own == window)
         });
-        let outcome = self.model.accept_block(block, window);
-        let window_right = intact && bytes[GUARD..bytes.len() - GUARD] == *window;
-        done_with(bytes);
-        self.layer = accepted.session;
-        let right = block_right && window_right;
-        self.note("a block", right, outcome, accepted.number)
+        self.note("a block", right, outcome, accepted)
     }
 
     fn accept_filemark(&mut self) -> Outcome {
         let outcome = self.model.accept_filemark();
         let accepted = ffi::record_filemark(self.layer);
-        self.layer = accepted.session;
-        self.note("a filemark", true, outcome, accepted.number)
+        self.note("a filemark", true, outcome, accepted)
     }
 
     fn close(&mut self) -> Outcome {
         let outcome = self.model.close();
         let closed = ffi::record_close(self.layer);
-        self.layer = closed.session;
-        self.note("close", true, outcome, closed.number)
+        self.note("close", true, outcome, closed)
     }
 
+    /// Whoever lends window and frame sees what becomes of the window, and of
+    /// the frame if the answer is no WRITE.
     fn fetch(&mut self, window: &[u8], frame: &mut [u8]) -> Answer {
-        let (fetched, answer, right) = if self.closely() {
-            self.fetch_closely(window, frame)
+        let fetched = ffi::record_fetch(self.layer, window, frame);
+        let (answer, right) = if fetched.command.code == ffi::WRITE {
+            OWN.with_borrow_mut(|own| {
+                own.resize(frame.len(), 0);
+                (self.model.fetch(window, own), own == frame)
+            })
         } else {
-            self.fetch_plainly(window, frame)
+            (self.model.fetch(window, frame), true)
         };
-        self.layer = fetched.session;
         if !right {
             self.complain(format!(
-                "a fetch: {answer:?}, and a buffer is not as the model has it"
+                "a fetch: {answer:?}, and the frame is not as the model has it"
             ));
         }
         if answer_of(&fetched) != Some(answer) {
             self.complain(format!("{fetched:?}, but the model answers {answer:?}"));
         }
+        self.follow("a fetch", fetched.session);
         answer
     }
 
     fn reply(&mut self, reply: &Reply) -> Outcome {
         let outcome = self.model.reply(reply);
         let replied = ffi::record_reply(self.layer, reply_of(reply));
-        self.layer = replied.session;
-        self.note("a reply", true, outcome, replied.number)
+        self.note("a reply", true, outcome, replied)
     }
 
     fn wrong(&self) -> Option<String> {
@@ -338,6 +267,15 @@ pub struct ComparedReading {
 }
 
 impl ComparedReading {
+    /// Takes the layer's session after a call and compares it.
+    fn follow(&mut self, what: &str, layer: ffi::Reading) {
+        self.layer = layer;
+        let (stands, model) = (sessions::reading_state(&layer), self.model.state());
+        if stands != Ok(model) {
+            self.complain(format!("{what}: {stands:?}, but the model's is {model:?}"));
+        }
+    }
+
     fn complain(&mut self, wrong: String) {
         self.wrong.get_or_insert(wrong);
     }
@@ -346,11 +284,7 @@ impl ComparedReading {
 impl ReadingCalls for ComparedReading {
     fn open(geometry: &Geometry, newest: &[u8]) -> (Self, Outcome) {
         let (model, outcome) = Reading::open(geometry, newest);
-        let (opened, right) = lend(
-            newest,
-            |lent| ffi::read_open(geometry_of(geometry), lent),
-            |_, lent| lent == newest,
-        );
+        let (opened, right) = lend(newest, |lent| ffi::read_open(geometry_of(geometry), lent));
         let mut session = ComparedReading {
             layer: opened.session,
             model,
@@ -362,6 +296,7 @@ impl ReadingCalls for ComparedReading {
                 opened.number
             ));
         }
+        session.follow("opening a reading", opened.session);
         (session, outcome)
     }
 
@@ -372,26 +307,21 @@ impl ReadingCalls for ComparedReading {
     fn fetch(&mut self) -> ReadAnswer {
         let answer = self.model.fetch();
         let fetched = ffi::read_fetch(self.layer);
-        self.layer = fetched.session;
         if read_answer_of(&fetched) != Some(answer) {
             self.complain(format!("{fetched:?}, but the model answers {answer:?}"));
         }
+        self.follow("a reading's fetch", fetched.session);
         answer
     }
 
+    /// Whoever lends the frame sees what becomes of it.
     fn reply(&mut self, reply: &Reply, frame: &[u8]) -> ReadOutcome {
-        let before = self.layer;
         let outcome = self.model.reply(reply, frame);
-        let call = |lent: &[u8]| ffi::read_reply(before, reply_of(reply), lent);
-        let (taken, right) = if outcome == ReadOutcome::Nothing && frame.len() == FRAME_LENGTH {
-            (call(frame), true)
-        } else {
-            lend(frame, |lent| call(lent), |_, lent| lent == frame)
-        };
-        self.layer = taken.session;
-        if !right || read_outcome_of(&taken) != Some(outcome) {
+        let taken = ffi::read_reply(self.layer, reply_of(reply), frame);
+        if read_outcome_of(&taken) != Some(outcome) {
             self.complain(format!("{taken:?}, but the model answers {outcome:?}"));
         }
+        self.follow("a reading's reply", taken.session);
         outcome
     }
 
@@ -409,17 +339,11 @@ impl Layer for Compared {
 
     /// The layer's choice; the checks know which copy is the newest.
     fn choose<'a>(geometry: &Geometry, first: &'a [u8], second: &'a [u8]) -> Result<&'a [u8], u8> {
-        let ((choice, one), other) = lend(
-            first,
-            |one| {
-                lend(
-                    second,
-                    |other| ffi::choose(geometry_of(geometry), one, other),
-                    |_, lent| lent == second,
-                )
-            },
-            |_, lent| lent == first,
-        );
+        let ((choice, one), other) = lend(first, |one| {
+            lend(second, |other| {
+                ffi::choose(geometry_of(geometry), one, other)
+            })
+        });
         assert!(one && other, "a choice altered a header");
         match (choice.which, choice.number) {
             (1, 0) => Ok(first),

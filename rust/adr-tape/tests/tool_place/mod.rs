@@ -1,6 +1,8 @@
 //! A directory for one test, and runs of the tool in it.
 #![allow(dead_code)] // Each test program uses its own part.
 
+pub mod image;
+
 use std::path::PathBuf;
 use std::process::{Command, Output, Stdio};
 
@@ -38,6 +40,20 @@ impl Place {
 
     pub fn write(&self, name: &str, bytes: &[u8]) {
         std::fs::write(self.path(name), bytes).expect("room for a file");
+    }
+
+    pub fn directory(&self, name: &str) {
+        std::fs::create_dir(self.path(name)).expect("room for a directory");
+    }
+
+    /// What stands in a directory, sorted.
+    pub fn names(&self, directory: &str) -> Vec<String> {
+        let entries = std::fs::read_dir(self.path(directory)).expect("a directory");
+        let name = |entry: std::io::Result<std::fs::DirEntry>| entry.expect("it").file_name();
+        let names = entries.map(|entry| name(entry).to_string_lossy().into_owned());
+        let mut names: Vec<String> = names.collect();
+        names.sort();
+        names
     }
 
     /// The tool with some words, not yet run.

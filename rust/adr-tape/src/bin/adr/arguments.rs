@@ -2,6 +2,7 @@
 
 use std::collections::{BTreeMap, BTreeSet};
 use std::ffi::{OsStr, OsString};
+use std::os::unix::ffi::OsStrExt;
 use std::path::Path;
 use std::str::FromStr;
 
@@ -34,19 +35,16 @@ impl Arguments {
         let mut words = words.into_iter();
         let mut arguments = Arguments::default();
         while let Some(word) = words.next() {
-            let Some(text) = word.to_str().filter(|text| is_option(text)) else {
+            if !is_option(&word) {
                 arguments.operands.push(word);
                 continue;
-            };
-            if text == "--" {
+            }
+            if word == "--" {
                 arguments.operands.extend(words);
                 break;
             }
-            let (name, value) = match text.split_once('=') {
-                Some((name, value)) => (name, Some(OsString::from(value))),
-                None => (text, None),
-            };
-            arguments.take(name, value, &mut words, options)?;
+            let (name, value) = split(&word);
+            arguments.take(&name.to_string_lossy(), value, &mut words, options)?;
         }
         Ok(arguments)
     }
@@ -68,7 +66,9 @@ impl Arguments {
             let value = value.or_else(|| words.next());
             let value =
                 value.ok_or_else(|| Failure::usage(format!("option {name} needs a value")))?;
-            self.values.insert(known, value);
+            if self.values.insert(known, value).is_some() {
+                return Err(Failure::usage(format!("option {name} is given twice")));
+            }
         } else {
             return Err(Failure::usage(format!("unknown option {name}")));
         }
@@ -132,8 +132,17 @@ pub fn nothing_more(rest: &[OsString]) -> Result<(), Failure> {
     }
 }
 
-fn is_option(text: &str) -> bool {
-    text.len() > 1 && text.starts_with('-')
+fn is_option(word: &OsStr) -> bool {
+    word.len() > 1 && word.as_bytes().starts_with(b"-")
+}
+
+/// An option's name and the value behind `=`, which may be any bytes.
+fn split(word: &OsStr) -> (&OsStr, Option<OsString>) {
+    let bytes = word.as_bytes();
+    let mut parts = bytes.splitn(2, |byte| *byte == b'=');
+    let name = OsStr::from_bytes(parts.next().unwrap_or(bytes));
+    let value = parts.next().map(OsStr::from_bytes);
+    (name, value.map(OsStr::to_os_string))
 }
 
 #[cfg(test)]
@@ -177,11 +186,22 @@ mod tests {
             &["-x"],
             &["--faults"],
             &["--overwrite=1"],
+            &["--faults", "1", "--faults=2"],
         ] {
             assert!(matches!(parse(words), Err(Failure::Usage(_))), "{words:?}");
         }
         let arguments = parse(&["--faults=x"]).expect("a value");
         assert!(arguments.number::<u64>("--faults").is_err());
         assert!(arguments.image().is_err());
+    }
+
+    #[test]
+    fn values_of_any_bytes() {
+        let word = OsStr::from_bytes(b"-o=\xFF=x").to_os_string();
+        let arguments = Arguments::parse([word], OPTIONS).expect("a value");
+        assert_eq!(arguments.value("-o"), Some(OsStr::from_bytes(b"\xFF=x")));
+        assert!(arguments.no_operands().is_ok());
+        let word = OsStr::from_bytes(b"-\xFF").to_os_string();
+        assert!(Arguments::parse([word], OPTIONS).is_err());
     }
 }

@@ -7,7 +7,7 @@ use adr_model::drive::Drive as SimulatedDrive;
 use adr_model::frame::Frame;
 use adr_tape::{
     newest_header, read_all, record_all, Address, Element, Geometry, HeaderError, ReadError,
-    RecordError, Refusal, Reply, Sense, Summary, FRAME_LENGTH,
+    RecordError, Refusal, Reply, Sense, Summary, BLOCK_LENGTH, FRAME_LENGTH,
 };
 
 use crate::failure::Failure;
@@ -18,8 +18,11 @@ use crate::progress::Progress;
 
 /// Where an EOD address stands in a header.
 const EOD_ADDRESS: std::ops::Range<usize> = 32..36;
-/// Bytes of a block.
-const BLOCK: u64 = 32_768;
+
+/// The bytes of so many blocks.
+pub fn bytes_in(blocks: u64) -> u64 {
+    blocks.saturating_mul(BLOCK_LENGTH as u64)
+}
 
 /// A write error that the drive reported.
 #[derive(Clone, Copy, Debug, PartialEq, Eq)]
@@ -87,7 +90,7 @@ impl Cartridge {
             HeaderError::Drive(failure) => failure,
         })?;
         if header.is_none() {
-            self.image().require_undamaged()?;
+            self.image().require_blank_headers()?;
         }
         Ok(header)
     }
@@ -97,7 +100,7 @@ impl Cartridge {
     /// one; so every copy must be whole.
     fn header_for_recording(&mut self) -> Result<Option<Vec<u8>>, Failure> {
         let header = self.header()?;
-        self.image().require_undamaged()?;
+        self.image().require_whole_headers()?;
         if header.is_none() && self.holds_frames() {
             return Err(Failure::new(format!(
                 "{}: the cartridge holds frames but no header; \
@@ -144,12 +147,12 @@ impl Cartridge {
 
     /// Reads elements to the end of data, or until `sink` breaks. An empty
     /// cartridge has none.
-    pub fn read(
+    fn read(
         &mut self,
         sink: impl FnMut(Element<'_>) -> Result<ControlFlow<()>, Failure>,
         progress: &mut Progress,
-    ) -> Result<Summary, Failure> {
-        let Some(header) = self.header()? else {
+    ) -> Result<Summary, ReadError<Failure, Failure>> {
+        let Some(header) = self.header().map_err(ReadError::Drive)? else {
             return Ok(Summary::default());
         };
         let end = header
@@ -157,17 +160,14 @@ impl Cartridge {
             .and_then(|part| part.try_into().ok());
         let end = u64::from(u32::from_be_bytes(end.unwrap_or([0; 4])));
         let geometry = self.geometry;
-        let read = read_all(self, geometry, &header, sink, |summary| {
-            let bytes = summary.blocks.saturating_mul(BLOCK);
+        read_all(self, geometry, &header, sink, |summary| {
+            let bytes = bytes_in(summary.blocks);
             progress.update(bytes, u64::from(summary.address.0), Some(end));
-        });
-        read.map_err(|error| match error {
-            ReadError::Refused(refusal) => self.refused("reading stopped", refusal),
-            ReadError::Drive(failure) | ReadError::Sink(failure) => failure,
         })
     }
 
-    /// Reads jobs; see [`Cartridge::read`].
+    /// Reads jobs to the end of data, or until `taker` breaks. An empty
+    /// cartridge has none.
     pub fn read_jobs<'t>(
         &mut self,
         taker: &'t mut Taker<'t>,
@@ -184,12 +184,12 @@ impl Cartridge {
             progress,
         );
         match read {
-            Err(Failure::Failed(message)) if jobs.begun() > 0 => {
-                let job = jobs.begun();
-                let place = if jobs.is_within() { "in" } else { "behind" };
-                Err(Failure::Failed(format!("{message}; {place} job {job}")))
+            // What the jobs are handed to tells itself where it failed.
+            Err(ReadError::Sink(failure)) => Err(failure),
+            Err(ReadError::Drive(failure)) => Err(jobs.place(failure)),
+            Err(ReadError::Refused(refusal)) => {
+                Err(jobs.place(self.refused("reading stopped", refusal)))
             }
-            Err(failure) => Err(failure),
             Ok(_) if jobs.is_within() && !stopped => Err(Failure::new(format!(
                 "{}: job {} has no filemark at its end",
                 self.image().path().display(),

@@ -3,6 +3,7 @@
 use std::ops::ControlFlow;
 
 use adr_model::tape::Storage;
+use adr_tape::FRAME_LENGTH;
 
 use crate::arguments::{Arguments, Options};
 use crate::cartridge::Cartridge;
@@ -19,6 +20,9 @@ pub const OPTIONS: Options = Options {
     valued: &["--faults"],
     plain: &["--quiet"],
 };
+
+/// Bytes of a frame.
+const FRAME: u64 = FRAME_LENGTH as u64;
 
 /// What was found.
 #[derive(Default)]
@@ -126,7 +130,7 @@ fn read_frames(
             return Err(failure);
         }
         done += 1;
-        progress.update(done.saturating_mul(33_280), done, Some(all));
+        progress.update(done.saturating_mul(FRAME), done, Some(all));
     }
     let damaged: Vec<String> = image
         .damaged()

@@ -74,7 +74,7 @@ pub fn run(arguments: &Arguments) -> Result<(), Failure> {
     output::line("\nThe cartridge now:\n")?;
     output::plain(&map::text(&path)?)?;
     if let Some(file) = arguments.value("--svg") {
-        map::write_picture(&path, Path::new(file))?;
+        map::write_picture(&path, file)?;
     }
     directory.tell()
 }

@@ -55,12 +55,11 @@ impl Image {
     /// Opens an image. Nothing is written to it before [`Storage::store`].
     pub fn open(path: &Path, access: Access) -> Result<Image, Failure> {
         let (file, length) = file::open(path, access)?;
-        let content = Content::read(path, &file, length)?;
-        let end = layout::cells_in(length).max(content.root.cells);
+        let (content, used) = Content::read(path, &file, length)?;
         Ok(Image {
             path: path.to_path_buf(),
             file,
-            cells: Cells::new(&content.cells, end),
+            cells: Cells::new(used, content.root.cells),
             content,
             length_before: length,
             unfinished: false,
@@ -104,13 +103,28 @@ impl Image {
         self.damaged.iter().copied()
     }
 
-    /// Tells a cartridge whose header is damaged from one that has none.
-    pub fn require_undamaged(&self) -> Result<(), Failure> {
+    /// Where no copy of the header reads: tells a cartridge whose header is
+    /// damaged from one that has none.
+    pub fn require_blank_headers(&self) -> Result<(), Failure> {
+        self.require_undamaged(
+            "no other copy reads, and nothing was changed: use a copy of the file",
+        )
+    }
+
+    /// Where a copy of the header reads: refuses damage to another one.
+    pub fn require_whole_headers(&self) -> Result<(), Failure> {
+        self.require_undamaged(
+            "others read, and nothing was changed: \
+             restore what it holds, then 'adr format --overwrite' it",
+        )
+    }
+
+    fn require_undamaged(&self, remedy: &str) -> Result<(), Failure> {
         match self.damaged.first() {
             None => Ok(()),
             Some(address) => Err(Failure::new(format!(
                 "{}: the image is damaged at address {address}, among the copies of the header; \
-                 nothing was changed: restore what it holds, then 'adr format --overwrite' it",
+                 {remedy}",
                 self.path.display()
             ))),
         }
@@ -127,11 +141,9 @@ impl Image {
             return false;
         };
         let start = FRAME_LENGTH.saturating_sub(aux.len());
-        let offset = u64::try_from(start).ok();
-        let offset = offset.and_then(|start| layout::cell_offset(place.cell)?.checked_add(start));
-        let read = self
-            .file
-            .read_exact_at(aux, offset.unwrap_or(u64::MAX >> 1));
+        let start = u64::try_from(start).unwrap_or(0);
+        let read = offset_of(place.cell)
+            .and_then(|offset| self.file.read_exact_at(aux, offset.saturating_add(start)));
         self.keep(read);
         self.error.is_none()
     }
@@ -199,15 +211,13 @@ impl Image {
 
     fn write_cell(&mut self, cell: u64, content: &[u8]) -> io::Result<()> {
         self.unfinished = true;
-        let offset = layout::cell_offset(cell);
-        let offset = offset.ok_or_else(|| io::Error::from(io::ErrorKind::FileTooLarge))?;
-        self.file.write_all_at(content, offset)
+        self.file.write_all_at(content, offset_of(cell)?)
     }
 
     fn read_frame(&mut self, place: Place) -> io::Result<Option<Shared>> {
         let mut frame: Shared = Arc::new([0; FRAME_LENGTH]);
-        let offset = layout::cell_offset(place.cell);
-        if let (Some(frame), Some(offset)) = (Arc::get_mut(&mut frame), offset) {
+        let offset = offset_of(place.cell)?;
+        if let Some(frame) = Arc::get_mut(&mut frame) {
             match self.file.read_exact_at(frame, offset) {
                 Err(error) if error.kind() == io::ErrorKind::UnexpectedEof => return Ok(None),
                 read => read?,
@@ -221,6 +231,10 @@ impl Image {
             self.error.get_or_insert(error);
         }
     }
+}
+
+fn offset_of(cell: u64) -> io::Result<u64> {
+    layout::cell_offset(cell).ok_or_else(|| io::ErrorKind::FileTooLarge.into())
 }
 
 impl Storage for Image {

@@ -20,6 +20,12 @@ pub type Block = Vec<u8>;
 /// The longest name of a job, in bytes.
 pub const LONGEST_NAME: usize = 255;
 
+/// Whether a job's name is a file's name in any directory, and in no other.
+pub fn is_plain_name(name: &[u8]) -> bool {
+    let leads_on = name.contains(&b'/') || name.contains(&0);
+    !leads_on && !matches!(name, b"" | b"." | b"..")
+}
+
 const BEGIN_MAGIC: [u8; 8] = *b"ADRJOB 1";
 const END_MAGIC: [u8; 8] = *b"ADREND 1";
 const SUM: usize = BLOCK_LENGTH - 8;

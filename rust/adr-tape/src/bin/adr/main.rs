@@ -17,6 +17,7 @@ mod job;
 mod list;
 mod map;
 mod output;
+mod part;
 mod progress;
 mod record;
 mod restore;

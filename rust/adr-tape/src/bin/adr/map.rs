@@ -5,6 +5,7 @@ mod spots;
 mod svg;
 mod words;
 
+use std::ffi::OsStr;
 use std::path::Path;
 
 use crate::arguments::{Arguments, Options};
@@ -24,8 +25,7 @@ pub fn run(arguments: &Arguments) -> Result<(), Failure> {
     let path = arguments.only_image()?;
     match arguments.value("--svg") {
         None => output::plain(&text(path)?),
-        Some(file) if file == "-" => output::plain(&picture(path)?),
-        Some(file) => write_picture(path, Path::new(file)),
+        Some(file) => write_picture(path, file),
     }
 }
 
@@ -35,8 +35,12 @@ pub fn text(path: &Path) -> Result<String, Failure> {
     Ok(words::draw(&spots, &layout::rows(&spots)))
 }
 
-/// Writes the map of an image as a picture.
-pub fn write_picture(path: &Path, file: &Path) -> Result<(), Failure> {
+/// Writes the map of an image as a picture, to standard output for `-`.
+pub fn write_picture(path: &Path, file: &OsStr) -> Result<(), Failure> {
+    if file == "-" {
+        return output::plain(&picture(path)?);
+    }
+    let file = Path::new(file);
     refuse_itself(path, file)?;
     std::fs::write(file, picture(path)?).map_err(|error| Failure::of_file(file, &error))
 }

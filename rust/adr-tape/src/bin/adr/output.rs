@@ -4,6 +4,7 @@ use std::fmt::Display;
 use std::io::Write;
 
 use crate::failure::Failure;
+use crate::text::printable;
 
 /// Prints a line.
 pub fn line(text: impl Display) -> Result<(), Failure> {
@@ -20,8 +21,10 @@ pub fn plain(text: &str) -> Result<(), Failure> {
         .map_err(|error| Failure::of_output(&error))
 }
 
-/// Prints a message on standard error.
+/// Prints a message on standard error. Names from a tape are among its words:
+/// none of them gives the terminal orders.
 pub fn message(text: impl Display) {
+    let text = printable(text.to_string().as_bytes());
     // Where messages cannot be printed there is nobody to be told so.
     let _ = writeln!(std::io::stderr(), "adr: {text}");
 }

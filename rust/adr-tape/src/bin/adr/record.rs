@@ -7,7 +7,7 @@ use std::path::Path;
 use adr_tape::Summary;
 
 use crate::arguments::{Arguments, Options};
-use crate::cartridge::Cartridge;
+use crate::cartridge::{bytes_in, Cartridge};
 use crate::failure::Failure;
 use crate::image::{refuse_itself, Access};
 use crate::job::source::{Elements, Input};
@@ -26,8 +26,6 @@ pub const DEPTH: u32 = 32;
 /// Blocks that may wait for the drive.
 pub const WINDOW: u32 = 64;
 
-const BLOCK: u64 = 32_768;
-
 /// Runs the command.
 pub fn run(arguments: &Arguments) -> Result<(), Failure> {
     let (path, files) = arguments.image()?;
@@ -45,7 +43,7 @@ pub fn run(arguments: &Arguments) -> Result<(), Failure> {
     let quiet = arguments.has("--quiet");
     let mut progress = Progress::new("recording", quiet);
     let summary = cartridge.record((depth, window), Elements::new(inputs), |summary| {
-        let bytes = summary.blocks.saturating_mul(BLOCK);
+        let bytes = bytes_in(summary.blocks);
         progress.update(bytes, bytes, total);
     })?;
     drop(progress);
@@ -113,7 +111,7 @@ pub fn told(jobs: u64, summary: &Summary) -> String {
         "recorded {} in {} ({}) with {}; {}, {}",
         count(jobs, "job", "jobs"),
         count(summary.blocks, "block", "blocks"),
-        amount(summary.blocks.saturating_mul(BLOCK)),
+        amount(bytes_in(summary.blocks)),
         count(summary.commands, "command", "commands"),
         count(summary.write_errors, "write error", "write errors"),
         count(summary.busy, "busy reply", "busy replies"),

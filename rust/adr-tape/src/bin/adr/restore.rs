@@ -1,8 +1,9 @@
 //! `adr restore`: jobs from a cartridge back to files.
 
+use std::collections::BTreeMap;
 use std::ffi::{OsStr, OsString};
 use std::fs::OpenOptions;
-use std::io::IsTerminal;
+use std::io::{ErrorKind, IsTerminal};
 use std::ops::ControlFlow;
 use std::os::unix::ffi::OsStrExt;
 use std::path::{Path, PathBuf};
@@ -12,7 +13,8 @@ use crate::cartridge::Cartridge;
 use crate::failure::Failure;
 use crate::image::{refuse_itself, Access};
 use crate::job::reading::{Event, Verdict};
-use crate::job::Description;
+use crate::job::{is_plain_name, Description};
+use crate::output;
 use crate::progress::Progress;
 use crate::record::DEPTH;
 use crate::text::{count, printable};
@@ -39,6 +41,7 @@ pub fn run(arguments: &Arguments) -> Result<(), Failure> {
     let (path, rest) = arguments.image()?;
     let wanted = job_number(rest)?;
     let target = target(arguments, wanted)?;
+    target.require_directory()?;
     let seed = arguments.number("--faults")?;
     let mut cartridge = Cartridge::load(path, Access::Read, DEPTH, seed)?;
     let mut progress = Progress::new("reading", arguments.has("--quiet"));
@@ -49,10 +52,13 @@ pub fn run(arguments: &Arguments) -> Result<(), Failure> {
         overwrite: arguments.has("--overwrite"),
         writer: None,
         restored: 0,
+        written: BTreeMap::new(),
+        passed_over: Vec::new(),
     };
     let mut taker = |number: u64, event: Event<'_>| restoring.take(number, &event);
     let read = cartridge.read_jobs(&mut taker, &mut progress);
     drop(progress);
+    let told = restoring.tell();
     let jobs = read?;
     match wanted {
         Some(job) if restoring.restored == 0 => Err(Failure::new(format!(
@@ -60,7 +66,7 @@ pub fn run(arguments: &Arguments) -> Result<(), Failure> {
             path.display(),
             count(jobs, "job", "jobs")
         ))),
-        _ => Ok(()),
+        _ => told,
     }
 }
 
@@ -80,7 +86,10 @@ fn job_number(rest: &[OsString]) -> Result<Option<u64>, Failure> {
 }
 
 fn target(arguments: &Arguments, wanted: Option<u64>) -> Result<Target, Failure> {
-    let output = arguments.value("--output").or(arguments.value("-o"));
+    let output = match (arguments.value("--output"), arguments.value("-o")) {
+        (Some(_), Some(_)) => return Err(Failure::usage("give --output or -o, not both")),
+        (long, short) => long.or(short),
+    };
     match (arguments.value("--into"), output, wanted) {
         (Some(_), Some(_), _) => Err(Failure::usage("give --into or --output, not both")),
         (Some(directory), None, _) => Ok(Target::Directory(PathBuf::from(directory))),
@@ -96,6 +105,24 @@ fn target(arguments: &Arguments, wanted: Option<u64>) -> Result<Target, Failure>
     }
 }
 
+impl Target {
+    /// Refuses a directory that is not there.
+    fn require_directory(&self) -> Result<(), Failure> {
+        let Target::Directory(directory) = self else {
+            return Ok(());
+        };
+        let shown = directory.display();
+        match directory.metadata() {
+            Ok(metadata) if metadata.is_dir() => Ok(()),
+            Ok(_) => Err(Failure::new(format!("{shown}: not a directory"))),
+            Err(error) if error.kind() == ErrorKind::NotFound => Err(Failure::new(format!(
+                "{shown}: no such directory; make it with 'mkdir {shown}'"
+            ))),
+            Err(error) => Err(Failure::of_file(directory, &error)),
+        }
+    }
+}
+
 /// Jobs on their way to files.
 struct Restoring<'a> {
     image: &'a Path,
@@ -104,6 +131,10 @@ struct Restoring<'a> {
     overwrite: bool,
     writer: Option<Writer>,
     restored: u64,
+    /// The names written to the target directory, and by which jobs.
+    written: BTreeMap<Vec<u8>, u64>,
+    /// Why jobs were not restored, beside others that were.
+    passed_over: Vec<String>,
 }
 
 impl Restoring<'_> {
@@ -112,9 +143,7 @@ impl Restoring<'_> {
             return Ok(ControlFlow::Continue(()));
         }
         match event {
-            Event::Begin(description) => {
-                self.writer = Some(self.open(description)?);
-            }
+            Event::Begin(description) => self.begin(number, description)?,
             Event::Data(data) => {
                 if let Some(writer) = &mut self.writer {
                     writer.write(data)?;
@@ -123,6 +152,23 @@ impl Restoring<'_> {
             Event::End(verdict) => return self.end(number, verdict),
         }
         Ok(ControlFlow::Continue(()))
+    }
+
+    fn begin(&mut self, number: u64, description: &Description) -> Result<(), Failure> {
+        self.writer = None;
+        if let Some(first) = self.written.get(&description.name) {
+            self.passed_over.push(format!(
+                "job {number}, '{}': job {first} has that name too: \
+                 restore it by number with '--output FILE'",
+                printable(&description.name)
+            ));
+            return Ok(());
+        }
+        self.writer = Some(self.open(description)?);
+        if let Target::Directory(_) = self.target {
+            self.written.insert(description.name.clone(), number);
+        }
+        Ok(())
     }
 
     fn open(&self, description: &Description) -> Result<Writer, Failure> {
@@ -137,7 +183,7 @@ impl Restoring<'_> {
             Target::Directory(directory) => directory.join(own_name(&description.name)?),
         };
         refuse_itself(self.image, &path)?;
-        NewFile::open(path, self.overwrite).map(Writer::File)
+        NewFile::open(&path, self.overwrite, description.time).map(Writer::File)
     }
 
     fn end(&mut self, number: u64, verdict: &Verdict) -> Result<ControlFlow<()>, Failure> {
@@ -150,11 +196,12 @@ impl Restoring<'_> {
             Verdict::Broken(why) => {
                 return Err(Failure::new(format!("job {number} is not whole: {why}")));
             }
-            Verdict::Foreign if self.wanted.is_none() => {}
             Verdict::Foreign => {
-                return Err(Failure::new(format!(
-                    "job {number} was not recorded by this tool"
-                )));
+                let foreign = format!("job {number} was not recorded by this tool");
+                if self.wanted.is_some() {
+                    return Err(Failure::new(foreign));
+                }
+                self.passed_over.push(foreign);
             }
         }
         self.restored += 1;
@@ -164,16 +211,26 @@ impl Restoring<'_> {
             ControlFlow::Continue(())
         })
     }
+
+    /// Tells which jobs were passed over; it failed if any were.
+    fn tell(&self) -> Result<(), Failure> {
+        let shown = self.image.display();
+        for why in &self.passed_over {
+            output::message(format!("{shown}: {why}"));
+        }
+        match u64::try_from(self.passed_over.len()) {
+            Ok(0) => Ok(()),
+            number => {
+                let jobs = count(number.unwrap_or(u64::MAX), "job was", "jobs were");
+                Err(Failure::new(format!("{shown}: {jobs} not restored")))
+            }
+        }
+    }
 }
 
 /// A job's name as a file's name in the target directory, and nowhere else.
 fn own_name(name: &[u8]) -> Result<&OsStr, Failure> {
-    let plain = !name.is_empty()
-        && name != b"."
-        && name != b".."
-        && !name.contains(&b'/')
-        && !name.contains(&0);
-    if !plain {
+    if !is_plain_name(name) {
         return Err(Failure::new(format!(
             "the job's name '{}' would lead out of the directory; \
              restore it by its number and '--output FILE'",

@@ -33,7 +33,8 @@ usage: adr format [OPTION...] IMAGE
 
 Makes an image of an empty cartridge. The file takes room only for what is
 recorded, whatever the size of the cartridge. An image that exists is not
-replaced without --overwrite, any other file never.
+replaced without --overwrite, any other file never unless it is empty. What is
+replaced keeps its mode.
 
   --segtrk N    frames per track (19239)
   --trks N      tracks (24)
@@ -53,7 +54,8 @@ The old content stays in force until the new is whole: after a power cut, on a
 full disk or when this is interrupted, the image holds what it held before.
 
   --overwrite     replace the jobs on the cartridge
-  --name NAME     the name of the job from standard input (stdin)
+  --name NAME     the name of the job from standard input (stdin); it is that
+                  of a file, without directories
   --faults SEED   let the drive have faults, picked by this number
   --depth N       frames that the drive buffers, 1 to 255 (32)
   --window N      blocks that may wait for the drive, 1 to 64 (64)
@@ -76,8 +78,10 @@ pub const RESTORE: &str = "\
 usage: adr restore [OPTION...] IMAGE JOB
        adr restore [OPTION...] --into DIRECTORY IMAGE [JOB]
 
-Writes a job to standard output, or jobs to files. A file that turns out not
-to be whole is removed; on standard output only the exit status tells.
+Writes a job to standard output, or jobs to files, with the time when they
+were last changed. A file gets its name when it is whole; on standard output
+only the exit status tells. With --into, jobs of another program and jobs with
+the name of an earlier one are passed over, and the exit status is then 1.
 
   --into DIRECTORY        write the job, or all jobs, under their own names;
                           a name that leads out of the directory is refused
@@ -118,6 +122,6 @@ recording, reads them back, compares them and shows the map. It is the same
 every time. The image is in a directory for temporary files.
 
   --faults SEED   other faults
-  --svg FILE      write the map as a picture too
+  --svg FILE      write the map as a picture too; '-' is standard output
   --keep          keep the image and tell where it is
 ";

@@ -1,10 +1,12 @@
 //! Where the bytes of a restored job go.
 
-use std::fs::{File, OpenOptions};
+use std::fs::File;
 use std::io::{self, Write};
 use std::path::{Path, PathBuf};
+use std::time::{Duration, UNIX_EPOCH};
 
 use crate::failure::Failure;
+use crate::part::Part;
 
 /// Where a job's bytes go.
 pub enum Writer {
@@ -16,13 +18,12 @@ pub enum Writer {
     File(NewFile),
 }
 
-/// A file that is removed unless its job was whole.
+/// A file that gets its name when its job was whole.
 pub struct NewFile {
-    file: File,
-    path: PathBuf,
-    /// The file that it replaces when it is whole.
-    replaces: Option<PathBuf>,
-    whole: bool,
+    part: Part,
+    overwrite: bool,
+    /// When the recorded file was last changed, in seconds since 1970.
+    time: u64,
 }
 
 impl Writer {
@@ -35,10 +36,7 @@ impl Writer {
             Writer::Device(path, file) => file
                 .write_all(data)
                 .map_err(|error| Failure::of_file(path, &error)),
-            Writer::File(new) => new
-                .file
-                .write_all(data)
-                .map_err(|error| Failure::of_file(&new.path, &error)),
+            Writer::File(new) => new.write(data),
         }
     }
 
@@ -57,49 +55,41 @@ impl Writer {
 impl NewFile {
     /// Creates the file: nothing that its name leads to is followed or
     /// written over.
-    pub fn open(path: PathBuf, overwrite: bool) -> Result<NewFile, Failure> {
-        let taken = path.symlink_metadata().is_ok();
-        if taken && !overwrite {
-            let shown = path.display();
-            return Err(Failure::new(format!(
-                "{shown}: exists; use '--overwrite' to replace it"
-            )));
+    pub fn open(path: &Path, overwrite: bool, time: u64) -> Result<NewFile, Failure> {
+        // Told before the tape is read to the job's end.
+        if !overwrite && path.symlink_metadata().is_ok() {
+            return Err(exists(path));
         }
-        let (path, replaces) = if taken {
-            let mut part = path.clone().into_os_string();
-            part.push(format!(".{}.part", std::process::id()));
-            (PathBuf::from(part), Some(path))
-        } else {
-            (path, None)
-        };
-        let file = OpenOptions::new().write(true).create_new(true).open(&path);
-        let file = file.map_err(|error| Failure::of_file(&path, &error))?;
+        let part = Part::create(path).map_err(|error| Failure::of_file(path, &error))?;
         Ok(NewFile {
-            file,
-            path,
-            replaces,
-            whole: false,
+            part,
+            overwrite,
+            time,
         })
     }
 
+    fn write(&mut self, data: &[u8]) -> Result<(), Failure> {
+        let written = self.part.file().write_all(data);
+        written.map_err(|error| Failure::of_file(self.part.target(), &error))
+    }
+
     fn finish(mut self) -> Result<(), Failure> {
-        let synced = self.file.sync_all();
-        synced.map_err(|error| Failure::of_file(&self.path, &error))?;
-        if let Some(replaced) = &self.replaces {
-            let renamed = std::fs::rename(&self.path, replaced);
-            renamed.map_err(|error| Failure::of_file(replaced, &error))?;
+        if let Some(time) = UNIX_EPOCH.checked_add(Duration::from_secs(self.time)) {
+            // A file system that cannot keep it keeps the bytes all the same.
+            let _ = self.part.file().set_modified(time);
         }
-        self.whole = true;
-        Ok(())
+        let path = self.part.target().to_path_buf();
+        let finished = self.part.finish(self.overwrite);
+        finished.map_err(|error| match error.kind() {
+            io::ErrorKind::AlreadyExists => exists(&path),
+            _ => Failure::of_file(&path, &error),
+        })
     }
 }
 
-impl Drop for NewFile {
-    fn drop(&mut self) {
-        if !self.whole {
-            let _ = std::fs::remove_file(&self.path);
-        }
-    }
+fn exists(path: &Path) -> Failure {
+    let shown = path.display();
+    Failure::new(format!("{shown}: exists; use '--overwrite' to replace it"))
 }
 
 /// Whether a path names something that is written to in place.

@@ -3,43 +3,50 @@
 use std::collections::BTreeSet;
 
 /// Cells for a recording: none that the content in force uses.
+///
+/// What is kept grows with the content, not with the length of the file.
 #[derive(Debug)]
 pub struct Cells {
-    /// The lowest last.
-    free: Vec<u64>,
-    /// Those that this recording uses.
-    own: BTreeSet<u64>,
-    /// The first behind all cells of the file.
+    /// Those that the content in force uses.
+    used: BTreeSet<u64>,
+    /// Every other cell below this one was taken.
+    next: u64,
+    /// Taken, and no longer needed.
+    returned: BTreeSet<u64>,
+    /// The first behind all that are used.
     end: u64,
 }
 
 impl Cells {
-    /// The cells of a file of `end` cells but those in use, and any behind
-    /// them.
-    pub fn new(used: &BTreeSet<u64>, end: u64) -> Cells {
+    /// All cells but those in use, which lie below `end`.
+    pub fn new(used: BTreeSet<u64>, end: u64) -> Cells {
         Cells {
-            free: (0..end).rev().filter(|cell| !used.contains(cell)).collect(),
-            own: BTreeSet::new(),
+            used,
+            next: 0,
+            returned: BTreeSet::new(),
             end,
         }
     }
 
     /// A cell to write to.
     pub fn take(&mut self) -> u64 {
-        let cell = self.free.pop().unwrap_or_else(|| {
-            let cell = self.end;
-            self.end = self.end.saturating_add(1);
-            cell
-        });
-        self.own.insert(cell);
+        if let Some(cell) = self.returned.pop_first() {
+            return cell;
+        }
+        while self.used.contains(&self.next) {
+            self.next = self.next.saturating_add(1);
+        }
+        let cell = self.next;
+        self.next = cell.saturating_add(1);
+        self.end = self.end.max(self.next);
         cell
     }
 
     /// Takes back a cell that is no longer needed, if it is one of this
     /// recording's own.
     pub fn give_back(&mut self, cell: u64) {
-        if self.own.remove(&cell) {
-            self.free.push(cell);
+        if !self.used.contains(&cell) {
+            self.returned.insert(cell);
         }
     }
 
@@ -55,8 +62,9 @@ mod tests {
 
     #[test]
     fn used_cells_are_left_alone() {
-        let mut cells = Cells::new(&[0, 2, 3].into(), 5);
-        assert_eq!([cells.take(), cells.take(), cells.take()], [1, 4, 5]);
+        let mut cells = Cells::new([0, 2, 3].into(), 5);
+        assert_eq!([cells.take(), cells.take()], [1, 4]);
+        assert_eq!((cells.end(), cells.take()), (5, 5));
         cells.give_back(4);
         cells.give_back(3);
         assert_eq!([cells.take(), cells.take()], [4, 6]);

@@ -25,13 +25,16 @@ pub struct Content {
     pub both_roots: bool,
     /// What is known of each address.
     pub index: Index,
-    /// The cells that frames and index take.
-    pub cells: BTreeSet<u64>,
 }
 
 impl Content {
-    /// Reads the content of a file of this length.
-    pub fn read(path: &Path, file: &File, length: u64) -> Result<Content, Failure> {
+    /// Reads the content of a file of this length, and tells the cells that
+    /// it takes.
+    pub fn read(
+        path: &Path,
+        file: &File,
+        length: u64,
+    ) -> Result<(Content, BTreeSet<u64>), Failure> {
         let geometry = read_geometry(path, file)?;
         let mut roots: Vec<(usize, Root)> = Vec::new();
         for (slot, offset) in ROOTS.into_iter().enumerate() {
@@ -50,14 +53,17 @@ impl Content {
         let (index, mut cells) = read_index(path, file, &root)?;
         let places = index.values().filter_map(|entry| entry.place);
         cells.extend(places.map(|place| place.cell));
-        Ok(Content {
+        if cells.last().is_some_and(|last| *last >= root.cells) {
+            return Err(outside(path));
+        }
+        let content = Content {
             geometry,
             root,
             slot,
             both_roots,
             index,
-            cells,
-        })
+        };
+        Ok((content, cells))
     }
 }
 
@@ -66,6 +72,10 @@ fn damaged(path: &Path, what: &str) -> Failure {
         "{}: the image is damaged: {what}; nothing was changed: use a copy of the file",
         path.display()
     ))
+}
+
+fn outside(path: &Path) -> Failure {
+    damaged(path, "its index leads out of the file")
 }
 
 fn truncated(path: &Path) -> Failure {
@@ -113,10 +123,10 @@ fn read_geometry(path: &Path, file: &File) -> Result<Geometry, Failure> {
 
 /// The index and the cells that it takes.
 fn read_index(path: &Path, file: &File, root: &Root) -> Result<(Index, BTreeSet<u64>), Failure> {
-    let outside = || damaged(path, "its index leads out of the file");
+    let altered = || damaged(path, "its index is not what was written");
     let count = cells_for(root.entries);
     if count > root.cells {
-        return Err(outside());
+        return Err(outside(path));
     }
     let mut reading = Reading::new(root.entries);
     let mut cells = BTreeSet::new();
@@ -124,11 +134,14 @@ fn read_index(path: &Path, file: &File, root: &Root) -> Result<(Index, BTreeSet<
     let mut cell = root.index;
     for _ in 0..count {
         let offset = layout::cell_offset(cell).filter(|_| cell < root.cells);
-        read_at(path, file, &mut content, offset.ok_or_else(outside)?)?;
-        cells.insert(cell);
+        let offset = offset.ok_or_else(|| outside(path))?;
+        read_at(path, file, &mut content, offset)?;
+        // A cell that leads back to an earlier one would be read for ever.
+        if !cells.insert(cell) {
+            return Err(altered());
+        }
         cell = reading.take(&content);
     }
-    let index = reading.finish(root.sum);
-    let index = index.ok_or_else(|| damaged(path, "its index is not what was written"))?;
+    let index = reading.finish(root.sum).ok_or_else(altered)?;
     Ok((index, cells))
 }

@@ -42,12 +42,6 @@ pub fn cell_offset(cell: u64) -> Option<u64> {
     cell.checked_mul(length)?.checked_add(FIRST_CELL)
 }
 
-/// The cells that a file of this length has room for.
-pub fn cells_in(length: u64) -> u64 {
-    let cell = u64::try_from(CELL).unwrap_or(u64::MAX);
-    length.saturating_sub(FIRST_CELL) / cell
-}
-
 /// The bytes at `at`, or zeros where there are none.
 pub fn bytes<const N: usize>(from: &[u8], at: usize) -> [u8; N] {
     let part = from.get(at..).and_then(|rest| rest.first_chunk::<N>());
@@ -227,8 +221,5 @@ mod tests {
         assert_eq!(cell_offset(0), Some(12_288));
         assert_eq!(cell_offset(2), Some(12_288 + 2 * 36_864));
         assert_eq!(cell_offset(u64::MAX), None);
-        assert_eq!(cells_in(0), 0);
-        assert_eq!(cells_in(12_288 + 36_863), 0);
-        assert_eq!(cells_in(12_288 + 36_864), 1);
     }
 }

@@ -1,8 +1,8 @@
 //! Making an image of an empty cartridge.
 
-use std::fs::{File, OpenOptions};
+use std::fs::{File, Permissions};
 use std::io::{self, Write};
-use std::path::{Path, PathBuf};
+use std::path::Path;
 
 use adr_tape::Geometry;
 
@@ -10,28 +10,45 @@ use super::file::{lock, require_regular, Access};
 use super::layout::{self, Root};
 use crate::checksum::checksum;
 use crate::failure::Failure;
+use crate::part::Part;
 
 /// Makes a file that is an empty cartridge.
 ///
-/// The file gets its name when it is whole.
+/// The file gets its name when it is whole, and the mode of one that it
+/// replaces.
 pub fn format(path: &Path, geometry: Geometry, overwrite: bool) -> Result<(), Failure> {
-    let _locked = look_at_present_file(path, overwrite)?;
-    let target = std::fs::canonicalize(path).unwrap_or_else(|_| path.to_path_buf());
-    let mut name = target.clone().into_os_string();
-    name.push(format!(".{}.part", std::process::id()));
-    let part = PathBuf::from(name);
-    let made = write_empty(&part, geometry)
-        .and_then(|()| std::fs::rename(&part, &target))
-        .and_then(|()| sync_directory(&target));
-    made.map_err(|error| {
-        // Without a name of its own it is of no use.
-        let _ = std::fs::remove_file(&part);
-        Failure::of_file(path, &error)
+    let replaced = look_at_present_file(path, overwrite)?;
+    let permissions = replaced.as_ref().map(|(_, permissions)| permissions);
+    let made = make(path, geometry, permissions.cloned());
+    made.map_err(|error| match error.kind() {
+        io::ErrorKind::AlreadyExists => came_up(path),
+        _ => Failure::of_file(path, &error),
     })
 }
 
+fn make(path: &Path, geometry: Geometry, permissions: Option<Permissions>) -> io::Result<()> {
+    let target = std::fs::canonicalize(path).unwrap_or_else(|_| path.to_path_buf());
+    let mut part = Part::create(&target)?;
+    let replace = permissions.is_some();
+    if let Some(permissions) = permissions {
+        part.file().set_permissions(permissions)?;
+    }
+    write_empty(part.file(), geometry)?;
+    part.finish(replace)
+}
+
+fn came_up(path: &Path) -> Failure {
+    Failure::new(format!(
+        "{}: exists by now, or is a link to nothing; it is left alone: give another name",
+        path.display()
+    ))
+}
+
 /// Refuses to replace what may be of value, and locks what is replaced.
-fn look_at_present_file(path: &Path, overwrite: bool) -> Result<Option<File>, Failure> {
+fn look_at_present_file(
+    path: &Path,
+    overwrite: bool,
+) -> Result<Option<(File, Permissions)>, Failure> {
     let shown = path.display();
     let file = match File::open(path) {
         Err(error) if error.kind() == io::ErrorKind::NotFound => return Ok(None),
@@ -41,7 +58,7 @@ fn look_at_present_file(path: &Path, overwrite: bool) -> Result<Option<File>, Fa
     let metadata = metadata.map_err(|error| Failure::of_file(path, &error))?;
     require_regular(path, &metadata)?;
     if metadata.len() == 0 {
-        return Ok(Some(file));
+        return Ok(Some((file, metadata.permissions())));
     }
     if !layout::is_image_file(&file) {
         return Err(Failure::new(format!(
@@ -54,11 +71,10 @@ fn look_at_present_file(path: &Path, overwrite: bool) -> Result<Option<File>, Fa
         )));
     }
     lock(&file, path, Access::Record)?;
-    Ok(Some(file))
+    Ok(Some((file, metadata.permissions())))
 }
 
-fn write_empty(path: &Path, geometry: Geometry) -> io::Result<()> {
-    let mut file = OpenOptions::new().write(true).create_new(true).open(path)?;
+fn write_empty(file: &mut File, geometry: Geometry) -> io::Result<()> {
     file.write_all(&layout::head_page(geometry))?;
     for generation in [1, 2] {
         let root = Root {
@@ -70,13 +86,5 @@ fn write_empty(path: &Path, geometry: Geometry) -> io::Result<()> {
         };
         file.write_all(&root.page())?;
     }
-    file.sync_all()
-}
-
-fn sync_directory(path: &Path) -> io::Result<()> {
-    let directory = match path.parent() {
-        Some(parent) if !parent.as_os_str().is_empty() => parent,
-        _ => Path::new("."),
-    };
-    File::open(directory)?.sync_all()
+    Ok(())
 }

@@ -78,6 +78,18 @@ impl<'t> Jobs<'t> {
         !matches!(self.state, State::Between)
     }
 
+    /// A failure of the drive or the layer, with the job where it came.
+    pub fn place(&self, failure: Failure) -> Failure {
+        let job = self.number;
+        let place = if self.is_within() { "in" } else { "behind" };
+        match failure {
+            Failure::Failed(message) if job > 0 => {
+                Failure::Failed(format!("{message}; {place} job {job}"))
+            }
+            failure => failure,
+        }
+    }
+
     /// Takes in the next element.
     pub fn take(&mut self, element: &Element<'_>) -> Result<ControlFlow<()>, Failure> {
         match element {

@@ -10,7 +10,7 @@ use std::time::{SystemTime, UNIX_EPOCH};
 
 use adr_tape::{Element, BLOCK_LENGTH};
 
-use super::{Closing, Description, LONGEST_NAME};
+use super::{is_plain_name, Closing, Description, LONGEST_NAME};
 use crate::digest::Sha256;
 use crate::failure::Failure;
 
@@ -100,8 +100,14 @@ fn describe(path: &Path, file: &File) -> Result<Description, Failure> {
 fn job_name(name: &OsStr) -> Result<Vec<u8>, Failure> {
     let name = name.as_bytes();
     if name.len() > LONGEST_NAME {
-        return Err(Failure::new(format!(
+        return Err(Failure::usage(format!(
             "a job's name has at most {LONGEST_NAME} bytes"
+        )));
+    }
+    if !is_plain_name(name) {
+        let shown = String::from_utf8_lossy(name);
+        return Err(Failure::usage(format!(
+            "'{shown}' cannot be a job's name: it must be that of a file, without directories"
         )));
     }
     Ok(name.to_vec())

@@ -125,7 +125,7 @@ pub fn look_at(image: &mut Image) -> Result<Spots, Failure> {
         HeaderError::Drive(failure) => failure,
     })?;
     match header {
-        None => labels.image.require_undamaged()?,
+        None => labels.image.require_blank_headers()?,
         Some(header) => {
             spots.recorded = true;
             mark_headers(&mut labels, &header, &mut spots)?;

@@ -1,0 +1,137 @@
+//! The layer's sessions in the scope's terms, as the model tells its own.
+
+use adr_model::frame::{HeaderFields, Kind};
+use adr_model::state::{
+    CopiesState, ElementsState, ExchangeState, Going, ReadingState, RecordingState, StageName,
+};
+use adr_model::{Address, SequenceNumber};
+use adr_tape::ffi;
+
+use super::command_of;
+
+/// The marker's address where there is none.
+const NO_MARKER: u32 = u32::MAX;
+
+/// Why numbers stand for no session.
+type Wrong = String;
+
+fn flag(name: &str, number: u8) -> Result<bool, Wrong> {
+    match number {
+        0 => Ok(false),
+        1 => Ok(true),
+        number => Err(format!("{name} is {number}")),
+    }
+}
+
+fn stage_of(number: u8) -> Result<StageName, Wrong> {
+    match number {
+        0 => Ok(StageName::OpeningHeaders),
+        1 => Ok(StageName::Elements),
+        2 => Ok(StageName::ClosingHeaders),
+        3 => Ok(StageName::Done),
+        number => Err(format!("stage is {number}")),
+    }
+}
+
+fn exchange_state(exchange: &ffi::Exchange) -> Result<ExchangeState, Wrong> {
+    let command = command_of(exchange.command).ok_or("no command in the exchange")?;
+    Ok(ExchangeState {
+        awaited: flag("awaiting", exchange.awaiting)?.then_some(command),
+        again: flag("again", exchange.again)?.then_some(command),
+    })
+}
+
+fn header_fields(header: &ffi::Header) -> HeaderFields {
+    HeaderFields {
+        pass: header.pass,
+        update_count: header.update,
+        last: Address(header.last),
+        eod: Address(header.eod),
+    }
+}
+
+fn copies_state(copies: &ffi::Copies) -> Result<CopiesState, Wrong> {
+    Ok(CopiesState {
+        group: copies.group.into(),
+        copy: copies.copy.into(),
+        outstanding: copies.outstanding.into(),
+        confirmed: copies.confirmed.into(),
+        locate: flag("copies.locate", copies.locate)?,
+    })
+}
+
+/// What is pending, by the marks; EOD is the last.
+fn pending(elements: &ffi::Elements) -> Result<Vec<Kind>, Wrong> {
+    let eod = flag("eod", elements.eod)?;
+    let kinds = (0..elements.pending).map(|behind| {
+        let number = elements.first.wrapping_add(behind.into());
+        let mark = elements.marks[number as usize % 64];
+        Ok(if flag("a mark", mark)? {
+            Kind::Marker
+        } else if eod && behind + 1 == elements.pending {
+            Kind::Eod
+        } else {
+            Kind::Data
+        })
+    });
+    kinds.collect()
+}
+
+fn elements_state(elements: &ffi::Elements) -> Result<ElementsState, Wrong> {
+    let trail = &elements.trail;
+    Ok(ElementsState {
+        first: SequenceNumber(elements.first),
+        pending: pending(elements)?,
+        outstanding: elements.outstanding.into(),
+        going: if flag("elements.locate", elements.locate)? {
+            Going::Locate(Address(elements.target))
+        } else {
+            Going::Next(Address(elements.next))
+        },
+        end: Address(elements.limit.wrapping_sub(1)),
+        filemarks: trail.filemarks,
+        latest_marker: (trail.marker != NO_MARKER).then_some(Address(trail.marker)),
+    })
+}
+
+/// Where a recording of the layer stands; none once it is ended.
+pub fn recording_state(session: &ffi::Recording) -> Result<Option<RecordingState>, Wrong> {
+    if flag("ended", session.ended)? {
+        return Ok(None);
+    }
+    let stage = stage_of(session.stage)?;
+    let (copies, elements) = match stage {
+        StageName::OpeningHeaders => (true, true),
+        StageName::Elements => (false, true),
+        StageName::ClosingHeaders => (true, false),
+        StageName::Done => (false, false),
+    };
+    let copies = copies.then(|| copies_state(&session.copies)).transpose()?;
+    let elements = elements.then(|| elements_state(&session.elements));
+    Ok(Some(RecordingState {
+        depth: session.setup.depth.into(),
+        window_blocks: u32::from(session.setup.highest) + 1,
+        stage,
+        closed: flag("closed", session.closed)?,
+        exchange: exchange_state(&session.exchange)?,
+        header: header_fields(&session.copies.header),
+        copies,
+        elements: elements.transpose()?,
+    }))
+}
+
+/// Where a reading of the layer stands; none once it is ended.
+pub fn reading_state(session: &ffi::Reading) -> Result<Option<ReadingState>, Wrong> {
+    if flag("ended", session.ended)? {
+        return Ok(None);
+    }
+    Ok(Some(ReadingState {
+        pass: session.told.pass,
+        last: Address(session.told.last),
+        next: Address(session.next),
+        locate: flag("locate", session.locate)?,
+        expected: SequenceNumber(session.expected),
+        finished: flag("finished", session.finished)?,
+        exchange: exchange_state(&session.exchange)?,
+    }))
+}

@@ -1,0 +1,168 @@
+//! The comparison of sessions sees every number that means something.
+
+mod compared;
+
+use adr_model::check::content::block;
+use adr_model::check::guarded::Guarded;
+use adr_model::check::layer::{ReadingCalls, RecordingCalls};
+use adr_model::frame::{fill_header, HeaderFields};
+use adr_model::geometry::{BLOCK_LENGTH, FRAME_LENGTH};
+use adr_model::reply::{GOOD, WRITE_ERROR};
+use adr_model::{Address, Geometry, Reply};
+use adr_tape::ffi;
+use compared::sessions::{reading_state, recording_state};
+use compared::{ComparedReading, ComparedRecording};
+
+const GEOMETRY: Geometry = Geometry {
+    frames_per_track: 3_001,
+    tracks: 1,
+    load_point: 0,
+};
+
+type Alter<S> = (&'static str, fn(&mut S));
+
+const IN_EVERY_STAGE: [Alter<ffi::Recording>; 11] = [
+    ("depth", |s| s.setup.depth += 1),
+    ("window", |s| s.setup.highest += 1),
+    ("stage", |s| s.stage ^= 1),
+    ("closed", |s| s.closed ^= 1),
+    ("ended", |s| s.ended ^= 1),
+    ("awaiting", |s| s.exchange.awaiting ^= 1),
+    ("again", |s| s.exchange.again ^= 1),
+    ("last", |s| s.copies.header.last += 1),
+    ("header's eod", |s| s.copies.header.eod += 1),
+    ("update count", |s| s.copies.header.update += 1),
+    ("pass", |s| s.copies.header.pass += 1),
+];
+
+const OF_COPIES: [Alter<ffi::Recording>; 5] = [
+    ("group", |s| s.copies.group ^= 1),
+    ("copy", |s| s.copies.copy += 1),
+    ("copies outstanding", |s| s.copies.outstanding += 1),
+    ("copies confirmed", |s| s.copies.confirmed += 1),
+    ("copies' LOCATE", |s| s.copies.locate ^= 1),
+];
+
+const OF_ELEMENTS: [Alter<ffi::Recording>; 9] = [
+    ("first", |s| s.elements.first += 1),
+    ("limit", |s| s.elements.limit += 1),
+    ("filemarks", |s| s.elements.trail.filemarks += 1),
+    ("marker", |s| s.elements.trail.marker ^= 1),
+    ("pending", |s| s.elements.pending += 1),
+    ("outstanding", |s| s.elements.outstanding += 1),
+    ("elements' LOCATE", |s| s.elements.locate ^= 1),
+    ("eod", |s| s.elements.eod ^= 1),
+    ("a mark", |s| {
+        s.elements.marks[s.elements.first as usize % 64] ^= 1;
+    }),
+];
+
+const OF_READING: [Alter<ffi::Reading>; 9] = [
+    ("last", |s| s.told.last += 1),
+    ("pass", |s| s.told.pass += 1),
+    ("next", |s| s.next += 1),
+    ("expected", |s| s.expected += 1),
+    ("awaiting", |s| s.exchange.awaiting ^= 1),
+    ("again", |s| s.exchange.again ^= 1),
+    ("LOCATE", |s| s.locate ^= 1),
+    ("finished", |s| s.finished ^= 1),
+    ("ended", |s| s.ended ^= 1),
+];
+
+#[track_caller]
+fn all_seen(session: &ComparedRecording, alterations: &[Alter<ffi::Recording>]) {
+    let model = Ok(session.model.state());
+    assert_eq!(recording_state(&session.layer), model);
+    for (name, alter) in alterations {
+        let mut altered = session.layer;
+        alter(&mut altered);
+        assert_ne!(recording_state(&altered), model, "{name}");
+    }
+}
+
+/// A host that answers good.
+struct Host {
+    session: ComparedRecording,
+    window: Guarded,
+    frame: Guarded,
+}
+
+impl Host {
+    fn exchange(&mut self, reply: &Reply) {
+        self.session.fetch(&self.window, &mut self.frame);
+        self.session.reply(reply);
+        assert_eq!(self.session.wrong(), None);
+    }
+
+    fn until_stage(&mut self, stage: u8) {
+        while self.session.layer.stage != stage {
+            self.exchange(&Reply::of(GOOD));
+        }
+    }
+}
+
+#[test]
+fn recordings() {
+    let (session, _) = ComparedRecording::open(&GEOMETRY, 3, 4, None);
+    let mut host = Host {
+        session,
+        window: Guarded::filled(0, 4 * BLOCK_LENGTH),
+        frame: Guarded::filled(0, FRAME_LENGTH),
+    };
+    host.session.accept_filemark();
+    host.session.accept_block(block(1), &mut host.window);
+    all_seen(&host.session, &IN_EVERY_STAGE);
+    all_seen(&host.session, &OF_COPIES);
+    all_seen(
+        &host.session,
+        &[OF_ELEMENTS[0], OF_ELEMENTS[4], OF_ELEMENTS[8]],
+    );
+    host.until_stage(1);
+    all_seen(&host.session, &[("target", |s| s.elements.target += 1)]);
+    for _ in 0..3 {
+        host.exchange(&Reply::of(GOOD));
+    }
+    all_seen(&host.session, &IN_EVERY_STAGE);
+    all_seen(&host.session, &OF_ELEMENTS);
+    all_seen(&host.session, &[("next", |s| s.elements.next += 1)]);
+    let error = Reply {
+        sense: WRITE_ERROR,
+        position: Address(11),
+        ..Reply::of(GOOD)
+    };
+    host.exchange(&error);
+    all_seen(&host.session, &[("target", |s| s.elements.target += 1)]);
+    all_seen(&host.session, &OF_ELEMENTS);
+    host.session.close();
+    host.until_stage(2);
+    all_seen(&host.session, &IN_EVERY_STAGE);
+    all_seen(&host.session, &OF_COPIES);
+    host.until_stage(3);
+    all_seen(&host.session, &IN_EVERY_STAGE);
+}
+
+#[test]
+fn readings() {
+    let mut header = Box::new([0; FRAME_LENGTH]);
+    let fields = HeaderFields {
+        pass: 7,
+        update_count: 3,
+        last: Address(3_000),
+        eod: Address(0),
+    };
+    fill_header(&mut header, &fields);
+    let (mut session, _) = ComparedReading::open(&GEOMETRY, header.as_slice());
+    let frame = Guarded::filled(0, FRAME_LENGTH);
+    for _ in 0..4 {
+        let model = Ok(session.model.state());
+        assert_eq!(reading_state(&session.layer), model);
+        for (name, alter) in OF_READING {
+            let mut altered = session.layer;
+            alter(&mut altered);
+            assert_ne!(reading_state(&altered), model, "{name}");
+        }
+        session.fetch();
+        session.reply(&Reply::of(GOOD), &frame);
+        assert_eq!(session.wrong(), None);
+    }
+}
