@@ -18,6 +18,37 @@ fn differences(one: &Tape, other: &Tape) -> Vec<Address> {
         .collect()
 }
 
+/// Since `before` only addresses that the drive logged changed, to what it
+/// took from `start` on; where a LOCATE emptied its buffer there is no start.
+fn only_taken_frames_written(
+    before: &Drive,
+    drive: &Drive,
+    start: Option<Address>,
+    taken: &[[u8; FRAME_LENGTH]],
+) {
+    let logged = drive.log().written.len() - before.log().written.len();
+    let changed = differences(before.tape(), drive.tape());
+    assert!(changed.len() <= logged);
+    for address in changed {
+        assert!(drive.log().written.contains(&address));
+        let index = start.map(|start| address.0.wrapping_sub(start.0) as usize);
+        let sent = index.and_then(|index| taken.get(index));
+        if let (Some(read), Some(sent)) = (drive.tape().read(address), sent) {
+            assert!(read[..BLOCK_LENGTH + 4] == sent[..BLOCK_LENGTH + 4]);
+            assert!(read[BLOCK_LENGTH + 12..] == sent[BLOCK_LENGTH + 12..]);
+        }
+    }
+}
+
+/// Whether a LOCATE was carried out, be it answered busy.
+fn is_located(drive: &Drive, command: Command, meaning: Meaning) -> bool {
+    match command {
+        Command::Locate(_) if meaning == Meaning::Good => true,
+        Command::Locate(to) => drive.buffered() == 0 && drive.next() == to,
+        _ => false,
+    }
+}
+
 #[test]
 fn writing() {
     let mut failures = 0;
@@ -38,13 +69,10 @@ fn writing() {
             };
             let frame = [turn; FRAME_LENGTH];
             let reply = drive.record(command, &frame);
-            let listed = listed_for(command).contains(&reply.sense);
-            let moved = match (command, reply.sense.meaning()) {
-                _ if !listed => break,
-                (Command::Locate(_), Meaning::Good) => true,
-                (Command::Locate(to), _) => drive.buffered() == 0 && drive.next() == to,
-                _ => false,
-            };
+            if !listed_for(command).contains(&reply.sense) {
+                break;
+            }
+            let moved = is_located(&drive, command, reply.sense.meaning());
             if let (Command::Locate(to), true) = (command, moved) {
                 start = Some(to);
                 taken.clear();
@@ -64,23 +92,36 @@ fn writing() {
                 }
                 _ => {}
             }
-            let log = drive.log().written.len() - before.log().written.len();
-            let changed = differences(before.tape(), drive.tape());
-            assert!(changed.len() <= log);
-            for address in changed {
-                assert!(drive.log().written.contains(&address));
-                let from = start.map_or(0, |start: Address| start.0);
-                let index = address.0.wrapping_sub(from) as usize;
-                if let (Some(read), Some(sent), false) =
-                    (drive.tape().read(address), taken.get(index), moved)
-                {
-                    assert!(read[..BLOCK_LENGTH + 4] == sent[..BLOCK_LENGTH + 4]);
-                    assert!(read[BLOCK_LENGTH + 12..] == sent[BLOCK_LENGTH + 12..]);
-                }
-            }
+            let start = start.filter(|_| !moved);
+            only_taken_frames_written(&before, &drive, start, &taken);
         }
     }
     assert!(failures > 50, "{failures}");
+}
+
+/// A reply to a READ of `next` is true of the tape; its place in a count.
+fn true_of(tape: &Tape, next: Address, meaning: Meaning, frame: &[u8; FRAME_LENGTH]) -> usize {
+    let blank_to = |end: u32| (next.0..end).all(|at| tape.read(Address(at)).is_none());
+    match meaning {
+        Meaning::Good | Meaning::Recovered => {
+            assert!(tape.read(next).is_some_and(|read| **read == *frame));
+            0
+        }
+        Meaning::Unreadable => {
+            assert!(tape.read(next).is_none());
+            1
+        }
+        Meaning::Blank => {
+            assert!(blank_to(next.0 + 32));
+            2
+        }
+        Meaning::EndOfTape => {
+            assert!(blank_to(4_000));
+            3
+        }
+        Meaning::Busy => 4,
+        meaning => panic!("{meaning:?}"),
+    }
 }
 
 #[test]
@@ -102,29 +143,10 @@ fn reading() {
         for _ in 0..200 {
             frame.fill(0x11);
             let reply = drive.read(Command::Read(next), &mut frame);
-            match reply.sense.meaning() {
-                Meaning::Good | Meaning::Recovered => {
-                    assert!(tape.read(next).is_some_and(|read| **read == frame));
-                    next = next.plus(1);
-                    seen[0] += 1;
-                }
-                Meaning::Unreadable => {
-                    assert!(tape.read(next).is_none());
-                    next = next.plus(1);
-                    seen[1] += 1;
-                }
-                Meaning::Blank => {
-                    let blank = (next.0..next.0 + 32).all(|a| tape.read(Address(a)).is_none());
-                    assert!(blank);
-                    seen[2] += 1;
-                }
-                Meaning::EndOfTape => {
-                    let blank = (next.0..4_000).all(|a| tape.read(Address(a)).is_none());
-                    assert!(blank);
-                    seen[3] += 1;
-                }
-                Meaning::Busy => seen[4] += 1,
-                meaning => panic!("{meaning:?}"),
+            let place = true_of(&tape, next, reply.sense.meaning(), &frame);
+            seen[place] += 1;
+            if place <= 1 {
+                next = next.plus(1);
             }
             if random.chance(100) {
                 let to = Address(random.between(10, 3_000));

@@ -64,3 +64,23 @@ impl DerefMut for Guarded {
         self.0.get_mut(place).unwrap_or_default()
     }
 }
+
+#[cfg(test)]
+mod tests {
+    use super::{Guarded, GUARD};
+
+    #[test]
+    fn bytes_beside_a_buffer_are_seen() {
+        let mut guarded = Guarded::of(&[1, 2, 3]);
+        guarded.fill(9);
+        assert!(guarded.is_intact() && *guarded == [9; 3]);
+        for beside in [0, GUARD - 1, GUARD + 3, GUARD + 3 + GUARD - 1] {
+            let mut altered = guarded.clone();
+            altered.0[beside] ^= 1;
+            assert!(!altered.is_intact() && *altered == [9; 3], "{beside}");
+        }
+        guarded.refill(&[4]);
+        assert!(guarded == Guarded::filled(4, 1));
+        assert!(Guarded::of(&[]).is_empty() && Guarded::of(&[]).is_intact());
+    }
+}

@@ -170,16 +170,10 @@ fn read_with<S: ReadingCalls>(
     // Each address is read once at most, and located before that.
     let mut bound = 2 * u64::from(case.geometry.frames()) + 2;
     loop {
-        refused_calls(session, None, &mut random)?;
-        let command = match session.fetch() {
-            ReadAnswer::Command(command) => command,
-            ReadAnswer::Refused(number) => return Ok((delivered, Finish::Refused(number))),
-            ReadAnswer::End => return Err("the end without EOD".into()),
+        let command = match fetched(session, drive, &mut random)? {
+            Ok(command) => command,
+            Err(number) => return Ok((delivered, Finish::Refused(number))),
         };
-        refused_calls(session, Some(command), &mut random)?;
-        if matches!(command, Command::Read(address) if address != drive.next()) {
-            return Err(format!("{command:?}, but the drive is elsewhere"));
-        }
         let reply = lent.send(drive, command)?;
         if reply.sense.meaning() != Meaning::Busy {
             bound = bound.checked_sub(1).ok_or("replies without bound")?;
@@ -205,6 +199,27 @@ fn read_with<S: ReadingCalls>(
         return Err("the end is not said again".into());
     }
     Ok((delivered, Finish::End))
+}
+
+/// The next command, which fits where the drive stands, or a refusal.
+fn fetched<S: ReadingCalls>(
+    session: &mut S,
+    drive: &Drive,
+    random: &mut Random,
+) -> Result<Result<Command, u8>, String> {
+    refused_calls(session, None, random)?;
+    let command = match session.fetch() {
+        ReadAnswer::Command(command) => command,
+        ReadAnswer::Refused(number) => return Ok(Err(number)),
+        ReadAnswer::End => return Err("the end without EOD".into()),
+    };
+    refused_calls(session, Some(command), random)?;
+    match command {
+        Command::Read(address) if address != drive.next() => {
+            Err(format!("{command:?}, but the drive is elsewhere"))
+        }
+        command => Ok(Ok(command)),
+    }
 }
 
 fn is_delivered(outcome: ReadOutcome, frame: &Frame, element: Option<&Element>) -> bool {
