@@ -11,8 +11,8 @@ use geometry::Address;
 use geometry::Place;
 use geometry::Refusal;
 use geometry::Verdict;
-use geometry::target;
-use geometry::target_address;
+use write_error::target;
+use write_error::target_address;
 
 fn refuse(e: Elements, refusal: Refusal) -> Stepped
     ensures { λ r. ⌜ steppedSaid r ≡ refusing e (refusalNumber refusal) ⌝ }

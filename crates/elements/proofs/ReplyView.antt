@@ -5,7 +5,7 @@ use lib.Dec.{ltb, leb}
 use Rattle.geometry.specs.Place as place
 use Rattle.geometry.specs.Place.{asAddress}
 use Rattle.geometry.specs.declared.address.Address.{Address}
-use Rattle.geometry.specs.WriteError.{targetAddress}
+use Rattle.write_error.specs.WriteError.{targetAddress}
 use Rattle.geometry.proofs.PickLaws.{pick-by}
 use Rattle.elements.specs.declared.elements.Elements.{Elements}
 use Rattle.elements.specs.Elements.{baseOf, limitOf}

@@ -6,7 +6,7 @@ use Rattle.geometry.specs.Place.{asAddress}
 use Rattle.geometry.specs.Pick.{pick}
 use Rattle.geometry.specs.Refused.{verdictNumber}
 use Rattle.geometry.specs.Place as place
-use Rattle.geometry.specs.WriteError.{targetAddress, targetOf}
+use Rattle.write_error.specs.WriteError.{targetAddress, targetOf}
 use Rattle.geometry.specs.declared.address.Address.{Address}
 use Rattle.elements.specs.declared.elements.Elements.{Elements}
 use Rattle.elements.specs.declared.reply.Stepped.{Stepped}

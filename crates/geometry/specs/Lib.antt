@@ -2,5 +2,3 @@ pub mod Pick
 pub mod Refused
 pub mod Place
 pub mod Cartridge
-pub mod WriteError
-pub mod Edges

@@ -1,7 +1,7 @@
 // The frames of a cartridge: how many, which hold user data, and where the headers stand.
 ghost use mathlib.Core.Path.{_≡_};
 ghost use Rattle.geometry.specs.Place.{placeSaid};
-ghost use Rattle.geometry.specs.Cartridge.{trackFrames, framesOf, lastOf, isUser, headerAddress};
+ghost use Rattle.geometry.specs.Cartridge.{trackFrames, framesOf, lastOf, isUser, pastReserved, headerAddress};
 use crate::address::Address;
 use crate::address::Place;
 use crate::refusal::Refusal;
@@ -94,6 +94,20 @@ pub fn is_user(last: Address, a: Address) -> bool
         return false;
     }
     a.0 <= last.0
+}
+
+// An address moved out of the second header group and the defect map behind it.
+pub fn past_reserved(t: u64) -> u64
+    ensures { λ r. ⌜ r ≡ pastReserved t ⌝ }
+{
+    if t < (SECOND_GROUP as u64) {
+        return t;
+    }
+    if t < (SECOND_USER as u64) {
+        SECOND_USER as u64
+    } else {
+        t
+    }
 }
 
 // The address of a header copy. Groups count modulo 2 and copies modulo 5, so that every number has its place.

@@ -2,7 +2,6 @@
 mod address;
 mod cartridge;
 mod refusal;
-mod write_error;
 
 pub use address::Address;
 pub use address::Place;
@@ -14,9 +13,7 @@ pub use cartridge::SECOND_GROUP;
 pub use cartridge::SECOND_USER;
 pub use cartridge::header_address;
 pub use cartridge::is_user;
+pub use cartridge::past_reserved;
 pub use refusal::Refusal;
 pub use refusal::Verdict;
 pub use refusal::number;
-pub use write_error::past_reserved;
-pub use write_error::target;
-pub use write_error::target_address;

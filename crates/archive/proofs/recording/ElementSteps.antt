@@ -12,7 +12,7 @@ use lib.ListN.{length}
 use Rattle.geometry.specs.Cartridge.{isUser}
 use Rattle.geometry.specs.Place as place
 use Rattle.geometry.specs.Place.{asAddress}
-use Rattle.geometry.specs.WriteError.{stepOf, targetAddress}
+use Rattle.write_error.specs.WriteError.{stepOf, targetAddress}
 use Rattle.geometry.specs.declared.address.Address.{Address}
 use Rattle.geometry.specs.declared.address.Seq.{Seq}
 use Rattle.geometry.proofs.PickLaws.{pick-by}

@@ -5,7 +5,7 @@ use native.Mathlib.Omega.{arith}
 use borrow.Author.Tests.{lt-ltb, le-ltb, le-leb, lt-leb}
 use Rattle.geometry.specs.Place.{asAddress, PlaceSaid, placeSaid}
 use Rattle.geometry.specs.Refused.{refusalNumber}
-use Rattle.geometry.specs.WriteError.{targetOf}
+use Rattle.write_error.specs.WriteError.{targetOf}
 use Rattle.geometry.specs.declared.address.Address.{Address}
 use Rattle.geometry.proofs.PickLaws.{pick-t, pick-f}
 use Rattle.elements.specs.declared.elements.Elements.{Elements}

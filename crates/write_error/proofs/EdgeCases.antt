@@ -4,10 +4,10 @@ use mathlib.Core.Bool.{Bool, false}
 use Prim.Native.Nat.{ℕ, _<_}
 use lib.Dec.{T, eqb, eqb→eq}
 use lib.ListN.{length, getD}
 use Rattle.geometry.specs.declared.cartridge.LoadPoint.the-variants.{Beginning}
 use Rattle.geometry.specs.Place.{PlaceSaid, address, refused}
-use Rattle.geometry.specs.Edges.{lastFor, Case, answer, cases}
+use Rattle.write_error.specs.Edges.{lastFor, Case, answer, cases}
 use Rattle.geometry.proofs.Table.{at-index}
 
 same : PlaceSaid → PlaceSaid → Bool
 same (address a) (address b) = eqb a b

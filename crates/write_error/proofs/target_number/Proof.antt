@@ -1,10 +1,10 @@
--- `geometry::write_error::target_number` meets its contract: the sum of the address and the skip, moved. Assumes nothing.
+-- `target_number` meets its contract: the sum of the address and the skip, moved. Assumes nothing.
 use Prim.Native.Nat.{ℕ, _+_}
 use mathlib.Core.Path.{ap, _∙_}
 use borrow.Author.Needs.{needs}
 use Rattle.geometry.specs.Cartridge.{pastReserved}
-use Rattle.geometry.proofs.write_error.target_number.Statement.{statement}
-use Rattle.geometry.proofs.write_error.target_number.Tie as tie
+use Rattle.write_error.proofs.target_number.Statement.{statement}
+use Rattle.write_error.proofs.target_number.Tie as tie
 
 cast-past-reserved : tie.Need-cast-past-reserved
 cast-past-reserved c = search needs

@@ -2,8 +2,8 @@
 use native.Mathlib.Omega.{arith}
 use borrow.Author.Tests.{lt-ltb, le-ltb}
 use borrow.Author.Needs.{needs}
-use Rattle.geometry.proofs.write_error.past_reserved.Statement.{statement}
-use Rattle.geometry.proofs.write_error.past_reserved.Tie as tie
+use Rattle.geometry.proofs.cartridge.past_reserved.Statement.{statement}
+use Rattle.geometry.proofs.cartridge.past_reserved.Tie as tie
 
 cast-if1 : tie.Need-cast-if1
 cast-if1 c = search needs

@@ -1,11 +1,11 @@
 -- 01, "Edges": the cases marked P, each with what it must give.
 use Prim.Native.Nat.{ℕ, _+_}
 use mathlib.Core.List.{List, [], _∷_}
 use Rattle.geometry.specs.declared.cartridge.LoadPoint.{LoadPoint}
 use Rattle.geometry.specs.declared.cartridge.LoadPoint.the-variants.{Beginning, Centre}
 use Rattle.geometry.specs.Place.{asAddress, PlaceSaid, address, refused}
 use Rattle.geometry.specs.Cartridge.{lastOf}
-use Rattle.geometry.specs.WriteError.{targetOf}
+use Rattle.write_error.specs.WriteError.{targetOf}
 
 -- a question to the definitions
 pub data Question : Type 0 where

@@ -3,11 +3,11 @@ use mathlib.Core.Path.{sym, ap, _∙_}
 use native.Mathlib.Omega.{arith}
 use borrow.Author.Needs.{needs}
 use borrow.Author.Tests.{lt-ltb, le-ltb}
 use Rattle.geometry.specs.Place.{address}
-use Rattle.geometry.specs.WriteError.{targetAddress}
+use Rattle.write_error.specs.WriteError.{targetAddress}
 use Rattle.geometry.proofs.PickLaws.{pick-t, pick-f}
-use Rattle.geometry.proofs.write_error.target.Statement.{statement}
-use Rattle.geometry.proofs.write_error.target.Tie as tie
+use Rattle.write_error.proofs.target.Statement.{statement}
+use Rattle.write_error.proofs.target.Tie as tie
 
 target-number-requires : tie.Need-target-number-requires
 target-number-requires c κs = search needs

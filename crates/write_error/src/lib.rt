@@ -1,28 +1,12 @@
 // The target of a write error: where writing goes on.
 ghost use mathlib.Core.Path.{_≡_};
 ghost use Prim.Native.Nat.{_%_, _^_};
 ghost use Rattle.geometry.specs.Place.{placeSaid};
-ghost use Rattle.geometry.specs.Cartridge.{pastReserved};
-ghost use Rattle.geometry.specs.WriteError.{stepOf, targetAddress, targetOf};
-use crate::address::Address;
-use crate::address::Place;
-use crate::cartridge::SECOND_GROUP;
-use crate::cartridge::SECOND_USER;
-use crate::refusal::Refusal;
-
-// An address moved out of the second header group and the defect map behind it.
-pub fn past_reserved(t: u64) -> u64
-    ensures { λ r. ⌜ r ≡ pastReserved t ⌝ }
-{
-    if t < (SECOND_GROUP as u64) {
-        return t;
-    }
-    if t < (SECOND_USER as u64) {
-        SECOND_USER as u64
-    } else {
-        t
-    }
-}
+ghost use Rattle.write_error.specs.WriteError.{stepOf, targetAddress, targetOf};
+use geometry::Address;
+use geometry::Place;
+use geometry::Refusal;
+use geometry::past_reserved;
 
 // The addresses that an error skips: at least one.
 fn step(skip: u8) -> u8

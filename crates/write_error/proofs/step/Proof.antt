@@ -1,8 +1,8 @@
 -- A skip of 0 is told apart by its test. Assumes nothing.
 use native.Mathlib.Omega.{arith}
 use borrow.Author.Tests.{eq-eqb, ne-eqb}
-use Rattle.geometry.proofs.write_error.step.Statement.{statement}
-use Rattle.geometry.proofs.write_error.step.Tie as tie
+use Rattle.write_error.proofs.step.Statement.{statement}
+use Rattle.write_error.proofs.step.Tie as tie
 
 returns : tie.Need-returns
 returns c = simp (eq-eqb (c .before .args .skip) 0 (omega arith))

@@ -1,0 +1,2 @@
+pub mod WriteError
+pub mod Edges
