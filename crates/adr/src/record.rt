@@ -3,7 +3,7 @@ ghost use mathlib.Core.Path.{_≡_};
 ghost use Rattle.recording_state.specs.Open.{openOf, openBlankOf};
 ghost use Rattle.recording_state.specs.Accept.{filemarkOf, closeOf};
 ghost use Rattle.recording_state.specs.Reply.{replyOf};
-ghost use Rattle.twins.specs.Recording.{recordingOf};
+ghost use Rattle.recording_twins.specs.Recording.{recordingOf};
 ghost use Rattle.numbers.specs.Arguments as arguments;
 ghost use Rattle.numbers.specs.Arguments.{geometryOf, sizeOf};
 ghost use Rattle.numbers.specs.Recording.{outcomeTwin};
@@ -14,9 +14,9 @@ use numbers::AdrRecordOutcome;
 use numbers::AdrReply;
 use numbers::size_of;
 use recording::Recording;
-use twins::AdrRecording;
-use twins::is_recording;
-use twins::recording_of;
+use recording_twins::AdrRecording;
+use recording_twins::is_recording;
+use recording_twins::recording_of;
 
 // The session of these numbers.
 fn session_of(s: AdrRecording) -> Recording

@@ -5,8 +5,8 @@ use Rattle.reading_state.specs.Fetch as fetch
 use Rattle.reading_state.specs.Fetch.{AnswerSaid, FetchedSaid}
 use Rattle.reading_state.specs.Reply as reply
 use Rattle.reading_state.specs.Reply.{DeliverySaid, TakenSaid}
-use Rattle.twins.specs.declared.reading_numbers.AdrReading.{AdrReading}
-use Rattle.twins.specs.Reading.{readingTwin}
+use Rattle.reading_twins.specs.declared.reading_numbers.AdrReading.{AdrReading}
+use Rattle.reading_twins.specs.Reading.{readingTwin}
 use Rattle.numbers.specs.declared.reading_answers.AdrReadOpened.{AdrReadOpened}
 use Rattle.numbers.specs.declared.reading_answers.AdrReadFetched.{AdrReadFetched}
 use Rattle.numbers.specs.declared.reading_answers.AdrReadTaken.{AdrReadTaken}

@@ -3,8 +3,8 @@ use Prim.Native.Nat.{ℕ}
 use Rattle.recording_state.specs.State.{OutcomeSaid}
 use Rattle.recording_state.specs.Fetch as fetch
 use Rattle.recording_state.specs.Fetch.{AnswerSaid}
-use Rattle.twins.specs.declared.recording_numbers.AdrRecording.{AdrRecording}
-use Rattle.twins.specs.Recording.{recordingTwin}
+use Rattle.recording_twins.specs.declared.recording_numbers.AdrRecording.{AdrRecording}
+use Rattle.recording_twins.specs.Recording.{recordingTwin}
 use Rattle.numbers.specs.declared.recording_answers.AdrRecordOutcome.{AdrRecordOutcome}
 use Rattle.numbers.specs.declared.recording_answers.AdrRecordFetched.{AdrRecordFetched}
 

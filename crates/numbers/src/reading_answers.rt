@@ -9,16 +9,16 @@ use crate::answers::FILEMARK;
 use crate::answers::NOTHING;
 use crate::answers::REFUSED;
 use crate::answers::verdict_number;
+use exchange_twins::AdrCommand;
+use exchange_twins::command_twin;
 use geometry::number;
 use reading::Answer;
 use reading::Delivery;
 use reading::Fetched;
 use reading::Opened;
 use reading::Taken;
-use twins::AdrCommand;
-use twins::AdrReading;
-use twins::command_twin;
-use twins::reading_twin;
+use reading_twins::AdrReading;
+use reading_twins::reading_twin;
 
 // The session and the number of the refusal, 0 for none.
 #[repr(C)]

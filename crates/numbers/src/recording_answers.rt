@@ -2,21 +2,21 @@
 ghost use mathlib.Core.Path.{_≡_};
 ghost use Rattle.recording.specs.Recording.{outcomeSaid};
 ghost use Rattle.recording_state.specs.Fetch.{answerSaid};
-ghost use Rattle.twins.specs.Recording.{recordingTwin};
+ghost use Rattle.recording_twins.specs.Recording.{recordingTwin};
 ghost use Rattle.numbers.specs.Recording.{outcomeTwin, unknown, answering, unknownFetch, fetchedTwin};
 use crate::answers::COMMAND;
 use crate::answers::DONE;
 use crate::answers::IDLE;
 use crate::answers::REFUSED;
 use crate::answers::verdict_number;
+use exchange_twins::AdrCommand;
+use exchange_twins::command_twin;
 use geometry::number;
 use recording::Answer;
 use recording::Fetched;
 use recording::Outcome;
-use twins::AdrCommand;
-use twins::AdrRecording;
-use twins::command_twin;
-use twins::recording_twin;
+use recording_twins::AdrRecording;
+use recording_twins::recording_twin;
 
 // The session and the number of the refusal, 0 for none.
 #[repr(C)]

@@ -1,7 +1,7 @@
 -- `numbers::reading_answers::AdrReadTaken::of` meets its contract: case by case. Assumes nothing.
 use mathlib.Core.Path.{_≡_, ap, sym, _∙_}
 use borrow.Author.Needs.{needs}
-use Rattle.twins.specs.declared.reading_numbers.AdrReading.{AdrReading}
+use Rattle.reading_twins.specs.declared.reading_numbers.AdrReading.{AdrReading}
 use Rattle.numbers.specs.Reading.{delivering}
 use Rattle.numbers.proofs.reading_answers.AdrReadTaken.of.Statement.{statement}
 use Rattle.numbers.proofs.reading_answers.AdrReadTaken.of.Tie as tie

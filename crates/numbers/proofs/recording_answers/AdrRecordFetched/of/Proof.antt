@@ -1,7 +1,7 @@
 -- `numbers::recording_answers::AdrRecordFetched::of` meets its contract: case by case. Assumes nothing.
 use mathlib.Core.Path.{_≡_, ap, sym, _∙_}
 use borrow.Author.Needs.{needs}
-use Rattle.twins.specs.declared.recording_numbers.AdrRecording.{AdrRecording}
+use Rattle.recording_twins.specs.declared.recording_numbers.AdrRecording.{AdrRecording}
 use Rattle.numbers.specs.Recording.{answering}
 use Rattle.numbers.proofs.recording_answers.AdrRecordFetched.of.Statement.{statement}
 use Rattle.numbers.proofs.recording_answers.AdrRecordFetched.of.Tie as tie
