@@ -1,17 +1,17 @@
 // What the calls of a reading session return, as numbers.
 ghost use mathlib.Core.Path.{_≡_};
 ghost use Rattle.reading.specs.Reading.{openedSaid, fetchedSaid, takenSaid};
-ghost use Rattle.numbers.specs.Reading.{openedTwin, answering, unknownFetch, fetchedTwin, delivering, unknownReply, takenTwin};
-use crate::answers::BLOCK;
-use crate::answers::COMMAND;
-use crate::answers::END;
-use crate::answers::FILEMARK;
-use crate::answers::NOTHING;
-use crate::answers::REFUSED;
-use crate::answers::verdict_number;
+ghost use Rattle.reading_answers.specs.Reading.{openedTwin, answering, unknownFetch, fetchedTwin, delivering, unknownReply, takenTwin};
 use exchange_twins::AdrCommand;
 use exchange_twins::command_twin;
 use geometry::number;
+use numbers::BLOCK;
+use numbers::COMMAND;
+use numbers::END;
+use numbers::FILEMARK;
+use numbers::NOTHING;
+use numbers::REFUSED;
+use numbers::verdict_number;
 use reading::Answer;
 use reading::Delivery;
 use reading::Fetched;

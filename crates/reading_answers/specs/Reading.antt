@@ -7,9 +7,9 @@ use Rattle.reading_state.specs.Reply as reply
 use Rattle.reading_state.specs.Reply.{DeliverySaid, TakenSaid}
 use Rattle.reading_twins.specs.declared.reading_numbers.AdrReading.{AdrReading}
 use Rattle.reading_twins.specs.Reading.{readingTwin}
-use Rattle.numbers.specs.declared.reading_answers.AdrReadOpened.{AdrReadOpened}
-use Rattle.numbers.specs.declared.reading_answers.AdrReadFetched.{AdrReadFetched}
-use Rattle.numbers.specs.declared.reading_answers.AdrReadTaken.{AdrReadTaken}
+use Rattle.reading_answers.specs.declared.reading_answers.AdrReadOpened.{AdrReadOpened}
+use Rattle.reading_answers.specs.declared.reading_answers.AdrReadFetched.{AdrReadFetched}
+use Rattle.reading_answers.specs.declared.reading_answers.AdrReadTaken.{AdrReadTaken}
 
 -- the session and the number of the refusal, 0 for none
 abbrev pub openedTwin : OpenedSaid → AdrReadOpened

@@ -1,6 +1,6 @@
--- `numbers::recording_answers::AdrRecordOutcome::of` meets its contract: by what the conversions promise. Assumes nothing.
-use Rattle.numbers.proofs.recording_answers.AdrRecordOutcome.of.Statement.{statement}
-use Rattle.numbers.proofs.recording_answers.AdrRecordOutcome.of.Tie as tie
+-- `recording_answers::recording_answers::AdrRecordOutcome::of` meets its contract: by what the conversions promise. Assumes nothing.
+use Rattle.recording_answers.proofs.recording_answers.AdrRecordOutcome.of.Statement.{statement}
+use Rattle.recording_answers.proofs.recording_answers.AdrRecordOutcome.of.Tie as tie
 
 recording-twin-requires : tie.Need-recording-twin-requires
 recording-twin-requires c κs = tt

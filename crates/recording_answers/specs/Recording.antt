@@ -5,8 +5,8 @@ use Rattle.recording_state.specs.Fetch as fetch
 use Rattle.recording_state.specs.Fetch.{AnswerSaid}
 use Rattle.recording_twins.specs.declared.recording_numbers.AdrRecording.{AdrRecording}
 use Rattle.recording_twins.specs.Recording.{recordingTwin}
-use Rattle.numbers.specs.declared.recording_answers.AdrRecordOutcome.{AdrRecordOutcome}
-use Rattle.numbers.specs.declared.recording_answers.AdrRecordFetched.{AdrRecordFetched}
+use Rattle.recording_answers.specs.declared.recording_answers.AdrRecordOutcome.{AdrRecordOutcome}
+use Rattle.recording_answers.specs.declared.recording_answers.AdrRecordFetched.{AdrRecordFetched}
 
 -- the session and the number of the refusal, 0 for none
 abbrev pub outcomeTwin : OutcomeSaid → AdrRecordOutcome

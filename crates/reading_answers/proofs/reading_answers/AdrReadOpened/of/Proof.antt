@@ -1,6 +1,6 @@
--- `numbers::reading_answers::AdrReadOpened::of` meets its contract: by what the conversions promise. Assumes nothing.
-use Rattle.numbers.proofs.reading_answers.AdrReadOpened.of.Statement.{statement}
-use Rattle.numbers.proofs.reading_answers.AdrReadOpened.of.Tie as tie
+-- `reading_answers::reading_answers::AdrReadOpened::of` meets its contract: by what the conversions promise. Assumes nothing.
+use Rattle.reading_answers.proofs.reading_answers.AdrReadOpened.of.Statement.{statement}
+use Rattle.reading_answers.proofs.reading_answers.AdrReadOpened.of.Tie as tie
 
 reading-twin-requires : tie.Need-reading-twin-requires
 reading-twin-requires c κs = tt

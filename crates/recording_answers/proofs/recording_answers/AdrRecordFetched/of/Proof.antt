@@ -1,10 +1,10 @@
--- `numbers::recording_answers::AdrRecordFetched::of` meets its contract: case by case. Assumes nothing.
-use mathlib.Core.Path.{_≡_, ap, sym, _∙_}
+-- `recording_answers::recording_answers::AdrRecordFetched::of` meets its contract: case by case. Assumes nothing.
+use mathlib.Core.Path.{ap, _∙_}
 use borrow.Author.Needs.{needs}
 use Rattle.recording_twins.specs.declared.recording_numbers.AdrRecording.{AdrRecording}
-use Rattle.numbers.specs.Recording.{answering}
-use Rattle.numbers.proofs.recording_answers.AdrRecordFetched.of.Statement.{statement}
-use Rattle.numbers.proofs.recording_answers.AdrRecordFetched.of.Tie as tie
+use Rattle.recording_answers.specs.Recording.{answering}
+use Rattle.recording_answers.proofs.recording_answers.AdrRecordFetched.of.Statement.{statement}
+use Rattle.recording_answers.proofs.recording_answers.AdrRecordFetched.of.Tie as tie
 
 recording-twin-requires : tie.Need-recording-twin-requires
 recording-twin-requires c κs = tt
