@@ -11,11 +11,11 @@ use Rattle.recording_state.specs.Fetch.{FetchedSaid, answerSaid, fetchOf}
 use Rattle.recording.specs.declared.recording.Outcome.{Outcome}
 use Rattle.recording.specs.declared.recording.Fetched as recording-fetched
 use Rattle.recording.specs.Recording as recording
-use Rattle.twins.specs.declared.recording_numbers.AdrRecording.{AdrRecording}
-use Rattle.twins.specs.Recording.{isRecording, recordingOf, recordingTwin}
-use Rattle.numbers.specs.declared.recording_answers.AdrRecordOutcome.{AdrRecordOutcome}
-use Rattle.numbers.specs.declared.recording_answers.AdrRecordFetched.{AdrRecordFetched}
-use Rattle.numbers.specs.Recording.{outcomeTwin, unknown, fetchedTwin, unknownFetch}
+use Rattle.recording_twins.specs.declared.recording_numbers.AdrRecording.{AdrRecording}
+use Rattle.recording_twins.specs.Recording.{isRecording, recordingOf, recordingTwin}
+use Rattle.recording_answers.specs.declared.recording_answers.AdrRecordOutcome.{AdrRecordOutcome}
+use Rattle.recording_answers.specs.declared.recording_answers.AdrRecordFetched.{AdrRecordFetched}
+use Rattle.recording_answers.specs.Recording.{outcomeTwin, unknown, fetchedTwin, unknownFetch}
 use Rattle.adr.specs.Record.{through, stored, storedTwin, blockThrough, fetched, lentTwin, fetchThrough}
 
 pub through-known : (call : State → OutcomeSaid) (s : AdrRecording) → isRecording s ≡ true → through call s ≡ outcomeTwin (call (recordingOf s))

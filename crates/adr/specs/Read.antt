@@ -5,11 +5,11 @@ use Rattle.geometry.specs.Pick.{pick}
 use Rattle.drive.specs.declared.reply.Reply.{Reply}
 use Rattle.reading_state.specs.Fetch.{fetchOf}
 use Rattle.reading_state.specs.Reply.{replyOf}
-use Rattle.twins.specs.declared.reading_numbers.AdrReading.{AdrReading}
-use Rattle.twins.specs.Reading.{isReading, readingOf}
-use Rattle.numbers.specs.declared.reading_answers.AdrReadFetched.{AdrReadFetched}
-use Rattle.numbers.specs.declared.reading_answers.AdrReadTaken.{AdrReadTaken}
-use Rattle.numbers.specs.Reading.{fetchedTwin, unknownFetch, takenTwin, unknownReply}
+use Rattle.reading_twins.specs.declared.reading_numbers.AdrReading.{AdrReading}
+use Rattle.reading_twins.specs.Reading.{isReading, readingOf}
+use Rattle.reading_answers.specs.declared.reading_answers.AdrReadFetched.{AdrReadFetched}
+use Rattle.reading_answers.specs.declared.reading_answers.AdrReadTaken.{AdrReadTaken}
+use Rattle.reading_answers.specs.Reading.{fetchedTwin, unknownFetch, takenTwin, unknownReply}
 
 unfoldable pub fetchThrough : AdrReading → AdrReadFetched
 fetchThrough s = pick (isReading s) (fetchedTwin (fetchOf (readingOf s))) (unknownFetch s)

@@ -6,11 +6,11 @@ use Rattle.recording_state.specs.declared.state.State.{State}
 use Rattle.recording_state.specs.State.{OutcomeSaid}
 use Rattle.recording_state.specs.Accept.{StoredSaid, blockOf}
 use Rattle.recording_state.specs.Fetch.{FetchedSaid, fetchOf}
-use Rattle.twins.specs.declared.recording_numbers.AdrRecording.{AdrRecording}
-use Rattle.twins.specs.Recording.{isRecording, recordingOf, recordingTwin}
-use Rattle.numbers.specs.declared.recording_answers.AdrRecordOutcome.{AdrRecordOutcome}
-use Rattle.numbers.specs.declared.recording_answers.AdrRecordFetched.{AdrRecordFetched}
-use Rattle.numbers.specs.Recording.{outcomeTwin, unknown, fetchedTwin, unknownFetch}
+use Rattle.recording_twins.specs.declared.recording_numbers.AdrRecording.{AdrRecording}
+use Rattle.recording_twins.specs.Recording.{isRecording, recordingOf, recordingTwin}
+use Rattle.recording_answers.specs.declared.recording_answers.AdrRecordOutcome.{AdrRecordOutcome}
+use Rattle.recording_answers.specs.declared.recording_answers.AdrRecordFetched.{AdrRecordFetched}
+use Rattle.recording_answers.specs.Recording.{outcomeTwin, unknown, fetchedTwin, unknownFetch}
 
 unfoldable pub through : (State → OutcomeSaid) → AdrRecording → AdrRecordOutcome
 through call s = pick (isRecording s) (outcomeTwin (call (recordingOf s))) (unknown s)

@@ -2,7 +2,7 @@
 ghost use mathlib.Core.Path.{_≡_};
 ghost use Rattle.geometry.specs.Cartridge.{framesOf, lastOf, isUser, headerAddress};
 ghost use Rattle.header_choice.specs.Choice.{choiceOf};
-ghost use Rattle.twins.specs.Numbers.{flagNumber};
+ghost use Rattle.exchange_twins.specs.Numbers.{flagNumber};
 ghost use Rattle.numbers.specs.Arguments.{geometryOf};
 ghost use Rattle.numbers.specs.Cartridge.{placeTwin, choiceTwin};
 use geometry::Address;

@@ -1,19 +1,19 @@
 // The calls of a reading session. Numbers that are no session's come back as they are, refused with 7.
 ghost use mathlib.Core.Path.{_≡_};
 ghost use Rattle.reading_state.specs.Open.{openOf};
-ghost use Rattle.twins.specs.Reading.{readingOf};
+ghost use Rattle.reading_twins.specs.Reading.{readingOf};
 ghost use Rattle.numbers.specs.Arguments.{geometryOf, replyOf};
-ghost use Rattle.numbers.specs.Reading.{openedTwin};
+ghost use Rattle.reading_answers.specs.Reading.{openedTwin};
 ghost use Rattle.adr.specs.Read.{fetchThrough, replyThrough};
 use numbers::AdrGeometry;
-use numbers::AdrReadFetched;
-use numbers::AdrReadOpened;
-use numbers::AdrReadTaken;
 use numbers::AdrReply;
 use reading::Reading;
-use twins::AdrReading;
-use twins::is_reading;
-use twins::reading_of;
+use reading_answers::AdrReadFetched;
+use reading_answers::AdrReadOpened;
+use reading_answers::AdrReadTaken;
+use reading_twins::AdrReading;
+use reading_twins::is_reading;
+use reading_twins::reading_of;
 
 // The session of these numbers.
 fn session_of(s: AdrReading) -> Reading

@@ -3,20 +3,20 @@ ghost use mathlib.Core.Path.{_≡_};
 ghost use Rattle.recording_state.specs.Open.{openOf, openBlankOf};
 ghost use Rattle.recording_state.specs.Accept.{filemarkOf, closeOf};
 ghost use Rattle.recording_state.specs.Reply.{replyOf};
-ghost use Rattle.twins.specs.Recording.{recordingOf};
+ghost use Rattle.recording_twins.specs.Recording.{recordingOf};
 ghost use Rattle.numbers.specs.Arguments as arguments;
 ghost use Rattle.numbers.specs.Arguments.{geometryOf, sizeOf};
-ghost use Rattle.numbers.specs.Recording.{outcomeTwin};
+ghost use Rattle.recording_answers.specs.Recording.{outcomeTwin};
 ghost use Rattle.adr.specs.Record.{through, stored, blockThrough, fetched, fetchThrough};
 use numbers::AdrGeometry;
-use numbers::AdrRecordFetched;
-use numbers::AdrRecordOutcome;
 use numbers::AdrReply;
 use numbers::size_of;
 use recording::Recording;
-use twins::AdrRecording;
-use twins::is_recording;
-use twins::recording_of;
+use recording_answers::AdrRecordFetched;
+use recording_answers::AdrRecordOutcome;
+use recording_twins::AdrRecording;
+use recording_twins::is_recording;
+use recording_twins::recording_of;
 
 // The session of these numbers.
 fn session_of(s: AdrRecording) -> Recording

@@ -1,5 +1,4 @@
 -- An address and a choice as numbers.
-use Prim.Native.Nat.{ℕ}
 use Rattle.geometry.specs.Place as place
 use Rattle.geometry.specs.Place.{PlaceSaid}
 use Rattle.header_choice.specs.Choice.{ChoiceSaid, first, second, neither}

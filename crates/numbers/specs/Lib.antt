@@ -1,4 +1,2 @@
 pub mod Arguments
 pub mod Cartridge
-pub mod Recording
-pub mod Reading

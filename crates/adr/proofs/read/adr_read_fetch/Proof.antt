@@ -2,7 +2,7 @@
 use mathlib.Core.Path.{_≡_, ap, sym, _∙_}
 use Rattle.geometry.proofs.PickLaws.{pick-t, pick-f}
 use Rattle.reading_state.specs.Fetch.{fetchOf}
-use Rattle.numbers.specs.Reading.{fetchedTwin}
+use Rattle.reading_answers.specs.Reading.{fetchedTwin}
 use Rattle.adr.specs.Read.{fetchThrough}
 use Rattle.adr.proofs.read.adr_read_fetch.Statement.{statement}
 use Rattle.adr.proofs.read.adr_read_fetch.Tie as tie

@@ -1,6 +1,6 @@
 -- `adr::read::adr_read_open` meets its contract: by what the call below promises. Assumes nothing.
 use mathlib.Core.Path.{_≡_, ap, sym, _∙_}
-use Rattle.numbers.specs.Reading.{openedTwin}
+use Rattle.reading_answers.specs.Reading.{openedTwin}
 use Rattle.adr.proofs.read.adr_read_open.Statement.{statement}
 use Rattle.adr.proofs.read.adr_read_open.Tie as tie
 

@@ -5,7 +5,7 @@ use Rattle.reading_state.specs.declared.state.State.{State}
 use Rattle.drive.specs.declared.reply.Reply.{Reply}
 use Rattle.reading_state.specs.Reply.{replyOf}
 use Rattle.numbers.specs.Arguments as arguments
-use Rattle.numbers.specs.Reading.{takenTwin}
+use Rattle.reading_answers.specs.Reading.{takenTwin}
 use Rattle.adr.specs.Read.{replyThrough}
 use Rattle.adr.proofs.read.adr_read_reply.Statement.{statement}
 use Rattle.adr.proofs.read.adr_read_reply.Tie as tie

@@ -3,7 +3,7 @@ use mathlib.Core.Path.{_≡_, ap, sym, _∙_}
 use borrow.Author.Needs.{needs}
 use Rattle.recording_state.specs.declared.state.State.{State}
 use Rattle.recording_state.specs.Accept.{blockOf}
-use Rattle.numbers.specs.declared.recording_answers.AdrRecordOutcome.{AdrRecordOutcome}
+use Rattle.recording_answers.specs.declared.recording_answers.AdrRecordOutcome.{AdrRecordOutcome}
 use Rattle.adr.specs.Record.{stored}
 use Rattle.adr.proofs.CallLaws.{block-known, block-unknown, stored-as}
 use Rattle.adr.proofs.record.adr_record_block.Statement.{statement}

@@ -3,7 +3,7 @@ use mathlib.Core.Path.{_≡_, ap, sym, _∙_}
 use borrow.Author.Needs.{needs}
 use Rattle.recording_state.specs.declared.state.State.{State}
 use Rattle.recording_state.specs.Fetch.{fetchOf}
-use Rattle.numbers.specs.declared.recording_answers.AdrRecordFetched.{AdrRecordFetched}
+use Rattle.recording_answers.specs.declared.recording_answers.AdrRecordFetched.{AdrRecordFetched}
 use Rattle.adr.specs.Record.{fetched}
 use Rattle.adr.proofs.CallLaws.{fetch-known, fetch-unknown, fetched-as}
 use Rattle.adr.proofs.record.adr_record_fetch.Statement.{statement}

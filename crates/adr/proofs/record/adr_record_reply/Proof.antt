@@ -4,7 +4,7 @@ use Rattle.recording_state.specs.declared.state.State.{State}
 use Rattle.recording_state.specs.State.{OutcomeSaid}
 use Rattle.recording_state.specs.Reply.{replyOf}
 use Rattle.numbers.specs.Arguments as arguments
-use Rattle.numbers.specs.Recording.{outcomeTwin}
+use Rattle.recording_answers.specs.Recording.{outcomeTwin}
 use Rattle.adr.proofs.CallLaws.{through-known, through-unknown}
 use Rattle.adr.proofs.record.adr_record_reply.Statement.{statement}
 use Rattle.adr.proofs.record.adr_record_reply.Tie as tie

@@ -1,0 +1,45 @@
+-- Flags, commands and exchanges as numbers. What stands for none has some value all the same; the tests keep it from being used.
+use Prim.Native.Nat.{ℕ}
+use mathlib.Core.Bool.{Bool, _&&_, _||_}
+use lib.Dec.{eqb, leb}
+use Rattle.geometry.specs.Pick.{pick}
+use Rattle.geometry.specs.Place.{asAddress}
+use Rattle.drive.specs.Command.{commandCode, commandAddress}
+use Rattle.drive.specs.declared.command.Command.{Command}
+use Rattle.drive.specs.declared.command.Command.the-variants.{Read, Write, Locate, ReadPosition}
+use Rattle.drive.specs.declared.exchange.Exchange.{Exchange}
+use Rattle.exchange_twins.specs.declared.numbers.AdrCommand.{AdrCommand}
+use Rattle.exchange_twins.specs.declared.numbers.AdrExchange.{AdrExchange}
+
+-- a flag is 0 or 1
+abbrev pub isFlag : ℕ → Bool
+isFlag n = leb n 1
+
+abbrev pub flagOf : ℕ → Bool
+flagOf n = eqb n 1
+
+abbrev pub flagNumber : Bool → ℕ
+flagNumber b = pick b 1 0
+
+-- a command is an operation code and its address, 0 for READ POSITION
+abbrev pub isCommand : AdrCommand → Bool
+isCommand c = ((eqb (c .code) 0x08 || eqb (c .code) 0x0A) || eqb (c .code) 0x2B) || (eqb (c .code) 0x34 && eqb (c .address) 0)
+
+abbrev pub commandOf : AdrCommand → Command
+commandOf c =
+    pick (eqb (c .code) 0x08) (Read (asAddress (c .address)))
+    (pick (eqb (c .code) 0x0A) (Write (asAddress (c .address)))
+    (pick (eqb (c .code) 0x2B) (Locate (asAddress (c .address))) ReadPosition))
+
+abbrev pub commandTwin : Command → AdrCommand
+commandTwin c = record { code = commandCode c; address = commandAddress c }
+
+-- an exchange: its command, and two flags
+abbrev pub isExchange : AdrExchange → Bool
+isExchange x = (isCommand (x .command) && isFlag (x .awaiting)) && isFlag (x .again)
+
+abbrev pub exchangeOf : AdrExchange → Exchange
+exchangeOf x = record { command = commandOf (x .command); awaiting = flagOf (x .awaiting); again = flagOf (x .again) }
+
+abbrev pub exchangeTwin : Exchange → AdrExchange
+exchangeTwin x = record { command = commandTwin (x .command); awaiting = flagNumber (x .awaiting); again = flagNumber (x .again) }

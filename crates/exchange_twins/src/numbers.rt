@@ -1,0 +1,86 @@
+// Flags, commands and exchanges as numbers.
+ghost use mathlib.Core.Path.{_≡_};
+ghost use Rattle.exchange_twins.specs.Numbers.{flagNumber, isCommand, commandOf, commandTwin, isExchange, exchangeOf, exchangeTwin};
+use drive::Command;
+use drive::Exchange;
+use drive::address;
+use drive::code;
+use geometry::Address;
+
+// A command: its operation code and its address, 0 for READ POSITION.
+#[repr(C)]
+pub struct AdrCommand {
+    pub code: u8,
+    pub address: u32,
+}
+
+#[repr(C)]
+pub struct AdrExchange {
+    pub command: AdrCommand,
+    pub awaiting: u8,
+    pub again: u8,
+}
+
+pub fn flag_number(b: bool) -> u8
+    ensures { λ r. ⌜ r ≡ flagNumber b ⌝ }
+{
+    if b { 1 } else { 0 }
+}
+
+// Whether a command has this code and this address.
+fn is_command(c: AdrCommand) -> bool
+    ensures { λ r. ⌜ r ≡ isCommand c ⌝ }
+{
+    (c.code == 0x08) | (c.code == 0x0A) | (c.code == 0x2B) | ((c.code == 0x34) & (c.address == 0))
+}
+
+fn command_of(c: AdrCommand) -> Command
+    ensures { λ r. ⌜ r ≡ commandOf c ⌝ }
+{
+    let code = c.code;
+    match code {
+        0x08 => Command::Read(Address(c.address)),
+        0x0A => Command::Write(Address(c.address)),
+        0x2B => Command::Locate(Address(c.address)),
+        _ => Command::ReadPosition,
+    }
+}
+
+pub fn command_twin(c: Command) -> AdrCommand
+    ensures { λ r. ⌜ r ≡ commandTwin c ⌝ }
+{
+    let a = address(c);
+    AdrCommand {
+        code: code(c),
+        address: a.0,
+    }
+}
+
+pub fn is_exchange(x: AdrExchange) -> bool
+    ensures { λ r. ⌜ r ≡ isExchange x ⌝ }
+{
+    let command = x.command;
+    is_command(command) & (x.awaiting <= 1) & (x.again <= 1)
+}
+
+pub fn exchange_of(x: AdrExchange) -> Exchange
+    ensures { λ r. ⌜ r ≡ exchangeOf x ⌝ }
+{
+    let command = x.command;
+    Exchange {
+        command: command_of(command),
+        awaiting: x.awaiting == 1,
+        again: x.again == 1,
+    }
+}
+
+pub fn exchange_twin(x: Exchange) -> AdrExchange
+    ensures { λ r. ⌜ r ≡ exchangeTwin x ⌝ }
+{
+    let command = x.command;
+    AdrExchange {
+        command: command_twin(command),
+        awaiting: flag_number(x.awaiting),
+        again: flag_number(x.again),
+    }
+}

@@ -1,0 +1,48 @@
+-- What the calls of a reading session return, as numbers. Numbers that are no session's come back as they are, with 7.
+use Prim.Native.Nat.{ℕ}
+use Rattle.reading_state.specs.Open.{OpenedSaid}
+use Rattle.reading_state.specs.Fetch as fetch
+use Rattle.reading_state.specs.Fetch.{AnswerSaid, FetchedSaid}
+use Rattle.reading_state.specs.Reply as reply
+use Rattle.reading_state.specs.Reply.{DeliverySaid, TakenSaid}
+use Rattle.reading_twins.specs.declared.reading_numbers.AdrReading.{AdrReading}
+use Rattle.reading_twins.specs.Reading.{readingTwin}
+use Rattle.reading_answers.specs.declared.reading_answers.AdrReadOpened.{AdrReadOpened}
+use Rattle.reading_answers.specs.declared.reading_answers.AdrReadFetched.{AdrReadFetched}
+use Rattle.reading_answers.specs.declared.reading_answers.AdrReadTaken.{AdrReadTaken}
+
+-- the session and the number of the refusal, 0 for none
+abbrev pub openedTwin : OpenedSaid → AdrReadOpened
+openedTwin r = record { session = readingTwin (r .session); number = r .number }
+
+-- what a fetch answers, by number: 0 refused, 1 a command, 4 the end; without a command its code and address are 0
+abbrev pub answering : AdrReading → ℕ → ℕ → AdrReadFetched
+answering s answer number = record { session = s; command = record { code = 0; address = 0 }; answer = answer; number = number }
+
+abbrev pub answerTwin : AnswerSaid → AdrReading → AdrReadFetched
+answerTwin (fetch.command code at) s = record { session = s; command = record { code = code; address = at }; answer = 1; number = 0 }
+answerTwin fetch.end s = answering s 4 0
+answerTwin (fetch.refused n) s = answering s 0 n
+
+abbrev pub fetchedTwin : FetchedSaid → AdrReadFetched
+fetchedTwin f = answerTwin (f .said) (readingTwin (f .session))
+
+abbrev pub unknownFetch : AdrReading → AdrReadFetched
+unknownFetch s = answering s 0 7
+
+-- what a reply is answered, by number: 0 refused, 4 the end, 5 nothing, 6 a block, 7 a filemark
+abbrev pub delivering : AdrReading → ℕ → ℕ → AdrReadTaken
+delivering s answer number = record { session = s; answer = answer; number = number }
+
+abbrev pub deliveryTwin : DeliverySaid → AdrReading → AdrReadTaken
+deliveryTwin reply.nothing s = delivering s 5 0
+deliveryTwin reply.block s = delivering s 6 0
+deliveryTwin reply.filemark s = delivering s 7 0
+deliveryTwin reply.end s = delivering s 4 0
+deliveryTwin (reply.refused n) s = delivering s 0 n
+
+abbrev pub takenTwin : TakenSaid → AdrReadTaken
+takenTwin t = deliveryTwin (t .said) (readingTwin (t .session))
+
+abbrev pub unknownReply : AdrReading → AdrReadTaken
+unknownReply s = delivering s 0 7

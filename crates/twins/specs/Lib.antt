@@ -1,4 +1,0 @@
-pub mod Numbers
-pub mod Marks
-pub mod Recording
-pub mod Reading
