@@ -1,11 +1,11 @@
--- `copies::copies::Copies::counted` meets its contract. Assumes nothing.
+-- `copy_replies::counted` meets its contract. Assumes nothing.
 use mathlib.Core.Path.{_∙_, sym, ap}
 use borrow.Author.Tests.{lt-ltb, le-ltb}
 use borrow.Author.Needs.{needs}
 use Rattle.geometry.proofs.PickLaws.{pick-t, pick-f}
 use Rattle.copies.specs.Copies.{onwardOf, countedOf}
-use Rattle.copies.proofs.copies.Copies.counted.Statement.{statement}
-use Rattle.copies.proofs.copies.Copies.counted.Tie as tie
+use Rattle.copy_replies.proofs.counted.Statement.{statement}
+use Rattle.copy_replies.proofs.counted.Tie as tie
 
 cast-if1 : tie.Need-cast-if1
 cast-if1 c = search needs

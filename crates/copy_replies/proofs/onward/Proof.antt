@@ -1,11 +1,11 @@
--- `copies::copies::Copies::onward` meets its contract. Assumes nothing.
+-- `copy_replies::onward` meets its contract. Assumes nothing.
 use mathlib.Core.Path.{_∙_, sym, ap}
 use borrow.Author.Tests.{eq-eqb, ne-eqb}
 use borrow.Author.Needs.{needs}
 use Rattle.geometry.proofs.PickLaws.{pick-t, pick-f}
 use Rattle.copies.specs.Copies.{more, onwardOf}
-use Rattle.copies.proofs.copies.Copies.onward.Statement.{statement}
-use Rattle.copies.proofs.copies.Copies.onward.Tie as tie
+use Rattle.copy_replies.proofs.onward.Statement.{statement}
+use Rattle.copy_replies.proofs.onward.Tie as tie
 
 returns : tie.Need-returns
 unfolding onwardOf

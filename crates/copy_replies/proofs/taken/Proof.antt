@@ -1,7 +1,7 @@
--- `copies::copies::Copies::taken` meets its contract. Assumes nothing.
+-- `copy_replies::taken` meets its contract. Assumes nothing.
 use borrow.Author.Needs.{needs}
-use Rattle.copies.proofs.copies.Copies.taken.Statement.{statement}
-use Rattle.copies.proofs.copies.Copies.taken.Tie as tie
+use Rattle.copy_replies.proofs.taken.Statement.{statement}
+use Rattle.copy_replies.proofs.taken.Tie as tie
 
 wrapping-add-u8-requires : tie.Need-wrapping-add-u8-requires
 wrapping-add-u8-requires c κs = search needs
