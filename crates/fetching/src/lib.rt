@@ -26,7 +26,7 @@ fn element_due(s: State) -> Answer
 {
     let elements = s.elements;
     let setup = s.setup;
-    let due = elements.due(setup.depth);
+    let due = element_rules::due(elements, setup.depth);
     match due {
         Due::Send(c) => Answer::Command(c),
         Due::Idle => Answer::Idle,
