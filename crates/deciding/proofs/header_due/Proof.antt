@@ -1,10 +1,10 @@
--- `fetching::header_due` meets its contract: by what the header copies promise of the command. Assumes nothing.
+-- `deciding::header_due` meets its contract: by what the header copies promise of the command. Assumes nothing.
 use mathlib.Core.Path.{sym, ap, _∙_}
 use Rattle.drive.specs.Command.{commandFor}
 use Rattle.drive.proofs.CaseLaws.{command-by}
 use Rattle.recording_state.specs.Due.{send}
-use Rattle.fetching.proofs.header_due.Statement.{statement}
-use Rattle.fetching.proofs.header_due.Tie as tie
+use Rattle.deciding.proofs.header_due.Statement.{statement}
+use Rattle.deciding.proofs.header_due.Tie as tie
 
 command-requires : tie.Need-command-requires
 command-requires c κs = tt

@@ -1,10 +1,10 @@
--- `fetching::element_due` meets its contract: each case of what is due is its case of the answer. Assumes nothing.
+-- `deciding::element_due` meets its contract: each case of what is due is its case of the answer. Assumes nothing.
 use mathlib.Core.Path.{_∙_, sym, ap}
 use Rattle.elements.specs.Due.{dueSaid}
 use Rattle.drive.proofs.CaseLaws.{command-by}
 use Rattle.recording_state.specs.Due.{send, elementDueBy}
-use Rattle.fetching.proofs.element_due.Statement.{statement}
-use Rattle.fetching.proofs.element_due.Tie as tie
+use Rattle.deciding.proofs.element_due.Statement.{statement}
+use Rattle.deciding.proofs.element_due.Tie as tie
 
 due-requires : tie.Need-due-requires
 due-requires c κs = tt

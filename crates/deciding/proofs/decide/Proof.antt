@@ -1,10 +1,10 @@
--- `fetching::decide` meets its contract: the command after busy, else each stage is its case of the definition. Assumes nothing.
+-- `deciding::decide` meets its contract: the command after busy, else each stage is its case of the definition. Assumes nothing.
 use mathlib.Core.Path.{_∙_, sym, ap}
 use borrow.Author.Needs.{needs}
 use Rattle.recording_state.specs.Due.{decisionBy, decisionOf}
 use Rattle.geometry.proofs.PickLaws.{pick-t, pick-f}
-use Rattle.fetching.proofs.decide.Statement.{statement}
-use Rattle.fetching.proofs.decide.Tie as tie
+use Rattle.deciding.proofs.decide.Statement.{statement}
+use Rattle.deciding.proofs.decide.Tie as tie
 
 returns : tie.Need-returns
 unfolding decisionOf
