@@ -9,8 +9,8 @@ use Rattle.geometry.specs.Cartridge.{headerAddress}
 use Rattle.frame.specs.declared.header.Header.{Header}
 use Rattle.drive.specs.Command.{CommandSaid, write, locate, readPosition}
 use Rattle.copies.specs.declared.copies.Copies.{Copies}
-use Rattle.copies.specs.declared.reply.Progress.{Progress}
-use Rattle.copies.specs.declared.reply.Progress.the-variants.{More, Complete, Refused}
+use Rattle.copies.specs.declared.progress.Progress.{Progress}
+use Rattle.copies.specs.declared.progress.Progress.the-variants.{More, Complete, Refused}
 
 -- before the first copy
 abbrev pub startOf : Header → Copies

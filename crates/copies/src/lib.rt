@@ -1,6 +1,6 @@
 // The header copies of a recording: ten, in two groups of five.
 mod copies;
-mod reply;
+mod progress;
 
 pub use copies::Copies;
-pub use reply::Progress;
+pub use progress::Progress;

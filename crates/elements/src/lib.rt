@@ -1,4 +1,4 @@
-// The elements of a recording, and EOD behind them: which are on tape, and the command that is due.
+// The elements of a recording, and EOD behind them: which are accepted, which the drive has taken, and what the next one is.
 mod due;
 mod elements;
 mod reply;

@@ -6,60 +6,17 @@ ghost use lib.ListN.{length};
 ghost use Rattle.geometry.specs.Refused.{refusalNumber};
 ghost use Rattle.frame.specs.Lengths.{frameLength};
 ghost use Rattle.recording_state.specs.State.{windowLength};
-ghost use Rattle.recording_state.specs.Due.{decisionSaid, headerDue, elementDue, decisionOf};
 ghost use Rattle.recording_state.specs.Fetch.{fetchedSaid, sending, fetchRefused, fetchOf};
+use deciding::decide;
 use drive::Command;
 use drive::Exchange;
-use elements::Due;
 use filling::fill;
 use frame::DATA_LENGTH;
 use frame::FRAME_LENGTH;
 use geometry::Refusal;
 use recording_state::Answer;
 use recording_state::Fetched;
-use recording_state::Stage;
 use recording_state::State;
-
-// What is due for elements and EOD.
-fn element_due(s: State) -> Answer
-    ensures { λ r. ⌜ decisionSaid r ≡ elementDue s ⌝ }
-{
-    let elements = s.elements;
-    let setup = s.setup;
-    let due = elements.due(setup.depth);
-    match due {
-        Due::Send(c) => Answer::Command(c),
-        Due::Idle => Answer::Idle,
-        Due::Refused(r) => Answer::Refused(r),
-    }
-}
-
-// What is due for the header copies.
-fn header_due(s: State) -> Answer
-    ensures { λ r. ⌜ decisionSaid r ≡ headerDue s ⌝ }
-{
-    let copies = s.copies;
-    let setup = s.setup;
-    Answer::Command(copies.command(setup.depth))
-}
-
-// What a fetch answers, once the session is found able to: the same command after busy, else what is due in this stage.
-fn decide(s: State) -> Answer
-    ensures { λ r. ⌜ decisionSaid r ≡ decisionOf s ⌝ }
-{
-    let exchange = s.exchange;
-    if exchange.again {
-        let c = exchange.command;
-        return Answer::Command(c);
-    }
-    let stage = s.stage;
-    match stage {
-        Stage::OpeningHeaders => header_due(s),
-        Stage::Elements => element_due(s),
-        Stage::ClosingHeaders => header_due(s),
-        Stage::Done => Answer::Done,
-    }
-}
 
 // Hands out a command: only a WRITE writes to the frame.
 fn send(mut s: State, c: Command, window: &[u8], frame: &mut [u8]) -> Fetched

@@ -97,7 +97,7 @@ fn located(s: State) -> Outcome
     let elements = s.elements;
     stage_reply(
         s,
-        Progress::More(copies.located()),
+        Progress::More(copy_replies::located(copies)),
         element_replies::located(elements, address(s)).keep(),
     )
 }
@@ -109,7 +109,7 @@ fn taken(s: State) -> Outcome
     let elements = s.elements;
     stage_reply(
         s,
-        Progress::More(copies.taken()),
+        Progress::More(copy_replies::taken(copies)),
         element_replies::taken(elements).keep(),
     )
 }
@@ -121,7 +121,7 @@ fn counted(s: State, buffered: u32) -> Outcome
     let elements = s.elements;
     stage_reply(
         s,
-        copies.counted(buffered),
+        copy_replies::counted(copies, buffered),
         element_replies::counted(elements, buffered),
     )
 }
@@ -134,7 +134,7 @@ fn failed(s: State, p: Address, skip: u8) -> Outcome
     let elements = s.elements;
     stage_reply(
         s,
-        copies.failed(p),
+        copy_replies::failed(copies, p),
         element_replies::failed(elements, p, skip),
     )
 }
