@@ -5,6 +5,7 @@ ghost use Rattle.header_choice.specs.Choice.{choiceOf};
 ghost use Rattle.exchange_twins.specs.Numbers.{flagNumber};
 ghost use Rattle.numbers.specs.Arguments.{geometryOf};
 ghost use Rattle.numbers.specs.Cartridge.{placeTwin, choiceTwin};
+use exchange_twins::flag_number;
 use geometry::Address;
 use geometry::header_address;
 use geometry::is_user;
@@ -34,10 +35,7 @@ pub extern "C" fn adr_last(g: AdrGeometry) -> AdrPlace
 pub extern "C" fn adr_is_user(last: u32, address: u32) -> u8
     ensures { λ r. ⌜ r ≡ flagNumber (isUser last address) ⌝ }
 {
-    if is_user(Address(last), Address(address)) {
-        return 1;
-    }
-    0
+    flag_number(is_user(Address(last), Address(address)))
 }
 
 // The address of a header copy, 0 to 4, of a group, 0 or 1. Copies count modulo 5 and groups modulo 2.

@@ -2,7 +2,7 @@
 ghost use mathlib.Core.Path.{_≡_};
 ghost use Rattle.reading_state.specs.Open.{openOf};
 ghost use Rattle.reading_twins.specs.Reading.{readingOf};
-ghost use Rattle.numbers.specs.Arguments.{geometryOf, replyOf};
+ghost use Rattle.numbers.specs.Arguments.{geometryOf, asReply};
 ghost use Rattle.reading_answers.specs.Reading.{openedTwin};
 ghost use Rattle.adr.specs.Read.{fetchThrough, replyThrough};
 use numbers::AdrGeometry;
@@ -42,7 +42,7 @@ pub extern "C" fn adr_read_fetch(s: AdrReading) -> AdrReadFetched
 
 #[no_mangle]
 pub extern "C" fn adr_read_reply(s: AdrReading, reply: AdrReply, frame: &[u8]) -> AdrReadTaken
-    ensures { λ r. ⌜ r ≡ replyThrough s (replyOf reply) (now (frame .entry)) ⌝ }
+    ensures { λ r. ⌜ r ≡ replyThrough s (asReply reply) (now (frame .entry)) ⌝ }
 {
     if is_reading(s) {
         return AdrReadTaken::of(session_of(s).reply(reply.reply(), frame));

@@ -4,13 +4,12 @@ ghost use Rattle.recording_state.specs.Open.{openOf, openBlankOf};
 ghost use Rattle.recording_state.specs.Accept.{filemarkOf, closeOf};
 ghost use Rattle.recording_state.specs.Reply.{replyOf};
 ghost use Rattle.recording_twins.specs.Recording.{recordingOf};
-ghost use Rattle.numbers.specs.Arguments as arguments;
-ghost use Rattle.numbers.specs.Arguments.{geometryOf, sizeOf};
+ghost use Rattle.numbers.specs.Arguments.{geometryOf, capacityOf, asReply};
 ghost use Rattle.recording_answers.specs.Recording.{outcomeTwin};
 ghost use Rattle.adr.specs.Record.{through, stored, blockThrough, fetched, fetchThrough};
 use numbers::AdrGeometry;
 use numbers::AdrReply;
-use numbers::size_of;
+use numbers::capacity_of;
 use recording::Recording;
 use recording_answers::AdrRecordFetched;
 use recording_answers::AdrRecordOutcome;
@@ -33,16 +32,25 @@ pub extern "C" fn adr_record_open(
     window: u32,
     header: &[u8],
 ) -> AdrRecordOutcome
-    ensures { λ r. ⌜ r ≡ outcomeTwin (openOf (geometryOf g) (sizeOf depth) (sizeOf window) (now (header .entry))) ⌝ }
+    ensures { λ r. ⌜ r ≡ outcomeTwin (openOf (geometryOf g) (capacityOf depth) (capacityOf window) (now (header .entry))) ⌝ }
 {
-    AdrRecordOutcome::of(Recording::open(g.geometry(), size_of(depth), size_of(window), header))
+    AdrRecordOutcome::of(Recording::open(
+        g.geometry(),
+        capacity_of(depth),
+        capacity_of(window),
+        header,
+    ))
 }
 
 #[no_mangle]
 pub extern "C" fn adr_record_open_blank(g: AdrGeometry, depth: u32, window: u32) -> AdrRecordOutcome
-    ensures { λ r. ⌜ r ≡ outcomeTwin (openBlankOf (geometryOf g) (sizeOf depth) (sizeOf window)) ⌝ }
+    ensures { λ r. ⌜ r ≡ outcomeTwin (openBlankOf (geometryOf g) (capacityOf depth) (capacityOf window)) ⌝ }
 {
-    AdrRecordOutcome::of(Recording::open_blank(g.geometry(), size_of(depth), size_of(window)))
+    AdrRecordOutcome::of(Recording::open_blank(
+        g.geometry(),
+        capacity_of(depth),
+        capacity_of(window),
+    ))
 }
 
 #[no_mangle]
@@ -81,7 +89,7 @@ pub extern "C" fn adr_record_close(s: AdrRecording) -> AdrRecordOutcome
 
 #[no_mangle]
 pub extern "C" fn adr_record_reply(s: AdrRecording, reply: AdrReply) -> AdrRecordOutcome
-    ensures { λ r. ⌜ r ≡ through (λ t. replyOf t (arguments.replyOf reply)) s ⌝ }
+    ensures { λ r. ⌜ r ≡ through (λ t. replyOf t (asReply reply)) s ⌝ }
 {
     if is_recording(s) {
         return AdrRecordOutcome::of(session_of(s).reply(reply.reply()));

@@ -3,10 +3,8 @@ use Prim.Native.Nat.{ℕ}
 use mathlib.Core.Bool.{Bool, _&&_, _||_}
 use lib.Dec.{eqb, leb}
 use Rattle.geometry.specs.Pick.{pick}
-use Rattle.geometry.specs.Place.{asAddress}
-use Rattle.drive.specs.Command.{commandCode, commandAddress}
+use Rattle.drive.specs.Command.{commandCode, commandAddress, commandBy}
 use Rattle.drive.specs.declared.command.Command.{Command}
-use Rattle.drive.specs.declared.command.Command.the-variants.{Read, Write, Locate, ReadPosition}
 use Rattle.drive.specs.declared.exchange.Exchange.{Exchange}
 use Rattle.exchange_twins.specs.declared.numbers.AdrCommand.{AdrCommand}
 use Rattle.exchange_twins.specs.declared.numbers.AdrExchange.{AdrExchange}
@@ -25,12 +23,6 @@ flagNumber b = pick b 1 0
 abbrev pub isCommand : AdrCommand → Bool
 isCommand c = ((eqb (c .code) 0x08 || eqb (c .code) 0x0A) || eqb (c .code) 0x2B) || (eqb (c .code) 0x34 && eqb (c .address) 0)
 
-abbrev pub commandOf : AdrCommand → Command
-commandOf c =
-    pick (eqb (c .code) 0x08) (Read (asAddress (c .address)))
-    (pick (eqb (c .code) 0x0A) (Write (asAddress (c .address)))
-    (pick (eqb (c .code) 0x2B) (Locate (asAddress (c .address))) ReadPosition))
-
 abbrev pub commandTwin : Command → AdrCommand
 commandTwin c = record { code = commandCode c; address = commandAddress c }
 
@@ -39,7 +31,7 @@ abbrev pub isExchange : AdrExchange → Bool
 isExchange x = (isCommand (x .command) && isFlag (x .awaiting)) && isFlag (x .again)
 
 abbrev pub exchangeOf : AdrExchange → Exchange
-exchangeOf x = record { command = commandOf (x .command); awaiting = flagOf (x .awaiting); again = flagOf (x .again) }
+exchangeOf x = record { command = commandBy (x .command .code) (x .command .address); awaiting = flagOf (x .awaiting); again = flagOf (x .again) }
 
 abbrev pub exchangeTwin : Exchange → AdrExchange
 exchangeTwin x = record { command = commandTwin (x .command); awaiting = flagNumber (x .awaiting); again = flagNumber (x .again) }

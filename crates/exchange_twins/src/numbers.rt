@@ -1,6 +1,7 @@
 // Flags, commands and exchanges as numbers.
 ghost use mathlib.Core.Path.{_≡_};
-ghost use Rattle.exchange_twins.specs.Numbers.{flagNumber, isCommand, commandOf, commandTwin, isExchange, exchangeOf, exchangeTwin};
+ghost use Rattle.drive.specs.Command.{commandBy};
+ghost use Rattle.exchange_twins.specs.Numbers.{flagNumber, isCommand, commandTwin, isExchange, exchangeOf, exchangeTwin};
 use drive::Command;
 use drive::Exchange;
 use drive::address;
@@ -35,7 +36,7 @@ fn is_command(c: AdrCommand) -> bool
 }
 
 fn command_of(c: AdrCommand) -> Command
-    ensures { λ r. ⌜ r ≡ commandOf c ⌝ }
+    ensures { λ r. ⌜ r ≡ commandBy (c .code) (c .address) ⌝ }
 {
     let code = c.code;
     match code {

@@ -28,9 +28,8 @@ use Rattle.recording_state.specs.Reply.{replyBy, replyOf}
 use Rattle.reading_state.specs.declared.state.State as reading
 use Rattle.reading_state.specs.Reply as reading-reply
 use Rattle.numbers.specs.declared.arguments.AdrReply.{AdrReply}
-use Rattle.numbers.specs.Arguments as arguments
 use Rattle.numbers.specs.declared.arguments.AdrGeometry.{AdrGeometry}
-use Rattle.numbers.specs.Arguments.{isGeometry, withoutFrames, geometryOf, sizeOf, meaningless}
+use Rattle.numbers.specs.Arguments.{isGeometry, withoutFrames, geometryOf, capacityOf, meaningless, asReply}
 
 -- numbers that are no geometry's
 no-geometry : (g : AdrGeometry) → isGeometry g ≡ false → geometryOf g ≡ withoutFrames
@@ -44,29 +43,29 @@ pub header-2 : (g : AdrGeometry) (header : List ℕ) → isGeometry g ≡ false 
 unfolding readHeader
 header-2 g header h k = rw (no-geometry g h, eq-eqb _ _ k)
 
-size-0 : (n : ℕ) → 255 < n → sizeOf n ≡ 0
-size-0 n h = pick-f n (lt-leb n 255 h)
+capacity-0 : (n : ℕ) → 255 < n → capacityOf n ≡ 0
+capacity-0 n h = pick-f n (lt-leb n 255 h)
 
-size-4 : (depth window : ℕ) (exhausted : Bool) (h : Header) → (sizeOf depth ≡ 0) ⊎ (sizeOf window ≡ 0) → openWith (sizeOf depth) (sizeOf window) exhausted h ≡ openRefused 4
+capacity-4 : (depth window : ℕ) (exhausted : Bool) (h : Header) → (capacityOf depth ≡ 0) ⊎ (capacityOf window ≡ 0) → openWith (capacityOf depth) (capacityOf window) exhausted h ≡ openRefused 4
 unfolding openWith
-size-4 depth window exhausted h (inl k) = rw k
-size-4 depth window exhausted h (inr k) = rw k (pick-t _ (either-right (eqb (sizeOf depth) 0) _ refl))
+capacity-4 depth window exhausted h (inl k) = rw k
+capacity-4 depth window exhausted h (inr k) = rw k (pick-t _ (either-right (eqb (capacityOf depth) 0) _ refl))
 
 -- D or W above 255, where the cartridge and its header are not refused
-unfitting : (depth window : ℕ) → (255 < depth) ⊎ (255 < window) → (sizeOf depth ≡ 0) ⊎ (sizeOf window ≡ 0)
-unfitting depth window (inl k) = inl (size-0 depth k)
-unfitting depth window (inr k) = inr (size-0 window k)
+unfitting : (depth window : ℕ) → (255 < depth) ⊎ (255 < window) → (capacityOf depth ≡ 0) ⊎ (capacityOf window ≡ 0)
+unfitting depth window (inl k) = inl (capacity-0 depth k)
+unfitting depth window (inr k) = inr (capacity-0 window k)
 
-pub open-4 : (g : Geometry) (depth window : ℕ) (header : List ℕ) (old : Header) → readHeader g header ≡ valid old → (255 < depth) ⊎ (255 < window) → openOf g (sizeOf depth) (sizeOf window) header ≡ openRefused 4
+pub open-4 : (g : Geometry) (depth window : ℕ) (header : List ℕ) (old : Header) → readHeader g header ≡ valid old → (255 < depth) ⊎ (255 < window) → openOf g (capacityOf depth) (capacityOf window) header ≡ openRefused 4
 unfolding openOf
-open-4 g depth window header old h k = rw h (size-4 depth window (isExhausted old) (renewed old) (unfitting depth window k))
+open-4 g depth window header old h k = rw h (capacity-4 depth window (isExhausted old) (renewed old) (unfitting depth window k))
 
-pub blank-4 : (g : Geometry) (depth window last : ℕ) → lastOf g ≡ address last → (255 < depth) ⊎ (255 < window) → openBlankOf g (sizeOf depth) (sizeOf window) ≡ openRefused 4
+pub blank-4 : (g : Geometry) (depth window last : ℕ) → lastOf g ≡ address last → (255 < depth) ⊎ (255 < window) → openBlankOf g (capacityOf depth) (capacityOf window) ≡ openRefused 4
 unfolding openBlankOf
-blank-4 g depth window last h k = rw h (size-4 depth window false (openingHeader last 1 0) (unfitting depth window k))
+blank-4 g depth window last h k = rw h (capacity-4 depth window false (openingHeader last 1 0) (unfitting depth window k))
 
-reply-meaningless : (r : AdrReply) → 255 < r .skip → arguments.replyOf r ≡ meaningless
-unfolding arguments.replyOf
+reply-meaningless : (r : AdrReply) → 255 < r .skip → asReply r ≡ meaningless
+unfolding asReply
 reply-meaningless r h = pick-f _ (lt-leb (r .skip) 255 h)
 
 no-case : (c : Command) (s : State) → replyBy s (caseOf c meaningless) meaningless ≡ ending s 8
@@ -76,7 +75,7 @@ no-case (Write a) s = refl
 no-case (Locate a) s = refl
 no-case ReadPosition s = refl
 
-pub skip-8 : (s : State) (r : AdrReply) → 255 < r .skip → s .ended || not (s .exchange .awaiting) ≡ false → replyOf s (arguments.replyOf r) ≡ ending s 8
+pub skip-8 : (s : State) (r : AdrReply) → 255 < r .skip → s .ended || not (s .exchange .awaiting) ≡ false → replyOf s (asReply r) ≡ ending s 8
 unfolding replyOf
 skip-8 s r h k = ap (replyOf s) (reply-meaningless r h) ∙ pick-f _ k ∙ no-case (s .exchange .command) s
 
@@ -87,7 +86,7 @@ no-reading-case (Write a) s frame = refl
 no-reading-case (Locate a) s frame = refl
 no-reading-case ReadPosition s frame = refl
 
-pub reading-skip-8 : (s : reading.State) (r : AdrReply) (frame : List ℕ) → 255 < r .skip → s .ended || not (s .exchange .awaiting) ≡ false → length frame ≡ frameLength → reading-reply.replyOf s (arguments.replyOf r) frame ≡ reading-reply.ending s 8
+pub reading-skip-8 : (s : reading.State) (r : AdrReply) (frame : List ℕ) → 255 < r .skip → s .ended || not (s .exchange .awaiting) ≡ false → length frame ≡ frameLength → reading-reply.replyOf s (asReply r) frame ≡ reading-reply.ending s 8
 unfolding reading-reply.replyOf
 reading-skip-8 s r frame h k l =
     ap (λ x. reading-reply.replyOf s x frame) (reply-meaningless r h)

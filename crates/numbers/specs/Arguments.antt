@@ -26,16 +26,16 @@ unfoldable pub geometryOf : AdrGeometry → Geometry
 geometryOf g = pick (isGeometry g) (record { segtrk = g .segtrk; trks = g .trks; load = loadOf (g .load) }) withoutFrames
 
 -- D and W have 8 bits; any other counts as 0: refusal 4
-abbrev pub sizeOf : ℕ → ℕ
-sizeOf n = pick (leb n 255) n 0
+abbrev pub capacityOf : ℕ → ℕ
+capacityOf n = pick (leb n 255) n 0
 
 -- a triple that has no meaning: as a reply, refusal 8
 abbrev pub meaningless : Reply
 meaningless = record { key = 0xFF; asc = 0xFF; ascq = 0xFF; buffered = 0; position = asAddress 0; skip = 0 }
 
 -- skip is 0 to 255
-unfoldable pub replyOf : AdrReply → Reply
-replyOf r =
+unfoldable pub asReply : AdrReply → Reply
+asReply r =
     pick (leb (r .skip) 255)
     (record { key = r .key; asc = r .asc; ascq = r .ascq; buffered = r .buffered; position = asAddress (r .position); skip = r .skip })
     meaningless

@@ -1,6 +1,6 @@
 // What C gives as numbers: geometries, sizes and replies. One that does not fit counts as one that is refused.
 ghost use mathlib.Core.Path.{_≡_};
-ghost use Rattle.numbers.specs.Arguments.{loadOf, withoutFrames, geometryOf, sizeOf, replyOf};
+ghost use Rattle.numbers.specs.Arguments.{loadOf, withoutFrames, geometryOf, capacityOf, asReply};
 use drive::Reply;
 use geometry::Address;
 use geometry::Geometry;
@@ -68,8 +68,8 @@ impl AdrGeometry {
 }
 
 // D or W: one that does not fit counts as 0, refusal 4.
-pub fn size_of(n: u32) -> u8
-    ensures { λ r. ⌜ r ≡ sizeOf n ⌝ }
+pub fn capacity_of(n: u32) -> u8
+    ensures { λ r. ⌜ r ≡ capacityOf n ⌝ }
 {
     if n <= 255 {
         return n as u8;
@@ -80,7 +80,7 @@ pub fn size_of(n: u32) -> u8
 impl AdrReply {
     // The reply of these numbers. One with a skip that does not fit has a triple that means nothing: refusal 8.
     pub fn reply(self) -> Reply
-        ensures { λ r. ⌜ r ≡ replyOf self ⌝ }
+        ensures { λ r. ⌜ r ≡ asReply self ⌝ }
     {
         if self.skip <= 255 {
             return Reply {

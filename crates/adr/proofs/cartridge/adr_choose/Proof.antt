@@ -1,5 +1,5 @@
 -- `adr::cartridge::adr_choose` meets its contract: by what the choice below promises. Assumes nothing.
-use mathlib.Core.Path.{_≡_, ap, sym, _∙_}
+use mathlib.Core.Path.{ap, _∙_}
 use Rattle.geometry.specs.declared.cartridge.Geometry.{Geometry}
 use Rattle.header_choice.specs.Choice.{choiceOf}
 use Rattle.numbers.specs.Cartridge.{choiceTwin}

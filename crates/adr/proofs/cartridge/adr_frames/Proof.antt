@@ -1,5 +1,5 @@
 -- `adr::cartridge::adr_frames` meets its contract: by what the geometry promises. Assumes nothing.
-use mathlib.Core.Path.{_≡_, ap, sym, _∙_}
+use mathlib.Core.Path.{ap, _∙_}
 use Rattle.geometry.specs.Cartridge.{framesOf}
 use Rattle.adr.proofs.cartridge.adr_frames.Statement.{statement}
 use Rattle.adr.proofs.cartridge.adr_frames.Tie as tie

@@ -1,5 +1,5 @@
 -- `adr::cartridge::adr_last` meets its contract: by what the geometry promises. Assumes nothing.
-use mathlib.Core.Path.{_≡_, ap, sym, _∙_}
+use mathlib.Core.Path.{ap, _∙_}
 use Rattle.geometry.specs.Cartridge.{lastOf}
 use Rattle.numbers.specs.Cartridge.{placeTwin}
 use Rattle.adr.proofs.cartridge.adr_last.Statement.{statement}

@@ -1,5 +1,5 @@
 -- `adr::read::adr_read_fetch` meets its contract: by what the call below promises, where the numbers are a session's. Assumes nothing.
-use mathlib.Core.Path.{_≡_, ap, sym, _∙_}
+use mathlib.Core.Path.{ap, sym, _∙_}
 use Rattle.geometry.proofs.PickLaws.{pick-t, pick-f}
 use Rattle.reading_state.specs.Fetch.{fetchOf}
 use Rattle.reading_answers.specs.Reading.{fetchedTwin}

@@ -1,5 +1,5 @@
 -- `adr::read::adr_read_open` meets its contract: by what the call below promises. Assumes nothing.
-use mathlib.Core.Path.{_≡_, ap, sym, _∙_}
+use mathlib.Core.Path.{ap, sym, _∙_}
 use Rattle.reading_answers.specs.Reading.{openedTwin}
 use Rattle.adr.proofs.read.adr_read_open.Statement.{statement}
 use Rattle.adr.proofs.read.adr_read_open.Tie as tie

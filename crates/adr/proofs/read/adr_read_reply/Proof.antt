@@ -1,10 +1,10 @@
 -- `adr::read::adr_read_reply` meets its contract: by what the call below promises, where the numbers are a session's. Assumes nothing.
-use mathlib.Core.Path.{_≡_, ap, sym, _∙_}
+use mathlib.Core.Path.{ap, sym, _∙_}
 use Rattle.geometry.proofs.PickLaws.{pick-t, pick-f}
 use Rattle.reading_state.specs.declared.state.State.{State}
 use Rattle.drive.specs.declared.reply.Reply.{Reply}
 use Rattle.reading_state.specs.Reply.{replyOf}
-use Rattle.numbers.specs.Arguments as arguments
+use Rattle.numbers.specs.Arguments.{asReply}
 use Rattle.reading_answers.specs.Reading.{takenTwin}
 use Rattle.adr.specs.Read.{replyThrough}
 use Rattle.adr.proofs.read.adr_read_reply.Statement.{statement}
@@ -33,7 +33,7 @@ returns c =
     ∙ ap takenTwin
     (c .before .reply2 .ensures
     ∙ ap (λ (r : Reply). replyOf (c .before .before .before .session-of .result .state) r (a .frame .now)) (c .before .before .reply .ensures)
-    ∙ ap (λ (t : State). replyOf t (arguments.replyOf (a .reply)) (a .frame .now)) (c .before .before .before .session-of .ensures))
+    ∙ ap (λ (t : State). replyOf t (asReply (a .reply)) (a .frame .now)) (c .before .before .before .session-of .ensures))
     ∙ sym (pick-t _ (sym (c .before .before .before .before .before .is-reading .ensures) ∙ c .before .before .before .before .if1 .taken))
 
 unknown-requires : tie.Need-unknown-requires

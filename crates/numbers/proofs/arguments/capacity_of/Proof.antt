@@ -1,0 +1,17 @@
+-- `numbers::arguments::capacity_of` meets its contract: by its two cases. Assumes nothing.
+use borrow.Author.Needs.{needs}
+use borrow.Author.Tests.{le-leb, lt-leb}
+use Rattle.numbers.proofs.arguments.capacity_of.Statement.{statement}
+use Rattle.numbers.proofs.arguments.capacity_of.Tie as tie
+
+cast-result : tie.Need-cast-result
+cast-result c = search needs
+
+returns : tie.Need-returns
+returns c = rw (le-leb _ _ (c .if1 .taken))
+
+returns-2 : tie.Need-returns-2
+returns-2 c = rw (lt-leb _ _ (c .if1 .left))
+
+pub capacity-of-spec : {M : Type 1} → statement M
+capacity-of-spec = tie.close (tie.spec cast-result returns returns-2)
