@@ -4,12 +4,12 @@ ghost use Rattle.recording_state.specs.Open.{openOf, openBlankOf};
 ghost use Rattle.recording_state.specs.Accept.{filemarkOf, closeOf};
 ghost use Rattle.recording_state.specs.Reply.{replyOf};
 ghost use Rattle.recording_twins.specs.Recording.{recordingOf};
-ghost use Rattle.numbers.specs.Arguments.{geometryOf, capacityOf, asReply};
+ghost use Rattle.numbers.specs.Arguments.{geometryOf, fittingOf, asReply};
 ghost use Rattle.recording_answers.specs.Recording.{outcomeTwin};
 ghost use Rattle.adr.specs.Record.{through, stored, blockThrough, fetched, fetchThrough};
 use numbers::AdrGeometry;
 use numbers::AdrReply;
-use numbers::capacity_of;
+use numbers::fitting;
 use recording::Recording;
 use recording_answers::AdrRecordFetched;
 use recording_answers::AdrRecordOutcome;
@@ -32,25 +32,16 @@ pub extern "C" fn adr_record_open(
     window: u32,
     header: &[u8],
 ) -> AdrRecordOutcome
-    ensures { λ r. ⌜ r ≡ outcomeTwin (openOf (geometryOf g) (capacityOf depth) (capacityOf window) (now (header .entry))) ⌝ }
+    ensures { λ r. ⌜ r ≡ outcomeTwin (openOf (geometryOf g) (fittingOf depth) (fittingOf window) (now (header .entry))) ⌝ }
 {
-    AdrRecordOutcome::of(Recording::open(
-        g.geometry(),
-        capacity_of(depth),
-        capacity_of(window),
-        header,
-    ))
+    AdrRecordOutcome::of(Recording::open(g.geometry(), fitting(depth), fitting(window), header))
 }
 
 #[no_mangle]
 pub extern "C" fn adr_record_open_blank(g: AdrGeometry, depth: u32, window: u32) -> AdrRecordOutcome
-    ensures { λ r. ⌜ r ≡ outcomeTwin (openBlankOf (geometryOf g) (capacityOf depth) (capacityOf window)) ⌝ }
+    ensures { λ r. ⌜ r ≡ outcomeTwin (openBlankOf (geometryOf g) (fittingOf depth) (fittingOf window)) ⌝ }
 {
-    AdrRecordOutcome::of(Recording::open_blank(
-        g.geometry(),
-        capacity_of(depth),
-        capacity_of(window),
-    ))
+    AdrRecordOutcome::of(Recording::open_blank(g.geometry(), fitting(depth), fitting(window)))
 }
 
 #[no_mangle]

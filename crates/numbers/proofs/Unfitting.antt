@@ -29,7 +29,7 @@ use Rattle.reading_state.specs.declared.state.State as reading
 use Rattle.reading_state.specs.Reply as reading-reply
 use Rattle.numbers.specs.declared.arguments.AdrReply.{AdrReply}
 use Rattle.numbers.specs.declared.arguments.AdrGeometry.{AdrGeometry}
-use Rattle.numbers.specs.Arguments.{isGeometry, withoutFrames, geometryOf, capacityOf, meaningless, asReply}
+use Rattle.numbers.specs.Arguments.{isGeometry, withoutFrames, geometryOf, fittingOf, meaningless, asReply}
 
 -- numbers that are no geometry's
 no-geometry : (g : AdrGeometry) → isGeometry g ≡ false → geometryOf g ≡ withoutFrames
@@ -43,26 +43,26 @@ pub header-2 : (g : AdrGeometry) (header : List ℕ) → isGeometry g ≡ false 
 unfolding readHeader
 header-2 g header h k = rw (no-geometry g h, eq-eqb _ _ k)
 
-capacity-0 : (n : ℕ) → 255 < n → capacityOf n ≡ 0
-capacity-0 n h = pick-f n (lt-leb n 255 h)
+fitting-0 : (n : ℕ) → 255 < n → fittingOf n ≡ 0
+fitting-0 n h = pick-f n (lt-leb n 255 h)
 
-capacity-4 : (depth window : ℕ) (exhausted : Bool) (h : Header) → (capacityOf depth ≡ 0) ⊎ (capacityOf window ≡ 0) → openWith (capacityOf depth) (capacityOf window) exhausted h ≡ openRefused 4
+fitting-4 : (depth window : ℕ) (exhausted : Bool) (h : Header) → (fittingOf depth ≡ 0) ⊎ (fittingOf window ≡ 0) → openWith (fittingOf depth) (fittingOf window) exhausted h ≡ openRefused 4
 unfolding openWith
-capacity-4 depth window exhausted h (inl k) = rw k
-capacity-4 depth window exhausted h (inr k) = rw k (pick-t _ (either-right (eqb (capacityOf depth) 0) _ refl))
+fitting-4 depth window exhausted h (inl k) = rw k
+fitting-4 depth window exhausted h (inr k) = rw k (pick-t _ (either-right (eqb (fittingOf depth) 0) _ refl))
 
 -- D or W above 255, where the cartridge and its header are not refused
-unfitting : (depth window : ℕ) → (255 < depth) ⊎ (255 < window) → (capacityOf depth ≡ 0) ⊎ (capacityOf window ≡ 0)
-unfitting depth window (inl k) = inl (capacity-0 depth k)
-unfitting depth window (inr k) = inr (capacity-0 window k)
+unfitting : (depth window : ℕ) → (255 < depth) ⊎ (255 < window) → (fittingOf depth ≡ 0) ⊎ (fittingOf window ≡ 0)
+unfitting depth window (inl k) = inl (fitting-0 depth k)
+unfitting depth window (inr k) = inr (fitting-0 window k)
 
-pub open-4 : (g : Geometry) (depth window : ℕ) (header : List ℕ) (old : Header) → readHeader g header ≡ valid old → (255 < depth) ⊎ (255 < window) → openOf g (capacityOf depth) (capacityOf window) header ≡ openRefused 4
+pub open-4 : (g : Geometry) (depth window : ℕ) (header : List ℕ) (old : Header) → readHeader g header ≡ valid old → (255 < depth) ⊎ (255 < window) → openOf g (fittingOf depth) (fittingOf window) header ≡ openRefused 4
 unfolding openOf
-open-4 g depth window header old h k = rw h (capacity-4 depth window (isExhausted old) (renewed old) (unfitting depth window k))
+open-4 g depth window header old h k = rw h (fitting-4 depth window (isExhausted old) (renewed old) (unfitting depth window k))
 
-pub blank-4 : (g : Geometry) (depth window last : ℕ) → lastOf g ≡ address last → (255 < depth) ⊎ (255 < window) → openBlankOf g (capacityOf depth) (capacityOf window) ≡ openRefused 4
+pub blank-4 : (g : Geometry) (depth window last : ℕ) → lastOf g ≡ address last → (255 < depth) ⊎ (255 < window) → openBlankOf g (fittingOf depth) (fittingOf window) ≡ openRefused 4
 unfolding openBlankOf
-blank-4 g depth window last h k = rw h (capacity-4 depth window false (openingHeader last 1 0) (unfitting depth window k))
+blank-4 g depth window last h k = rw h (fitting-4 depth window false (openingHeader last 1 0) (unfitting depth window k))
 
 reply-meaningless : (r : AdrReply) → 255 < r .skip → asReply r ≡ meaningless
 unfolding asReply

@@ -26,8 +26,8 @@ unfoldable pub geometryOf : AdrGeometry → Geometry
 geometryOf g = pick (isGeometry g) (record { segtrk = g .segtrk; trks = g .trks; load = loadOf (g .load) }) withoutFrames
 
 -- D and W have 8 bits; any other counts as 0: refusal 4
-abbrev pub capacityOf : ℕ → ℕ
-capacityOf n = pick (leb n 255) n 0
+abbrev pub fittingOf : ℕ → ℕ
+fittingOf n = pick (leb n 255) n 0
 
 -- a triple that has no meaning: as a reply, refusal 8
 abbrev pub meaningless : Reply

@@ -1,6 +1,6 @@
 // What C gives as numbers: geometries, sizes and replies. One that does not fit counts as one that is refused.
 ghost use mathlib.Core.Path.{_≡_};
-ghost use Rattle.numbers.specs.Arguments.{loadOf, withoutFrames, geometryOf, capacityOf, asReply};
+ghost use Rattle.numbers.specs.Arguments.{loadOf, withoutFrames, geometryOf, fittingOf, asReply};
 use drive::Reply;
 use geometry::Address;
 use geometry::Geometry;
@@ -67,9 +67,9 @@ impl AdrGeometry {
     }
 }
 
-// D or W: one that does not fit counts as 0, refusal 4.
-pub fn capacity_of(n: u32) -> u8
-    ensures { λ r. ⌜ r ≡ capacityOf n ⌝ }
+// D or W, where it fits; any other counts as 0, refusal 4.
+pub fn fitting(n: u32) -> u8
+    ensures { λ r. ⌜ r ≡ fittingOf n ⌝ }
 {
     if n <= 255 {
         return n as u8;
