@@ -115,7 +115,7 @@ impl State {
     {
         let exchange = self.exchange;
         let c = exchange.command;
-        let next = wrapped(past_reserved((address(c).0 as u64) + 32));
+        let next = wrapped(past_reserved(address(c), 32));
         self.moved(next, true).taken(Delivery::Nothing)
     }
 }
