@@ -5,7 +5,7 @@ ghost use Rattle.judgement.specs.Judgement.{asTable};
 use aux_building::build_aux;
 use buffer::agrees;
 use frame::Element;
-use frame::element_fields;
+use frame::element_aux;
 
 // Compares bytes 18 to 35 and 44 to 67 with those that a recording writes for the element. None of them depends on its filemarks and its marker.
 pub(crate) fn as_table(e: Element, aux: &[u8]) -> bool
@@ -13,7 +13,7 @@ pub(crate) fn as_table(e: Element, aux: &[u8]) -> bool
     ensures { λ r. ⌜ r ≡ asTable e (now (aux .entry)) ⌝ }
 {
     let mut table = [0u8; 512];
-    build_aux(&mut table, element_fields(e));
+    build_aux(&mut table, element_aux(e));
     let description = agrees(&aux[18..36], &table[18..36]);
     let numbers = agrees(&aux[44..68], &table[44..68]);
     description & numbers
