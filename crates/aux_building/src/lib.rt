@@ -5,7 +5,7 @@ ghost use mathlib.Core.Path.{_≡_};
 ghost use lib.Dec.{eqb};
 ghost use lib.ListN.{length};
 ghost use Rattle.geometry.specs.Pick.{pick};
-ghost use Rattle.geometry.specs.Refused.{verdictNumber};
+ghost use Rattle.geometry.specs.Refusal.{verdictNumber};
 ghost use Rattle.frame.specs.Lengths.{auxLength};
 ghost use Rattle.frame.specs.Aux.{auxBytes};
 use crate::access::build_access_table;

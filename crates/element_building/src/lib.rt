@@ -3,7 +3,7 @@ ghost use mathlib.Core.Path.{_≡_};
 ghost use mathlib.Core.Bool.{true};
 ghost use lib.ListN.{length};
 ghost use Rattle.geometry.specs.Pick.{pick};
-ghost use Rattle.geometry.specs.Refused.{verdictNumber};
+ghost use Rattle.geometry.specs.Refusal.{verdictNumber};
 ghost use Rattle.frame.specs.Lengths.{frameLength, dataLength};
 ghost use Rattle.frame.specs.Frame.{dataBytes, elementFrame, elementFits};
 use aux_building::build_aux;

@@ -4,7 +4,7 @@ use Rattle.geometry.specs.declared.address.Address.{Address}
 use Rattle.geometry.specs.declared.address.Seq.{Seq}
 use Rattle.geometry.specs.declared.address.Place.{Place}
 use Rattle.geometry.specs.declared.address.Place.the-variants.{At, Refused}
-use Rattle.geometry.specs.Refused.{refusalNumber}
+use Rattle.geometry.specs.Refusal.{refusalNumber}
 
 -- a number as an address, and as a sequence number
 abbrev pub asAddress : ℕ → Address

@@ -4,7 +4,7 @@ use mathlib.Core.List.{List}
 use lib.Dec.{eqb}
 use lib.ListN.{length}
 use Rattle.geometry.specs.Pick.{pick}
-use Rattle.geometry.specs.Refused.{refusalNumber}
+use Rattle.geometry.specs.Refusal.{refusalNumber}
 use Rattle.geometry.specs.Place as place
 use Rattle.geometry.specs.Place.{PlaceSaid}
 use Rattle.geometry.specs.Cartridge.{lastOf}

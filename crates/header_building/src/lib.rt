@@ -3,7 +3,7 @@ ghost use mathlib.Core.Path.{_≡_};
 ghost use lib.Dec.{eqb};
 ghost use lib.ListN.{length, replicate};
 ghost use Rattle.geometry.specs.Pick.{pick};
-ghost use Rattle.geometry.specs.Refused.{verdictNumber};
+ghost use Rattle.geometry.specs.Refusal.{verdictNumber};
 ghost use Rattle.frame.specs.Lengths.{frameLength, dataLength};
 ghost use Rattle.frame.specs.Aux.{headerAux};
 ghost use Rattle.frame.specs.Header.{headerFields, headerData, headerFrame};

@@ -2,7 +2,7 @@
 ghost use mathlib.Core.Path.{_≡_};
 ghost use lib.ListN.{length};
 ghost use Rattle.frame.specs.Lengths.{frameLength};
-ghost use Rattle.geometry.specs.Refused.{refusalNumber, verdictNumber};
+ghost use Rattle.geometry.specs.Refusal.{refusalNumber, verdictNumber};
 ghost use Rattle.header_choice.specs.Choice.{choiceSaid, newerOf, givesWay, lowerOf, choiceOf, choiceNumber, Returned};
 use buffer::agrees;
 use buffer::be32_at;

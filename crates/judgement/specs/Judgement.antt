@@ -5,7 +5,7 @@ use mathlib.Core.List.{List}
 use lib.Dec.{eqb, ltb}
 use lib.ListN.{length, getD, take, drop}
 use Rattle.geometry.specs.Pick.{pick}
-use Rattle.geometry.specs.Refused.{refusalNumber}
+use Rattle.geometry.specs.Refusal.{refusalNumber}
 use Rattle.buffer.specs.Bytes.{get16, get32, agree}
 use Rattle.frame.specs.Aux.{typeOf, auxBytes, elementAux}
 use Rattle.frame.specs.declared.element.Element.{Element}

@@ -1,6 +1,6 @@
 // Opening a reading session. The public calls are the methods of `reading`.
 ghost use mathlib.Core.Path.{_≡_};
-ghost use Rattle.geometry.specs.Refused.{refusalNumber};
+ghost use Rattle.geometry.specs.Refusal.{refusalNumber};
 ghost use Rattle.reading_state.specs.Open.{openedSaid, toldOf, fresh, openRefused, openOf};
 use drive::Exchange;
 use frame::Header;

@@ -2,7 +2,7 @@
 use Prim.Native.Nat.{ℕ}
 use mathlib.Core.Bool.{true, false}
 use mathlib.Core.List.{List}
-use Rattle.geometry.specs.Refused.{verdictNumber}
+use Rattle.geometry.specs.Refusal.{verdictNumber}
 use Rattle.geometry.specs.declared.cartridge.Geometry.{Geometry}
 use Rattle.frame.specs.declared.header.Header.{Header}
 use Rattle.header.specs.Read.{CheckedSaid, valid, refused, readHeader}

@@ -1,5 +1,5 @@
 -- The numbers are compared. Assumes nothing.
-use Rattle.geometry.specs.Refused.{refusalNumber}
+use Rattle.geometry.specs.Refusal.{refusalNumber}
 use Prim.Native.Nat.{_≤_, _<_}
 -- The numbers are compared. Assumes nothing.
 use Rattle.geometry.proofs.PickLaws.{pick-t, pick-f}
