@@ -5,6 +5,7 @@ ghost use Rattle.reading_state.specs.Open.{openedSaid, toldOf, fresh, openRefus
 use drive::Exchange;
 use frame::Header;
 use geometry::Address;
+use geometry::FIRST_USER;
 use geometry::Geometry;
 use geometry::Refusal;
 use geometry::Seq;
@@ -21,7 +22,7 @@ fn fresh_session(told: Told) -> State
 {
     State {
         told: told,
-        next: Address(10),
+        next: Address(FIRST_USER),
         locate: true,
         expected: Seq(0),
         exchange: Exchange::unsent(),
