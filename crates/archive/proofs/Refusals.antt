@@ -6,7 +6,7 @@ use mathlib.Core.List.{List}
 use native.Mathlib.Omega.{arith}
 use lib.Dec.{eqb, ltb}
 use Rattle.geometry.specs.Place as place
-use Rattle.geometry.specs.Place.{PlaceSaid}
+use Rattle.geometry.specs.Place.{asAddress, PlaceSaid}
 use Rattle.geometry.specs.Cartridge.{lastOf}
 use Rattle.geometry.proofs.PickLaws.{pick-by}
 use Rattle.frame.specs.declared.header.Header.{Header}
@@ -109,7 +109,7 @@ opened-for (valid old) depth window = opened-with depth window (isExhausted old)
 opened-for (refused n) depth window = λ _. refl
 
 blank-for : (p : PlaceSaid) (depth window : ℕ) → Ended (openBlankFor p depth window)
-blank-for (place.address last) depth window = opened-with depth window false (openingHeader last 1 0)
+blank-for (place.address last) depth window = opened-with depth window false (openingHeader (asAddress last) 1 0)
 blank-for (place.refused n) depth window = λ _. refl
 
 read-opened : (c : CheckedSaid) → 1 ≤ opening.openFor c .number → opening.openFor c .session .ended ≡ true

@@ -4,6 +4,7 @@ use mathlib.Core.Path.{_≡_}
 use mathlib.Core.Bool.{true}
 use mathlib.Core.List.{List}
 use mathlib.Core.Option.{some}
+use Rattle.geometry.specs.Place.{asAddress}
 use Rattle.geometry.specs.Cartridge.{isHeader}
 use Rattle.header.specs.Valid.{validHeader, updateOf}
 use Rattle.archive.specs.Tape.{Tape}
@@ -12,7 +13,7 @@ use Rattle.archive.specs.Tape.{Tape}
 pub record HeaderAt (last : ℕ) (t : Tape) (a : ℕ) (h : List ℕ) : Type 0 where
   pub group : isHeader a ≡ true
   pub reads : t a ≡ some h
-  pub valid : validHeader last h ≡ true
+  pub valid : validHeader (asAddress last) h ≡ true
 
 -- one with the highest update count
 pub record Newest (last : ℕ) (t : Tape) (h : List ℕ) : Type 0 where

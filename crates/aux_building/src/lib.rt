@@ -1,24 +1,24 @@
-// The 512 AUX bytes of a frame. The public call is `build_aux`; the builders of frames use `fill_aux`.
+// The 512 AUX bytes of a frame. The public call is `build_aux`.
 mod access;
 
 ghost use mathlib.Core.Path.{_≡_};
 ghost use lib.Dec.{eqb};
 ghost use lib.ListN.{length};
 ghost use Rattle.geometry.specs.Pick.{pick};
-ghost use Rattle.geometry.specs.Refused.{verdictNumber};
+ghost use Rattle.geometry.specs.Refusal.{verdictNumber};
 ghost use Rattle.frame.specs.Lengths.{auxLength};
 ghost use Rattle.frame.specs.Aux.{auxBytes};
 use crate::access::build_access_table;
 use buffer::clear;
+use buffer::put_be16;
+use buffer::put_be32;
 use frame::AUX_LENGTH;
 use frame::Fields;
-use frame::put_be16;
-use frame::put_be32;
 use geometry::Refusal;
 use geometry::Verdict;
 
 // Fills a buffer of 512 bytes.
-pub fn fill_aux(aux: &mut [u8], f: Fields)
+fn fill_aux(aux: &mut [u8], f: Fields)
     requires { ⌜ length (now aux) ≡ auxLength ⌝ }
     ensures { λ _. ⌜ now (aux .exit) ≡ auxBytes f ⌝ }
 {

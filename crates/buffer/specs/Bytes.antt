@@ -22,7 +22,7 @@ get16 s at = getD s at 0 * 256 + getD s (at + 1) 0
 abbrev pub get32 : List ℕ → ℕ → ℕ
 get32 s at = getD s at 0 * 16777216 + getD s (at + 1) 0 * 65536 + getD s (at + 2) 0 * 256 + getD s (at + 3) 0
 
--- a list with a number's bytes stored from an index on
+-- a list with a number's bytes stored from an index on; bytes past the end are left alone
 abbrev pub put16 : List ℕ → ℕ → ℕ → List ℕ
 put16 s at v = set (set s at (v / 256 % 256)) (at + 1) (v % 256)
 

@@ -2,12 +2,13 @@
 use Prim.Native.Nat.{ℕ, _+_, _-_, _%_, _^_}
 use mathlib.Core.Bool.{Bool, _||_}
 use lib.Dec.{ltb, leb}
+use Rattle.geometry.specs.Place.{asAddress}
 use Rattle.geometry.specs.declared.address.Address.{Address}
 use Rattle.frame.specs.declared.header.Header.{Header}
 
 -- opening headers: EOD address 0. On no header, pass 1 and update count 0
-abbrev pub openingHeader : ℕ → ℕ → ℕ → Header
-openingHeader last pass update = record { last = record { 0 = last }; pass = pass; eod = record { 0 = 0 }; update = update }
+abbrev pub openingHeader : Address → ℕ → ℕ → Header
+openingHeader last pass update = record { last = last; pass = pass; eod = asAddress 0; update = update }
 
 -- pass 65,534, or update count above 4,294,967,293
 abbrev pub isExhausted : Header → Bool
@@ -15,8 +16,8 @@ isExhausted h = leb 65534 (h .pass) || ltb 4294967293 (h .update)
 
 -- pass is old + 1 and update count old + 1; remainders only matter where the opening is refused
 abbrev pub renewed : Header → Header
-renewed h = openingHeader (h .last .0) ((h .pass + 1) % 2 ^ 16) ((h .update + 1) % 2 ^ 32)
+renewed h = openingHeader (h .last) ((h .pass + 1) % 2 ^ 16) ((h .update + 1) % 2 ^ 32)
 
 -- closing headers: count one higher, EOD's address, which is the one before the next
 abbrev pub closingOf : Header → Address → Header
-closingOf h next = record { last = h .last; pass = h .pass; eod = record { 0 = next .0 - 1 }; update = (h .update + 1) % 2 ^ 32 }
+closingOf h next = record { last = h .last; pass = h .pass; eod = asAddress (next .0 - 1); update = (h .update + 1) % 2 ^ 32 }

@@ -6,7 +6,7 @@ use geometry::Address;
 
 // The opening header on a cartridge that holds no valid one.
 pub fn blank_header(last: Address) -> Header
-    ensures { λ r. ⌜ r ≡ openingHeader (last .0) 1 0 ⌝ }
+    ensures { λ r. ⌜ r ≡ openingHeader last 1 0 ⌝ }
 {
     Header {
         last: last,

@@ -4,25 +4,35 @@ use crate::printing::print_number;
 use buffer::be16_at;
 use buffer::be32_at;
 use drive::Command;
+use frame::AUX_START;
+use frame::KIND_AT;
+use frame::UPDATE_AT;
+
+// Where fields of the AUX stand in the frame.
+const SEQ_AT: u16 = AUX_START + 44;
+
+const FILEMARKS_AT: u16 = AUX_START + 192;
+
+const MARKER_AT: u16 = AUX_START + 200;
 
 // The number of an element or EOD, the filemarks before it and the latest marker's address.
 fn print_element(name: &[u8], frame: &[u8]) {
-    print_number(name, be32_at(frame, 32812));
-    print_number(b", filemarks ", be32_at(frame, 32960));
-    let marker = be32_at(frame, 32968);
+    print_number(name, be32_at(frame, SEQ_AT));
+    print_number(b", filemarks ", be32_at(frame, FILEMARKS_AT));
+    let marker = be32_at(frame, MARKER_AT);
     if marker != 0xFFFFFFFF {
         print_number(b", latest at ", marker);
     }
 }
 
 fn print_header(frame: &[u8]) {
-    print_number(b" header, count ", be32_at(frame, 32780));
+    print_number(b" header, count ", be32_at(frame, UPDATE_AT));
     print_number(b", EOD ", be32_at(frame, 32));
 }
 
 // The kind of a frame and what it holds.
 fn print_frame(frame: &[u8]) {
-    match be16_at(frame, 32784) {
+    match be16_at(frame, KIND_AT) {
         0x0800 => print_header(frame),
         0x8000 => print_element(b" block ", frame),
         0x0200 => print_element(b" filemark ", frame),

@@ -1,5 +1,7 @@
 // Readings opened on headers; a refusal is printed.
 use edge_output::print_refused;
+use frame::DATA_LENGTH;
+use frame::FRAME_LENGTH;
 use frame::Header;
 use geometry::Address;
 use geometry::Geometry;
@@ -27,7 +29,7 @@ fn session_of(o: Opened) -> Reading {
 
 // Opens a reading on a header that begins with "ADR_SE" and a byte, Q in a valid one.
 pub fn open_named(g: Geometry, h: Header, byte: u8) -> Reading {
-    let mut frame = [0u8; 33280];
+    let mut frame = [0u8; FRAME_LENGTH];
     build_header(&mut frame, h);
     frame[6] = byte;
     session_of(Reading::open(g, &frame))
@@ -40,8 +42,8 @@ pub fn open_on(g: Geometry, h: Header) -> Reading {
 
 // Opens a reading on the newer of two headers.
 pub fn open_newer(g: Geometry, first: Header, second: Header) -> Reading {
-    let mut one = [0u8; 33280];
-    let mut other = [0u8; 33280];
+    let mut one = [0u8; FRAME_LENGTH];
+    let mut other = [0u8; FRAME_LENGTH];
     build_header(&mut one, first);
     build_header(&mut other, second);
     session_of(Reading::open(g, choose(g, &one, &other)))
@@ -49,6 +51,6 @@ pub fn open_newer(g: Geometry, first: Header, second: Header) -> Reading {
 
 // Opens a reading on a buffer as long as a block.
 pub fn open_short(g: Geometry) -> Reading {
-    let buffer = [0u8; 32768];
+    let buffer = [0u8; DATA_LENGTH];
     session_of(Reading::open(g, &buffer))
 }

@@ -9,13 +9,18 @@ use edge_output::print_refusal;
 use edge_output::print_sense;
 use edge_output::sense;
 use element_building::build_element;
+use frame::DATA_LENGTH;
 use frame::Element;
+use frame::FRAME_LENGTH;
 use frame::Kind;
 use geometry::Address;
 use geometry::Seq;
 use reading::Answer;
 use reading::Delivery;
 use reading::Reading;
+
+// Where the access table's flags stand in a frame: AUX byte 66.
+const FLAGS_AT: usize = DATA_LENGTH + 66;
 
 fn print_answer(answer: Answer) {
     match answer {
@@ -65,7 +70,7 @@ fn play(session: Reading, reply: Reply, frame: &[u8]) -> Reading {
 
 // A reply that brings no frame; the one that is lent is blank.
 pub fn play_sense(session: Reading, reply: Reply) -> Reading {
-    let frame = [0u8; 33280];
+    let frame = [0u8; FRAME_LENGTH];
     play(session, reply, &frame)
 }
 
@@ -95,8 +100,8 @@ pub fn play_frame(
     number: u32,
     byte: u8,
 ) -> Reading {
-    let block = [byte; 32768];
-    let mut frame = [0u8; 33280];
+    let block = [byte; DATA_LENGTH];
+    let mut frame = [0u8; FRAME_LENGTH];
     build_element(&mut frame, element(session, pass, kind, number), &block);
     play(session, reply, &frame)
 }
@@ -120,20 +125,20 @@ pub fn play_older(session: Reading, pass: u16, kind: Kind, number: u32) -> Readi
 
 // The frame of block 0, but with flags 4C in its access table.
 pub fn play_foreign(session: Reading) -> Reading {
-    let block = [0u8; 32768];
-    let mut frame = [0u8; 33280];
+    let block = [0u8; DATA_LENGTH];
+    let mut frame = [0u8; FRAME_LENGTH];
     build_element(
         &mut frame,
         element(session, session.state.told.pass, Kind::Data, 0),
         &block,
     );
-    frame[32834] = 0x4C;
+    frame[FLAGS_AT] = 0x4C;
     play(session, good(0), &frame)
 }
 
 // A command and its reply, not printed.
 fn answer(session: Reading, reply: Reply) -> Reading {
-    let frame = [0u8; 33280];
+    let frame = [0u8; FRAME_LENGTH];
     let fetched = session.fetch();
     let next = fetched.session;
     let taken = next.reply(reply, &frame);

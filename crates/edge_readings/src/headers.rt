@@ -9,7 +9,9 @@ use edge_reader::look;
 use edge_reader::open_named;
 use edge_reader::open_on;
 use edge_reader::open_short;
+use frame::FRAME_LENGTH;
 use frame::Header;
+use frame::UPDATE_AT;
 use geometry::Verdict;
 use header_building::build_header;
 use header_choice::choice_verdict;
@@ -35,14 +37,14 @@ fn print_choice<'a>(first: &'a [u8], second: &'a [u8]) {
         print(b", empty part\n");
         return;
     }
-    print_number(b", update count ", be32_at(chosen, 32780));
+    print_number(b", update count ", be32_at(chosen, UPDATE_AT));
     print(b"\n");
 }
 
 // The choice of two headers, the second with this byte in its name.
 fn compare(first: Header, second: Header, byte: u8) {
-    let mut one = [0u8; 33280];
-    let mut other = [0u8; 33280];
+    let mut one = [0u8; FRAME_LENGTH];
+    let mut other = [0u8; FRAME_LENGTH];
     build_header(&mut one, first);
     build_header(&mut other, second);
     other[6] = byte;

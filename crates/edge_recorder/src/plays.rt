@@ -6,6 +6,8 @@ use edge_output::print_refusal;
 use edge_output::print_refused;
 use edge_output::print_sent;
 use edge_output::write_error;
+use frame::DATA_LENGTH;
+use frame::FRAME_LENGTH;
 use geometry::Geometry;
 use recording::Answer;
 use recording::Outcome;
@@ -35,7 +37,7 @@ pub fn close(session: Recording) -> Recording {
 
 // Accepts a block.
 pub fn accept_block(session: Recording, window: &mut [u8]) -> Recording {
-    let block = [0x5Au8; 32768];
+    let block = [0x5Au8; DATA_LENGTH];
     session_of(session.accept_block(&block, window))
 }
 
@@ -60,7 +62,7 @@ fn print_answer(answer: Answer, frame: &[u8]) {
 
 // Fetches and prints.
 pub fn look(session: Recording, window: &[u8]) -> Recording {
-    let mut frame = [0u8; 33280];
+    let mut frame = [0u8; FRAME_LENGTH];
     let fetched = session.fetch(window, &mut frame);
     let answer = fetched.answer;
     print_answer(answer, &frame);

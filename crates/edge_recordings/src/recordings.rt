@@ -14,6 +14,7 @@ use edge_recorder::open;
 use edge_recorder::play;
 use edge_recorder::play_errors;
 use edge_recorder::play_good;
+use frame::DATA_LENGTH;
 use recording::Recording;
 
 // An error at 11 with skip 3, and one at a closing header's copy.
@@ -40,7 +41,7 @@ fn record_example(window: &mut [u8]) {
 }
 
 pub fn example() {
-    let mut window = [0u8; 131072];
+    let mut window = [0u8; 4 * DATA_LENGTH];
     record_example(&mut window);
 }
 
@@ -73,7 +74,7 @@ fn record_crossing(window: &mut [u8]) {
 }
 
 pub fn crossing() {
-    let mut window = [0u8; 262144];
+    let mut window = [0u8; 8 * DATA_LENGTH];
     record_crossing(&mut window);
 }
 
@@ -91,7 +92,7 @@ fn play_one_block(session: Recording, window: &[u8]) {
 
 // One block, accepted behind the opening headers.
 pub fn one_block() {
-    let mut window = [0u8; 32768];
+    let mut window = [0u8; DATA_LENGTH];
     let mut s = open(b"busy, then an error, at 10\n", cartridge(1000, 12), 1);
     s = play_good(s, &window, 14);
     s = accept_block(s, &mut window);

@@ -3,17 +3,17 @@ ghost use mathlib.Core.Path.{_≡_};
 ghost use mathlib.Core.Bool.{true};
 ghost use lib.ListN.{length};
 ghost use Rattle.geometry.specs.Pick.{pick};
-ghost use Rattle.geometry.specs.Refused.{verdictNumber};
+ghost use Rattle.geometry.specs.Refusal.{verdictNumber};
 ghost use Rattle.frame.specs.Lengths.{frameLength, dataLength};
 ghost use Rattle.frame.specs.Frame.{dataBytes, elementFrame, elementFits};
-use aux_building::fill_aux;
+use aux_building::build_aux;
 use buffer::clear;
 use buffer::copy_all;
 use frame::DATA_LENGTH;
 use frame::Element;
 use frame::FRAME_LENGTH;
 use frame::Kind;
-use frame::element_fields;
+use frame::element_aux;
 use geometry::Refusal;
 use geometry::Verdict;
 
@@ -47,7 +47,7 @@ fn fill_element(frame: &mut [u8], e: Element, block: &[u8])
 {
     let k = e.kind;
     fill_data(&mut frame[..DATA_LENGTH], k, block);
-    fill_aux(&mut frame[DATA_LENGTH..], element_fields(e));
+    build_aux(&mut frame[DATA_LENGTH..], element_aux(e));
 }
 
 // Fills a frame of 33,280 bytes, a data frame with a block of 32,768; other lengths are refused with 1 and the frame is left alone.

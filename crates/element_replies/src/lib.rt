@@ -1,7 +1,7 @@
 // What a reply to a command for elements or EOD changes, one function for each reply.
 ghost use mathlib.Core.Path.{_≡_};
 ghost use Prim.Native.Nat.{_-_, _≤_, _<_};
-ghost use Rattle.geometry.specs.Refused.{refusalNumber};
+ghost use Rattle.geometry.specs.Refusal.{refusalNumber};
 ghost use Rattle.elements.specs.Elements.{baseOf};
 ghost use Rattle.elements.specs.Reply.{steppedSaid, refusing, locatedOf, takenOf, confirmedOf, relocatedOf, notedOf, countedOf, failedOf, overflowedOf};
 use elements::Elements;

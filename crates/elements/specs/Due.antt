@@ -3,7 +3,7 @@ use Prim.Native.Nat.{ℕ}
 use mathlib.Core.Bool.{Bool, _&&_, _||_}
 use lib.Dec.{eqb, ltb, leb}
 use Rattle.geometry.specs.Pick.{pick}
-use Rattle.geometry.specs.Refused.{refusalNumber}
+use Rattle.geometry.specs.Refusal.{refusalNumber}
 use Rattle.geometry.specs.Cartridge.{secondGroup, secondUser}
 use Rattle.drive.specs.Command.{CommandSaid, commandSaid, write, locate, readPosition}
 use Rattle.elements.specs.declared.elements.Elements.{Elements}

@@ -4,7 +4,7 @@ use mathlib.Core.Bool.{true, false}
 use lib.Dec.{ltb, leb}
 use Rattle.geometry.specs.Place.{asAddress}
 use Rattle.geometry.specs.Pick.{pick}
-use Rattle.geometry.specs.Refused.{verdictNumber}
+use Rattle.geometry.specs.Refusal.{verdictNumber}
 use Rattle.geometry.specs.Place as place
 use Rattle.write_error.specs.WriteError.{targetAddress, targetOf}
 use Rattle.geometry.specs.declared.address.Address.{Address}

@@ -3,7 +3,7 @@ ghost use mathlib.Core.Path.{_≡_};
 ghost use Prim.Native.Nat.{ℕ};
 ghost use mathlib.Core.List.{List};
 ghost use lib.ListN.{length};
-ghost use Rattle.geometry.specs.Refused.{refusalNumber};
+ghost use Rattle.geometry.specs.Refusal.{refusalNumber};
 ghost use Rattle.frame.specs.Lengths.{frameLength};
 ghost use Rattle.recording_state.specs.State.{windowLength};
 ghost use Rattle.recording_state.specs.Fetch.{fetchedSaid, sending, fetchRefused, fetchOf};

@@ -29,7 +29,7 @@ module _ {sent read : List ℕ} (r : ReadsAs sent read) where
   data-as-sent = same-part read sent 0 32768 (r .long) (λ i p. r .before (0 + i) (omega arith))
 
   -- AUX bytes 0 to 3, and from 12 on
-  pub aux-before : (k : ℕ) → k < 4 → getD (drop 32768 read) k 0 ≡ getD (drop 32768 sent) k 0
+  aux-before : (k : ℕ) → k < 4 → getD (drop 32768 read) k 0 ≡ getD (drop 32768 sent) k 0
   aux-before k p = getD-drop 32768 read k 0 ∙ r .before (32768 + k) (omega arith) ∙ sym (getD-drop 32768 sent k 0)
 
   pub aux-behind : (k : ℕ) → 12 ≤ k → getD (drop 32768 read) k 0 ≡ getD (drop 32768 sent) k 0

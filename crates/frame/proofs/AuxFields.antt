@@ -1,7 +1,8 @@
 -- Every field that AUX bytes are built from is read back from them. Assumes nothing.
 use mathlib.Core.Path.{_≡_, refl}
 use Prim.Native.Nat.{_^_, _<_}
-use lib.ListN.{take, drop, getD}
+use native.Mathlib.Nat.{zero-add}
+use lib.ListN.{getD}
 use Rattle.buffer.specs.Bytes.{get16, get32}
 use Rattle.frame.specs.Aux.{accessBytes, auxBytes}
 use Rattle.frame.specs.declared.aux.Fields.{Fields}
@@ -53,10 +54,10 @@ module _ (f : Fields) where
   unfolding auxBytes
   aux-block-low h = be32-back (f .seq .0) h
 
-  -- the access table: its entries, and the size, count and flags of the one
-  pub aux-access : take 132 (drop 56 (auxBytes f)) ≡ accessBytes (f .entries) (f .size) (f .flags)
+  -- the access table: its mark, its entries, and the size, count and flags of the one
+  pub aux-table : get16 (auxBytes f) 56 ≡ 0x0800
   unfolding auxBytes accessBytes
-  aux-access = refl
+  aux-table = refl
 
   pub aux-entries : getD (auxBytes f) 58 0 ≡ f .entries
   unfolding auxBytes accessBytes
@@ -66,9 +67,9 @@ module _ (f : Fields) where
   unfolding auxBytes accessBytes
   aux-size h = be32-back (f .size) h
 
-  pub aux-count : getD (auxBytes f) 65 0 ≡ f .entries
+  pub aux-count : get16 (auxBytes f) 64 ≡ f .entries
   unfolding auxBytes accessBytes
-  aux-count = refl
+  aux-count = zero-add (f .entries)
 
   pub aux-flags : getD (auxBytes f) 66 0 ≡ f .flags
   unfolding auxBytes accessBytes

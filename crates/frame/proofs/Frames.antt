@@ -20,11 +20,7 @@ use Rattle.frame.specs.declared.header.Header.{Header}
 use Rattle.geometry.proofs.TestLaws.{and-true}
 use Rattle.buffer.proofs.Numbers.{same16, same32}
 
-pub access-length : (entries size flags : ℕ) → length (accessBytes entries size flags) ≡ 132
-unfolding accessBytes
-access-length entries size flags = refl
-
-pub aux-length : (f : Fields) → length (auxBytes f) ≡ 512
+aux-length : (f : Fields) → length (auxBytes f) ≡ 512
 unfolding auxBytes accessBytes
 aux-length f = refl
 
@@ -47,9 +43,6 @@ module _ (frame : List ℕ) (at : ℕ) where
 -- the lengths of a frame's parts, in the frame that is to be filled
 pub holds-front : {n : ℕ} → n ≡ 33280 → 32768 ≤ n
 holds-front e = omega arith
-
-pub holds-fields : {n : ℕ} → n ≡ 33280 → 36 ≤ n
-holds-fields e = omega arith
 
 pub rest-length : (w : List ℕ) → length w ≡ 33280 → length (take (length w - 32768) (drop 32768 w)) ≡ 512
 rest-length w e = length-take-le (length w - 32768) (drop 32768 w) (omega (arith, length-drop 32768 w)) ∙ omega arith
@@ -113,17 +106,13 @@ module _ (e : Element) (block : List ℕ) (h : elementFits (e .kind) 33280 (leng
   element-aux = parts-aux (dataBytes (e .kind) block) (elementAux e) (data-length (e .kind) block h)
 
 module _ (h : Header) where
-  pub header-data-length : length (headerFields h ++ headerRest) ≡ 32768
+  header-data-length : length (headerFields h ++ headerRest) ≡ 32768
   unfolding headerFields headerRest
   header-data-length = length-append (headerFields h) headerRest ∙ ap (λ (n : ℕ). 36 + n) (length-replicate {A = ℕ} 32732 0)
 
   pub header-length : length (headerFrame h) ≡ 33280
   unfolding headerFrame
   header-length = parts-length (headerFields h ++ headerRest) (headerAux (h .update)) header-data-length
-
-  pub header-data : take 32768 (headerFrame h) ≡ headerFields h ++ headerRest
-  unfolding headerFrame
-  header-data = parts-data (headerFields h ++ headerRest) (headerAux (h .update)) header-data-length
 
   pub header-aux : drop 32768 (headerFrame h) ≡ auxBytes (headerAux (h .update))
   unfolding headerFrame

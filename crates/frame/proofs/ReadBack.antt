@@ -19,7 +19,7 @@ use Rattle.frame.specs.declared.element.Element.{Element}
 use Rattle.frame.specs.declared.header.Header.{Header}
 use Rattle.frame.proofs.Lists.{same-part}
 use Rattle.frame.proofs.Frames.{element-data, element-aux, header-aux}
-use Rattle.frame.proofs.AuxFields.{aux-zero, aux-update, aux-kind, aux-partition, aux-version, aux-pass, aux-first, aux-last, aux-seq, aux-block-high, aux-block-low, aux-entries, aux-size, aux-count, aux-flags, aux-filemarks, aux-unused, aux-marker}
+use Rattle.frame.proofs.AuxFields.{aux-zero, aux-update, aux-kind, aux-partition, aux-version, aux-pass, aux-first, aux-last, aux-seq, aux-block-high, aux-block-low, aux-table, aux-entries, aux-size, aux-count, aux-flags, aux-filemarks, aux-unused, aux-marker}
 use Rattle.frame.proofs.HeaderFields.{header-name, header-major, header-minor, header-partitions, header-partition, header-version, header-pass, header-first, header-last, header-eod}
 use Rattle.frame.proofs.AsSent.{before16, before32, data-as-sent, aux-behind, aux-before32, aux-behind16, aux-behind32}
 
@@ -62,9 +62,10 @@ module _ {sent read : List ℕ} (r : ReadsAs sent read) (f : Fields) (sent-aux :
     seq = long 44 (lit≤ tt) ∙ aux-seq f (fit .seq);
     block-high = long 48 (lit≤ tt) ∙ aux-block-high f;
     block-low = long 52 (lit≤ tt) ∙ aux-block-low f (fit .seq);
+    table = word 56 (lit≤ tt) ∙ aux-table f;
     entries = byte 58 (lit≤ tt) ∙ aux-entries f;
     size = long 60 (lit≤ tt) ∙ aux-size f (fit .size);
-    count = byte 65 (lit≤ tt) ∙ aux-count f;
+    count = word 64 (lit≤ tt) ∙ aux-count f;
     flags = byte 66 (lit≤ tt) ∙ aux-flags f;
     filemarks = long 192 (lit≤ tt) ∙ aux-filemarks f (fit .filemarks);
     unused = long 196 (lit≤ tt) ∙ aux-unused f;

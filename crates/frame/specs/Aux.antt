@@ -1,7 +1,8 @@
 -- 01, "AUX bytes": the last 512 bytes of a frame. Unnamed bytes are 0.
-use Prim.Native.Nat.{ℕ}
+use Prim.Native.Nat.{ℕ, _-_}
 use mathlib.Core.List.{List, _∷_, _++_}
-use Rattle.geometry.specs.Cartridge.{firstUser}
+use Rattle.geometry.specs.Place.{asAddress, asSeq}
+use Rattle.geometry.specs.Cartridge.{firstUser, secondUser}
 use Rattle.buffer.specs.Bytes.{zeros, be16, be32}
 use Rattle.frame.specs.declared.element.Kind.{Kind}
 use Rattle.frame.specs.declared.element.Kind.the-variants.{Data, Marker, Eod}
@@ -60,7 +61,7 @@ elementAux e = record {
   kind = typeOf (e .kind);
   partition = 0;
   pass = e .pass;
-  first = record { 0 = firstUser };
+  first = asAddress firstUser;
   last = e .last;
   seq = e .seq;
   entries = entriesOf (e .kind);
@@ -70,6 +71,10 @@ elementAux e = record {
   marker = e .marker;
 }
 
+-- the last address of the second defect map
+abbrev defectMapEnd : ℕ
+defectMapEnd = secondUser - 1
+
 -- the fields of a header's frame
 abbrev pub headerAux : ℕ → Fields
 headerAux update = record {
@@ -77,12 +82,12 @@ headerAux update = record {
   kind = 0x0800;
   partition = 0xFF;
   pass = 0xFFFF;
-  first = record { 0 = 0 };
-  last = record { 0 = 2999 };
-  seq = record { 0 = 0 };
+  first = asAddress 0;
+  last = asAddress defectMapEnd;
+  seq = asSeq 0;
   entries = 0;
   size = 0;
   flags = 0;
   filemarks = 0;
-  marker = record { 0 = 0xFFFFFFFF };
+  marker = asAddress 0xFFFFFFFF;
 }

@@ -33,10 +33,11 @@ pub record AuxRead (f : Fields) (frame : List ℕ) : Type 0 where
   -- the block address, of eight bytes
   pub block-high : get32 (auxOf frame) 48 ≡ 0
   pub block-low : get32 (auxOf frame) 52 ≡ f .seq .0
-  -- the access table's number of entries; block size, count and flags of the entry
+  -- the access table's mark and number of entries; block size, count and flags of the entry
+  pub table : get16 (auxOf frame) 56 ≡ 0x0800
   pub entries : getD (auxOf frame) 58 0 ≡ f .entries
   pub size : get32 (auxOf frame) 60 ≡ f .size
-  pub count : getD (auxOf frame) 65 0 ≡ f .entries
+  pub count : get16 (auxOf frame) 64 ≡ f .entries
   pub flags : getD (auxOf frame) 66 0 ≡ f .flags
   pub filemarks : get32 (auxOf frame) 192 ≡ f .filemarks
   pub unused : get32 (auxOf frame) 196 ≡ 0xFFFFFFFF

@@ -1,6 +1,14 @@
 // The fields of a frame's AUX.
+use crate::lengths::AUX_START;
 use geometry::Address;
 use geometry::Seq;
+
+// Where fields stand that are read by their place in the frame: update count, frame type, partition.
+pub const UPDATE_AT: u16 = AUX_START + 12;
+
+pub const KIND_AT: u16 = AUX_START + 16;
+
+pub const PARTITION_AT: u16 = AUX_START + 20;
 
 // The fields of figure 3-1 that differ between frames.
 pub struct Fields {

@@ -70,7 +70,7 @@ fn flags_of(k: Kind) -> u8
 }
 
 // The fields of the element's AUX.
-pub fn element_fields(e: Element) -> Fields
+pub fn element_aux(e: Element) -> Fields
     ensures { λ r. ⌜ r ≡ elementAux e ⌝ }
 {
     let kind = e.kind;

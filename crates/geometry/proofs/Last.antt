@@ -17,10 +17,10 @@ pub record Frames (g : Geometry) (last : ℕ) : Type 0 where
   pub large : 3000 ≤ last
   pub most : last + 1 ≡ framesOf g
 
-pub address-same : {a b : ℕ} → _≡_ {A = PlaceSaid} (address a) (address b) → a ≡ b
+address-same : {a b : ℕ} → _≡_ {A = PlaceSaid} (address a) (address b) → a ≡ b
 address-same e = cc
 
-pub refused-address : {X : Type 0} {a b : ℕ} → _≡_ {A = PlaceSaid} (refused a) (address b) → X
+refused-address : {X : Type 0} {a b : ℕ} → _≡_ {A = PlaceSaid} (refused a) (address b) → X
 refused-address e = never (cc)
 
 pub frames-of : (g : Geometry) (last : ℕ) → lastOf g ≡ address last → Frames g last

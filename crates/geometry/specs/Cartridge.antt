@@ -22,7 +22,7 @@ abbrev pub secondUser : ℕ
 secondUser = 3000
 
 -- the frames that are needed
-abbrev pub leastFrames : ℕ
+abbrev leastFrames : ℕ
 leastFrames = 3001
 
 -- SEGTRK frames of a track, or SEGTRK − 99 for a cartridge loaded at its centre.
@@ -38,6 +38,8 @@ framesOf g = trackFrames (g .load) (g .segtrk) * g .trks
 -- LAST; refusal 2 under 3,001 frames
 abbrev pub lastOf : Geometry → PlaceSaid
 lastOf g = pick (ltb (framesOf g) leastFrames) (refused 2) (address (framesOf g - 1))
+
+-- the definitions from here on are over numbers, since they are applied to the numbers of a tape's addresses
 
 -- user frames: 10 to 2,989 and 3,000 to LAST
 abbrev pub isUser : ℕ → ℕ → Bool

@@ -1,4 +1,4 @@
 pub mod Pick
-pub mod Refused
+pub mod Refusal
 pub mod Place
 pub mod Cartridge

@@ -1,13 +1,17 @@
 -- An address or a refusal, in 01's numbers.
 use Prim.Native.Nat.{ℕ}
 use Rattle.geometry.specs.declared.address.Address.{Address}
+use Rattle.geometry.specs.declared.address.Seq.{Seq}
 use Rattle.geometry.specs.declared.address.Place.{Place}
 use Rattle.geometry.specs.declared.address.Place.the-variants.{At, Refused}
-use Rattle.geometry.specs.Refused.{refusalNumber}
+use Rattle.geometry.specs.Refusal.{refusalNumber}
 
--- a number as an address
+-- a number as an address, and as a sequence number
 abbrev pub asAddress : ℕ → Address
 asAddress n = record { 0 = n }
+
+abbrev pub asSeq : ℕ → Seq
+asSeq n = record { 0 = n }
 
 pub data PlaceSaid : Type 0 where
   address : ℕ → PlaceSaid

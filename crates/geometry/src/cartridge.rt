@@ -1,5 +1,6 @@
 // The frames of a cartridge: how many, which hold user data, and where the headers stand.
 ghost use mathlib.Core.Path.{_≡_};
+ghost use Prim.Native.Nat.{_+_};
 ghost use Rattle.geometry.specs.Place.{placeSaid};
 ghost use Rattle.geometry.specs.Cartridge.{trackFrames, framesOf, lastOf, isUser, pastReserved, headerAddress};
 use crate::address::Address;
@@ -96,10 +97,11 @@ pub fn is_user(last: Address, a: Address) -> bool
     a.0 <= last.0
 }
 
-// An address moved out of the second header group and the defect map behind it.
-pub fn past_reserved(t: u64) -> u64
-    ensures { λ r. ⌜ r ≡ pastReserved t ⌝ }
+// What stands so much further, moved out of the second header group and the defect map behind it. The sum need not be an address.
+pub fn past_reserved(from: Address, further: u8) -> u64
+    ensures { λ r. ⌜ r ≡ pastReserved (from .0 + further) ⌝ }
 {
+    let t = (from.0 as u64) + (further as u64);
     if t < (SECOND_GROUP as u64) {
         return t;
     }

@@ -1,6 +1,6 @@
 // The refusals of 01, "Refused calls".
 ghost use mathlib.Core.Path.{_≡_};
-ghost use Rattle.geometry.specs.Refused.{refusalNumber};
+ghost use Rattle.geometry.specs.Refusal.{refusalNumber};
 
 pub enum Refusal {
     // 1: a buffer of the wrong length.

@@ -3,12 +3,13 @@ use mathlib.Core.Path.{_≡_}
 use mathlib.Core.List.{List}
 use Prim.Native.Nat.{ℕ}
 use lib.Dec.{lit<, lit≤}
+use Rattle.geometry.specs.declared.address.Address.{Address}
 use Rattle.frame.specs.Sent.{ReadsAs}
 use Rattle.frame.proofs.AsSent.{before16, before32, behind16, behind32}
 use Rattle.header.specs.Valid.{validHeader, updateOf, headerOf}
 
 module _ {sent read : List ℕ} (r : ReadsAs sent read) where
-  pub read-valid : (last : ℕ) → validHeader last read ≡ validHeader last sent
+  pub read-valid : (last : Address) → validHeader last read ≡ validHeader last sent
   unfolding validHeader
   read-valid last =
       rw (

@@ -21,7 +21,7 @@ module _ (h : Header) where
   named : isNamed (headerFrame h) ≡ true
   named = rw (header-name-front h, header-name-back h, header-major h, header-minor h, header-partitions h)
 
-  partition : h .last .0 < 2 ^ 32 → h .pass ≤ 65534 → h .eod .0 < 2 ^ 32 → (eqb (h .eod .0) 0 || isUser (h .last .0) (h .eod .0)) ≡ true → isPartition (h .last .0) (headerFrame h) ≡ true
+  partition : h .last .0 < 2 ^ 32 → h .pass ≤ 65534 → h .eod .0 < 2 ^ 32 → (eqb (h .eod .0) 0 || isUser (h .last .0) (h .eod .0)) ≡ true → isPartition (h .last) (headerFrame h) ≡ true
   partition last pass eod user =
       rw (
         header-partition h,
@@ -46,7 +46,7 @@ module _ (h : Header) where
       let number : getD (headerFrame h) 32788 0 ≡ 0xFF = aux-at (headerFrame h) 20 ∙ ap (λ (x : List ℕ). getD x 20 0) (header-aux h) ∙ aux-partition (headerAux (h .update)) in
       rw (format, kind, number)
 
-  pub built-valid : h .last .0 < 2 ^ 32 → h .pass ≤ 65534 → h .eod .0 < 2 ^ 32 → (eqb (h .eod .0) 0 || isUser (h .last .0) (h .eod .0)) ≡ true → validHeader (h .last .0) (headerFrame h) ≡ true
+  pub built-valid : h .last .0 < 2 ^ 32 → h .pass ≤ 65534 → h .eod .0 < 2 ^ 32 → (eqb (h .eod .0) 0 || isUser (h .last .0) (h .eod .0)) ≡ true → validHeader (h .last) (headerFrame h) ≡ true
   unfolding validHeader
   built-valid last pass eod user = rw (named, partition last pass eod user, aux)
 

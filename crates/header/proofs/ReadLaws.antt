@@ -8,7 +8,7 @@ use borrow.Author.Tests.{eqb-true, eq-eqb}
 use lib.Dec.{eqb}
 use lib.ListN.{length}
 use Rattle.geometry.specs.Place as place
-use Rattle.geometry.specs.Place.{PlaceSaid}
+use Rattle.geometry.specs.Place.{asAddress, PlaceSaid}
 use Rattle.geometry.specs.Cartridge.{lastOf}
 use Rattle.geometry.specs.declared.cartridge.Geometry.{Geometry}
 use Rattle.geometry.proofs.PickLaws.{pick-t, pick-by}
@@ -20,7 +20,7 @@ use Rattle.header.specs.Read.{CheckedSaid, valid, refused, headerOn, hea
 -- what is known of a header that is taken
 pub record Taken (last : ℕ) (h : List ℕ) (fields : Header) : Type 0 where
   pub long : length h ≡ 33280
-  pub is-valid : validHeader last h ≡ true
+  pub is-valid : validHeader (asAddress last) h ≡ true
   pub told : fields ≡ headerOf h
 
 module _ (g : Geometry) (h : List ℕ) where
@@ -39,11 +39,11 @@ module _ (g : Geometry) (h : List ℕ) where
       on (place.refused n) q long = never (cc)
       on (place.address a) q long =
           let same : a ≡ last = cc in
-          pick-by (λ (c : CheckedSaid). c ≡ valid fields → Taken last h fields) (validHeader a h)
-          (λ v x. record { long = long; is-valid = ap (λ (n : ℕ). validHeader n h) (sym same) ∙ v; told = cc })
+          pick-by (λ (c : CheckedSaid). c ≡ valid fields → Taken last h fields) (validHeader (asAddress a) h)
+          (λ v x. record { long = long; is-valid = ap (λ (n : ℕ). validHeader (asAddress n) h) (sym same) ∙ v; told = cc })
           (λ _ x. never (cc))
 
-  pub valid-taken : {last : ℕ} → lastOf g ≡ place.address last → length h ≡ 33280 → validHeader last h ≡ true → readHeader g h ≡ valid (headerOf h)
+  pub valid-taken : {last : ℕ} → lastOf g ≡ place.address last → length h ≡ 33280 → validHeader (asAddress last) h ≡ true → readHeader g h ≡ valid (headerOf h)
   unfolding readHeader headerOn
   valid-taken e long v = pick-t _ (eq-eqb _ _ long) ∙ ap (λ (s : PlaceSaid). headerFor s h) e ∙ pick-t _ v
 
@@ -52,5 +52,5 @@ module _ (g : Geometry) (h : List ℕ) where
   unfolding readHeader headerOn
   refused-number {n} {last} e =
       pick-by (λ (c : CheckedSaid). c ≡ refused n → 1 ≤ n) (eqb (length h) 33280)
-      (λ _ q. pick-by (λ (c : CheckedSaid). c ≡ refused n → 1 ≤ n) (validHeader last h) (λ _ x. never (cc)) (λ _ x. let number : 3 ≡ n = cc in omega arith) (sym (ap (λ (s : PlaceSaid). headerFor s h) e) ∙ q))
+      (λ _ q. pick-by (λ (c : CheckedSaid). c ≡ refused n → 1 ≤ n) (validHeader (asAddress last) h) (λ _ x. never (cc)) (λ _ x. let number : 3 ≡ n = cc in omega arith) (sym (ap (λ (s : PlaceSaid). headerFor s h) e) ∙ q))
       (λ _ q. let number : 1 ≡ n = cc in omega arith)

@@ -4,10 +4,11 @@ use mathlib.Core.List.{List}
 use lib.Dec.{eqb}
 use lib.ListN.{length}
 use Rattle.geometry.specs.Pick.{pick}
-use Rattle.geometry.specs.Refused.{refusalNumber}
+use Rattle.geometry.specs.Refusal.{refusalNumber}
 use Rattle.geometry.specs.Place as place
 use Rattle.geometry.specs.Place.{PlaceSaid}
 use Rattle.geometry.specs.Cartridge.{lastOf}
+use Rattle.geometry.specs.declared.address.Address.{Address}
 use Rattle.geometry.specs.declared.cartridge.Geometry.{Geometry}
 use Rattle.frame.specs.Lengths.{frameLength}
 use Rattle.frame.specs.declared.header.Header.{Header}
@@ -25,12 +26,12 @@ checkedSaid (C.Valid h) = valid h
 checkedSaid (C.Refused r) = refused (refusalNumber r)
 
 -- 3: invalid on a cartridge with this LAST
-unfoldable pub headerOn : ℕ → List ℕ → CheckedSaid
+unfoldable pub headerOn : Address → List ℕ → CheckedSaid
 headerOn last h = pick (validHeader last h) (valid (headerOf h)) (refused 3)
 
 -- 2: the geometry's
 abbrev pub headerFor : PlaceSaid → List ℕ → CheckedSaid
-headerFor (place.address last) h = headerOn last h
+headerFor (place.address last) h = headerOn (place.asAddress last) h
 headerFor (place.refused n) h = refused n
 
 -- 1: its length

@@ -4,7 +4,9 @@ use mathlib.Core.Bool.{Bool, _&&_, _||_}
 use mathlib.Core.List.{List}
 use lib.Dec.{eqb, leb}
 use lib.ListN.{getD}
-use Rattle.geometry.specs.Cartridge.{isUser}
+use Rattle.geometry.specs.Place.{asAddress}
+use Rattle.geometry.specs.Cartridge.{firstUser, isUser}
+use Rattle.geometry.specs.declared.address.Address.{Address}
 use Rattle.buffer.specs.Bytes.{get16, get32}
 use Rattle.frame.specs.Lengths.{dataLength}
 use Rattle.frame.specs.declared.header.Header.{Header}
@@ -17,17 +19,17 @@ isNamed h =
     && eqb (getD h 16 0) 1
 
 -- partition 0, version 1, a pass of at most 65,534, first address 10, LAST, and an EOD address that is 0 or a user frame
-abbrev pub isPartition : ℕ → List ℕ → Bool
+abbrev pub isPartition : Address → List ℕ → Bool
 isPartition last h =
-    eqb (getD h 20 0) 0 && eqb (getD h 21 0) 1 && leb (get16 h 22) 65534 && eqb (get32 h 24) 10 && eqb (get32 h 28) last
-    && (eqb (get32 h 32) 0 || isUser last (get32 h 32))
+    eqb (getD h 20 0) 0 && eqb (getD h 21 0) 1 && leb (get16 h 22) 65534 && eqb (get32 h 24) firstUser && eqb (get32 h 28) (last .0)
+    && (eqb (get32 h 32) 0 || isUser (last .0) (get32 h 32))
 
 -- AUX 0-3 are 0, the type is 08 00, the partition FF
 abbrev pub isHeaderAux : List ℕ → Bool
 isHeaderAux h = eqb (get32 h dataLength) 0 && eqb (get16 h (dataLength + 16)) 0x0800 && eqb (getD h (dataLength + 20) 0) 0xFF
 
 -- valid on a cartridge with this LAST
-unfoldable pub validHeader : ℕ → List ℕ → Bool
+unfoldable pub validHeader : Address → List ℕ → Bool
 validHeader last h = isNamed h && isPartition last h && isHeaderAux h
 
 -- AUX 12-15
@@ -37,8 +39,8 @@ updateOf h = get32 h (dataLength + 12)
 -- what the header tells
 abbrev pub headerOf : List ℕ → Header
 headerOf h = record {
-  last = record { 0 = get32 h 28 };
+  last = asAddress (get32 h 28);
   pass = get16 h 22;
-  eod = record { 0 = get32 h 32 };
+  eod = asAddress (get32 h 32);
   update = updateOf h;
 }

@@ -17,7 +17,7 @@ pub enum Checked {
 
 // On a cartridge with this LAST.
 fn header_on(last: Address, h: &[u8]) -> Checked
-    ensures { λ r. ⌜ checkedSaid r ≡ headerOn (last .0) (now (h .entry)) ⌝ }
+    ensures { λ r. ⌜ checkedSaid r ≡ headerOn last (now (h .entry)) ⌝ }
 {
     if is_valid(last, h) {
         return Checked::Valid(fields(h));

@@ -4,8 +4,13 @@ ghost use Rattle.header.specs.Valid.{isNamed, isPartition, isHeaderAux, 
 use buffer::be16_at;
 use buffer::be32_at;
 use buffer::byte_at;
+use frame::AUX_START;
 use frame::Header;
+use frame::KIND_AT;
+use frame::PARTITION_AT;
+use frame::UPDATE_AT;
 use geometry::Address;
+use geometry::FIRST_USER;
 use geometry::is_user;
 
 fn is_named(h: &[u8]) -> bool
@@ -20,7 +25,7 @@ fn is_named(h: &[u8]) -> bool
 }
 
 fn is_partition(last: Address, h: &[u8]) -> bool
-    ensures { λ r. ⌜ r ≡ isPartition (last .0) (now (h .entry)) ⌝ }
+    ensures { λ r. ⌜ r ≡ isPartition last (now (h .entry)) ⌝ }
 {
     let number = byte_at(h, 20);
     let version = byte_at(h, 21);
@@ -32,7 +37,7 @@ fn is_partition(last: Address, h: &[u8]) -> bool
     (number == 0)
         & (version == 1)
         & (pass <= 65534)
-        & (first == 10)
+        & (first == FIRST_USER)
         & (end == last.0)
         & ((eod == 0) | user)
 }
@@ -40,15 +45,15 @@ fn is_partition(last: Address, h: &[u8]) -> bool
 fn is_header_aux(h: &[u8]) -> bool
     ensures { λ r. ⌜ r ≡ isHeaderAux (now (h .entry)) ⌝ }
 {
-    let format = be32_at(h, 32768);
-    let kind = be16_at(h, 32784);
-    let partition = byte_at(h, 32788);
+    let format = be32_at(h, AUX_START);
+    let kind = be16_at(h, KIND_AT);
+    let partition = byte_at(h, PARTITION_AT as usize);
     (format == 0) & (kind == 0x0800) & (partition == 0xFF)
 }
 
 // Whether a header frame is valid on a cartridge with this LAST.
 pub(crate) fn is_valid(last: Address, h: &[u8]) -> bool
-    ensures { λ r. ⌜ r ≡ validHeader (last .0) (now (h .entry)) ⌝ }
+    ensures { λ r. ⌜ r ≡ validHeader last (now (h .entry)) ⌝ }
 {
     let named = is_named(h);
     let partition = is_partition(last, h);
@@ -64,6 +69,6 @@ pub(crate) fn fields(h: &[u8]) -> Header
         last: Address(be32_at(h, 28)),
         pass: be16_at(h, 22),
         eod: Address(be32_at(h, 32)),
-        update: be32_at(h, 32780),
+        update: be32_at(h, UPDATE_AT),
     }
 }

@@ -3,26 +3,30 @@ ghost use mathlib.Core.Path.{_≡_};
 ghost use lib.Dec.{eqb};
 ghost use lib.ListN.{length, replicate};
 ghost use Rattle.geometry.specs.Pick.{pick};
-ghost use Rattle.geometry.specs.Refused.{verdictNumber};
+ghost use Rattle.geometry.specs.Refusal.{verdictNumber};
 ghost use Rattle.frame.specs.Lengths.{frameLength, dataLength};
 ghost use Rattle.frame.specs.Aux.{headerAux};
 ghost use Rattle.frame.specs.Header.{headerFields, headerData, headerFrame};
-use aux_building::fill_aux;
+use aux_building::build_aux;
 use buffer::clear;
+use buffer::put_be16;
+use buffer::put_be32;
 use frame::DATA_LENGTH;
 use frame::FRAME_LENGTH;
 use frame::Fields;
 use frame::Header;
-use frame::put_be16;
-use frame::put_be32;
 use geometry::Address;
 use geometry::FIRST_USER;
 use geometry::Refusal;
+use geometry::SECOND_USER;
 use geometry::Seq;
 use geometry::Verdict;
 
+// The last address of the second defect map.
+const DEFECT_MAP_END: u32 = SECOND_USER - 1;
+
 // The named data bytes.
-fn fill_fields(front: &mut [u8], h: Header)
+fn fill_header_fields(front: &mut [u8], h: Header)
     requires { ⌜ now front ≡ replicate 36 0 ⌝ }
     ensures { λ _. ⌜ now (front .exit) ≡ headerFields h ⌝ }
 {
@@ -44,11 +48,11 @@ fn fill_header_data(front: &mut [u8], h: Header)
     ensures { λ _. ⌜ now (front .exit) ≡ headerData h ⌝ }
 {
     clear(front);
-    fill_fields(&mut front[..36], h);
+    fill_header_fields(&mut front[..36], h);
 }
 
 // The fields of the header's AUX.
-fn header_fields(update: u32) -> Fields
+fn header_aux(update: u32) -> Fields
     ensures { λ r. ⌜ r ≡ headerAux update ⌝ }
 {
     Fields {
@@ -57,7 +61,7 @@ fn header_fields(update: u32) -> Fields
         partition: 0xFF,
         pass: 0xFFFF,
         first: Address(0),
-        last: Address(2999),
+        last: Address(DEFECT_MAP_END),
         seq: Seq(0),
         entries: 0,
         size: 0,
@@ -72,7 +76,7 @@ fn fill_header(frame: &mut [u8], h: Header)
     ensures { λ _. ⌜ now (frame .exit) ≡ headerFrame h ⌝ }
 {
     fill_header_data(&mut frame[..DATA_LENGTH], h);
-    fill_aux(&mut frame[DATA_LENGTH..], header_fields(h.update));
+    build_aux(&mut frame[DATA_LENGTH..], header_aux(h.update));
 }
 
 // Fills a frame of 33,280 bytes; one of another length is refused with 1 and left alone.

@@ -9,7 +9,7 @@ use Rattle.geometry.specs.Pick.{pick}
 use Rattle.geometry.proofs.PickLaws.{pick-t, pick-f}
 use Rattle.buffer.specs.Bytes.{agree}
 use Rattle.geometry.specs.declared.cartridge.Geometry.{Geometry}
-use Rattle.header.specs.Valid.{updateOf}
+use Rattle.frame.specs.declared.header.Header.{Header}
 use Rattle.header.specs.Read.{CheckedSaid, readHeader}
 use Rattle.header_choice.specs.Choice.{first, second, neither, newerOf, choiceBy, choiceOf}
 
@@ -18,16 +18,16 @@ pub by-checked : (g : Geometry) (a b : List ℕ) {c d : CheckedSaid} → c ≡ r
 unfolding choiceOf
 by-checked g a b e f = rw (e, f)
 
-module _ (a b : List ℕ) where
-  pub higher-first : updateOf b < updateOf a → first ≡ newerOf a b
+module _ (h k : Header) (a b : List ℕ) where
+  pub higher-first : k .update < h .update → first ≡ newerOf h k a b
   unfolding newerOf
-  higher-first h = sym (pick-t _ (lt-ltb _ _ h))
+  higher-first more = sym (pick-t _ (lt-ltb _ _ more))
 
-  pub higher-second : updateOf a < updateOf b → second ≡ newerOf a b
+  pub higher-second : h .update < k .update → second ≡ newerOf h k a b
   unfolding newerOf
-  higher-second h = sym (pick-f _ (le-ltb (updateOf b) (updateOf a) (omega arith)) ∙ pick-t _ (lt-ltb _ _ h))
+  higher-second more = sym (pick-f _ (le-ltb (k .update) (h .update) (omega arith)) ∙ pick-t _ (lt-ltb _ _ more))
 
-  pub equal-counts : updateOf a ≡ updateOf b → pick (agree (take 32768 a) (take 32768 b)) first (neither 3) ≡ newerOf a b
+  pub equal-counts : h .update ≡ k .update → pick (agree (take 32768 a) (take 32768 b)) first (neither 3) ≡ newerOf h k a b
   unfolding newerOf
-  equal-counts h =
-      sym (pick-f _ (le-ltb (updateOf b) (updateOf a) (omega arith)) ∙ pick-f _ (le-ltb (updateOf a) (updateOf b) (omega arith)))
+  equal-counts same =
+      sym (pick-f _ (le-ltb (k .update) (h .update) (omega arith)) ∙ pick-f _ (le-ltb (h .update) (k .update) (omega arith)))

@@ -6,13 +6,13 @@ use denote.Ref.{RefT, now}
 use lib.Dec.{eqb, ltb}
 use lib.ListN.{take}
 use Rattle.geometry.specs.Pick.{pick}
-use Rattle.geometry.specs.Refused.{refusalNumber}
+use Rattle.geometry.specs.Refusal.{refusalNumber}
 use Rattle.geometry.specs.declared.cartridge.Geometry.{Geometry}
 use Rattle.frame.specs.Lengths.{dataLength}
+use Rattle.frame.specs.declared.header.Header.{Header}
 use Rattle.buffer.specs.Bytes.{agree}
 use Rattle.header_choice.specs.declared.Choice.{Choice}
 use Rattle.header_choice.specs.declared.Choice.the-variants.{First, Second, Refused}
-use Rattle.header.specs.Valid.{updateOf}
 use Rattle.header.specs.Read.{CheckedSaid, valid, refused, readHeader}
 
 pub data ChoiceSaid : Type 0 where
@@ -27,10 +27,10 @@ choiceSaid Second = second
 choiceSaid (Refused r) = neither (refusalNumber r)
 
 -- of two valid ones that with the higher update count; equal counts give the first if all 32,768 data bytes agree, else refusal 3
-unfoldable pub newerOf : List ℕ → List ℕ → ChoiceSaid
-newerOf a b =
-    pick (ltb (updateOf b) (updateOf a)) first
-    (pick (ltb (updateOf a) (updateOf b)) second
+unfoldable pub newerOf : Header → Header → List ℕ → List ℕ → ChoiceSaid
+newerOf h k a b =
+    pick (ltb (k .update) (h .update)) first
+    (pick (ltb (h .update) (k .update)) second
     (pick (agree (take dataLength a) (take dataLength b)) first (neither 3)))
 
 -- an invalid one gives way to a valid one; a wrong length or geometry stands
@@ -42,7 +42,7 @@ abbrev pub lowerOf : ℕ → ℕ → ℕ
 lowerOf m n = pick (ltb n m) n m
 
 abbrev pub choiceBy : CheckedSaid → CheckedSaid → List ℕ → List ℕ → ChoiceSaid
-choiceBy (valid h) (valid k) a b = newerOf a b
+choiceBy (valid h) (valid k) a b = newerOf h k a b
 choiceBy (valid h) (refused n) a b = givesWay n first
 choiceBy (refused m) (valid k) a b = givesWay m second
 choiceBy (refused m) (refused n) a b = neither (lowerOf m n)

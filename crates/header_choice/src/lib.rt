@@ -2,11 +2,11 @@
 ghost use mathlib.Core.Path.{_≡_};
 ghost use lib.ListN.{length};
 ghost use Rattle.frame.specs.Lengths.{frameLength};
-ghost use Rattle.geometry.specs.Refused.{refusalNumber, verdictNumber};
+ghost use Rattle.geometry.specs.Refusal.{refusalNumber, verdictNumber};
 ghost use Rattle.header_choice.specs.Choice.{choiceSaid, newerOf, givesWay, lowerOf, choiceOf, choiceNumber, Returned};
 use buffer::agrees;
-use buffer::be32_at;
 use frame::DATA_LENGTH;
+use frame::Header;
 use geometry::Geometry;
 use geometry::Refusal;
 use geometry::Verdict;
@@ -20,18 +20,16 @@ pub enum Choice {
     Refused(Refusal),
 }
 
-// Of two valid headers.
-fn newer(first: &[u8], second: &[u8]) -> Choice
+// Of two valid headers, with what was read of each.
+fn newer(one: Header, other: Header, first: &[u8], second: &[u8]) -> Choice
     requires { ⌜ length (now first) ≡ frameLength ⌝ }
     requires { ⌜ length (now second) ≡ frameLength ⌝ }
-    ensures { λ r. ⌜ choiceSaid r ≡ newerOf (now (first .entry)) (now (second .entry)) ⌝ }
+    ensures { λ r. ⌜ choiceSaid r ≡ newerOf one other (now (first .entry)) (now (second .entry)) ⌝ }
 {
-    let m = be32_at(first, 32780);
-    let n = be32_at(second, 32780);
-    if n < m {
+    if other.update < one.update {
         return Choice::First;
     }
-    if m < n {
+    if one.update < other.update {
         return Choice::Second;
     }
     if agrees(&first[..DATA_LENGTH], &second[..DATA_LENGTH]) {
@@ -67,8 +65,8 @@ pub fn decide(g: Geometry, first: &[u8], second: &[u8]) -> Choice
     let one = read_header(g, first);
     let other = read_header(g, second);
     match one {
-        Checked::Valid(_) => match other {
-            Checked::Valid(_) => newer(first, second),
+        Checked::Valid(h) => match other {
+            Checked::Valid(k) => newer(h, k, first, second),
             Checked::Refused(r) => give_way(r, Choice::First),
         },
         Checked::Refused(r) => match other {

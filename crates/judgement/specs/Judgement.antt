@@ -5,7 +5,8 @@ use mathlib.Core.List.{List}
 use lib.Dec.{eqb, ltb}
 use lib.ListN.{length, getD, take, drop}
 use Rattle.geometry.specs.Pick.{pick}
-use Rattle.geometry.specs.Refused.{refusalNumber}
+use Rattle.geometry.specs.Refusal.{refusalNumber}
+use Rattle.geometry.specs.Place.{asAddress}
 use Rattle.buffer.specs.Bytes.{get16, get32, agree}
 use Rattle.frame.specs.Aux.{typeOf, auxBytes, elementAux}
 use Rattle.frame.specs.declared.element.Element.{Element}
@@ -44,7 +45,7 @@ expectedElement k told expected = record {
   last = told .last;
   seq = expected;
   filemarks = 0;
-  marker = record { 0 = 0 };
+  marker = asAddress 0;
 }
 
 -- bytes a to e - 1 of a list

@@ -1,6 +1,7 @@
 // A frame that was read is skipped, refused, or the next element or the end.
 ghost use mathlib.Core.Path.{_≡_};
 ghost use lib.ListN.{length};
+ghost use Rattle.frame.specs.Lengths.{auxLength};
 ghost use Rattle.judgement.specs.Judgement.{judgementSaid, expectedElement, judgeNumber, judgeKind, judgeType, judgeAux, judgeFrame};
 use crate::table::as_table;
 use crate::told::Told;
@@ -41,7 +42,7 @@ fn expected_element(k: Kind, told: Told, expected: Seq) -> Element
 
 // A frame of this pass whose type is k.
 fn judge_number(k: Kind, told: Told, expected: Seq, aux: &[u8]) -> Judgement
-    requires { ⌜ length (now aux) ≡ 512 ⌝ }
+    requires { ⌜ length (now aux) ≡ auxLength ⌝ }
     ensures { λ r. ⌜ judgementSaid r ≡ judgeNumber k told expected (now (aux .entry)) ⌝ }
 {
     let n = be32_at(aux, 44);
@@ -59,7 +60,7 @@ fn judge_number(k: Kind, told: Told, expected: Seq, aux: &[u8]) -> Judgement
 
 // A frame whose type is k.
 fn judge_kind(k: Kind, told: Told, expected: Seq, aux: &[u8]) -> Judgement
-    requires { ⌜ length (now aux) ≡ 512 ⌝ }
+    requires { ⌜ length (now aux) ≡ auxLength ⌝ }
     ensures { λ r. ⌜ judgementSaid r ≡ judgeKind k told expected (now (aux .entry)) ⌝ }
 {
     let partition = byte_at(aux, 20);
@@ -75,7 +76,7 @@ fn judge_kind(k: Kind, told: Told, expected: Seq, aux: &[u8]) -> Judgement
 
 // A frame whose AUX 0-3 are 0.
 fn judge_type(told: Told, expected: Seq, aux: &[u8]) -> Judgement
-    requires { ⌜ length (now aux) ≡ 512 ⌝ }
+    requires { ⌜ length (now aux) ≡ auxLength ⌝ }
     ensures { λ r. ⌜ judgementSaid r ≡ judgeType told expected (now (aux .entry)) ⌝ }
 {
     let t = be16_at(aux, 16);
@@ -88,7 +89,7 @@ fn judge_type(told: Told, expected: Seq, aux: &[u8]) -> Judgement
 }
 
 fn judge_aux(told: Told, expected: Seq, aux: &[u8]) -> Judgement
-    requires { ⌜ length (now aux) ≡ 512 ⌝ }
+    requires { ⌜ length (now aux) ≡ auxLength ⌝ }
     ensures { λ r. ⌜ judgementSaid r ≡ judgeAux told expected (now (aux .entry)) ⌝ }
 {
     let format = be32_at(aux, 0);

@@ -9,7 +9,7 @@ use lib.Dec.{eqb}
 use lib.ListN.{length}
 use Rattle.geometry.proofs.PickLaws.{pick-t, pick-f}
 use Rattle.geometry.proofs.TestLaws.{either-right}
-use Rattle.geometry.specs.Place.{address, refused}
+use Rattle.geometry.specs.Place.{asAddress, address, refused}
 use Rattle.geometry.specs.Cartridge.{lastOf}
 use Rattle.geometry.specs.declared.cartridge.Geometry.{Geometry}
 use Rattle.frame.specs.Lengths.{frameLength}
@@ -62,7 +62,7 @@ open-4 g depth window header old h k = rw h (fitting-4 depth window (isExhausted
 
 pub blank-4 : (g : Geometry) (depth window last : ℕ) → lastOf g ≡ address last → (255 < depth) ⊎ (255 < window) → openBlankOf g (fittingOf depth) (fittingOf window) ≡ openRefused 4
 unfolding openBlankOf
-blank-4 g depth window last h k = rw h (fitting-4 depth window false (openingHeader last 1 0) (unfitting depth window k))
+blank-4 g depth window last h k = rw h (fitting-4 depth window false (openingHeader (asAddress last) 1 0) (unfitting depth window k))
 
 reply-meaningless : (r : AdrReply) → 255 < r .skip → asReply r ≡ meaningless
 unfolding asReply

@@ -1,6 +1,6 @@
 // What a call answers, by number: one number for one meaning in every call.
 ghost use mathlib.Core.Path.{_≡_};
-ghost use Rattle.geometry.specs.Refused.{verdictNumber};
+ghost use Rattle.geometry.specs.Refusal.{verdictNumber};
 use geometry::Verdict;
 use geometry::number;
 

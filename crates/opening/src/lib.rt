@@ -1,6 +1,6 @@
 // Opening a recording session. The public calls are the methods of `recording`.
 ghost use mathlib.Core.Path.{_≡_};
-ghost use Rattle.geometry.specs.Refused.{refusalNumber};
+ghost use Rattle.geometry.specs.Refusal.{refusalNumber};
 ghost use Rattle.recording_state.specs.State.{outcomeSaid};
 ghost use Rattle.recording_state.specs.Open.{fresh, openRefused, openWith, openOf, openBlankOf};
 use carried_headers::blank_header;

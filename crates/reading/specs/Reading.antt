@@ -1,5 +1,5 @@
 -- What the public calls return, in the terms of the definitions over the session's state.
-use Rattle.geometry.specs.Refused.{verdictNumber}
+use Rattle.geometry.specs.Refusal.{verdictNumber}
 use Rattle.reading_state.specs.Open.{OpenedSaid}
 use Rattle.reading_state.specs.Fetch.{FetchedSaid, answerSaid}
 use Rattle.reading_state.specs.Reply.{TakenSaid, deliverySaid}

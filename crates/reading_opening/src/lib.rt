@@ -1,10 +1,11 @@
 // Opening a reading session. The public calls are the methods of `reading`.
 ghost use mathlib.Core.Path.{_≡_};
-ghost use Rattle.geometry.specs.Refused.{refusalNumber};
+ghost use Rattle.geometry.specs.Refusal.{refusalNumber};
 ghost use Rattle.reading_state.specs.Open.{openedSaid, toldOf, fresh, openRefused, openOf};
 use drive::Exchange;
 use frame::Header;
 use geometry::Address;
+use geometry::FIRST_USER;
 use geometry::Geometry;
 use geometry::Refusal;
 use geometry::Seq;
@@ -21,7 +22,7 @@ fn fresh_session(told: Told) -> State
 {
     State {
         told: told,
-        next: Address(10),
+        next: Address(FIRST_USER),
         locate: true,
         expected: Seq(0),
         exchange: Exchange::unsent(),

@@ -5,7 +5,7 @@ use mathlib.Core.List.{List}
 use lib.Dec.{eqb}
 use lib.ListN.{length}
 use Rattle.geometry.specs.Pick.{pick}
-use Rattle.geometry.specs.Refused.{refusalNumber}
+use Rattle.geometry.specs.Refusal.{refusalNumber}
 use Rattle.geometry.specs.Cartridge.{pastReserved}
 use Rattle.geometry.specs.declared.address.Address.{Address}
 use Rattle.frame.specs.Lengths.{frameLength}

@@ -1,7 +1,7 @@
 // What a reply changes, and what it is answered: a step for each case that `reading_replying` tells apart.
 ghost use mathlib.Core.Path.{_≡_};
 ghost use Prim.Native.Nat.{_%_, _^_};
-ghost use Rattle.geometry.specs.Refused.{refusalNumber};
+ghost use Rattle.geometry.specs.Refusal.{refusalNumber};
 ghost use Rattle.reading_state.specs.Reply.{deliverySaid, takenSaid, answering, refusing, ending, repeatedOf, movedOf, advancedOf, locatedOf, skippedOf, deliveredOf, finishedOf, jumpedOf};
 use crate::state::Delivery;
 use crate::state::State;
@@ -115,7 +115,7 @@ impl State {
     {
         let exchange = self.exchange;
         let c = exchange.command;
-        let next = wrapped(past_reserved((address(c).0 as u64) + 32));
+        let next = wrapped(past_reserved(address(c), 32));
         self.moved(next, true).taken(Delivery::Nothing)
     }
 }

@@ -1,7 +1,7 @@
 -- What the public calls return, in the terms of the definitions over the session's state.
 use Prim.Native.Nat.{ℕ}
 use mathlib.Core.List.{List}
-use Rattle.geometry.specs.Refused.{verdictNumber}
+use Rattle.geometry.specs.Refusal.{verdictNumber}
 use Rattle.recording_state.specs.State.{OutcomeSaid}
 use Rattle.recording_state.specs.Accept.{StoredSaid}
 use Rattle.recording_state.specs.Fetch.{FetchedSaid, answerSaid}

@@ -1,7 +1,7 @@
 -- 01, "A recording session": which command is due, by stage.
 use Prim.Native.Nat.{ℕ}
 use Rattle.geometry.specs.Pick.{pick}
-use Rattle.geometry.specs.Refused.{refusalNumber}
+use Rattle.geometry.specs.Refusal.{refusalNumber}
 use Rattle.drive.specs.Command.{commandFor}
 use Rattle.drive.specs.declared.command.Command.{Command}
 use Rattle.copies.specs.Copies as copies

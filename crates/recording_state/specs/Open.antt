@@ -33,7 +33,7 @@ fresh depth highest h = record {
 
 -- a refused opening returns this session, which is ended
 abbrev pub blankSession : State
-blankSession = fresh 0 0 (openingHeader 0 0 0)
+blankSession = fresh 0 0 (openingHeader (asAddress 0) 0 0)
 
 abbrev pub openRefused : ℕ → OutcomeSaid
 openRefused n = ending blankSession n
@@ -55,7 +55,7 @@ openOf g depth window h = openFor (readHeader g h) depth window
 
 -- on none: pass 1 and update count 0
 abbrev pub openBlankFor : PlaceSaid → ℕ → ℕ → OutcomeSaid
-openBlankFor (place.address last) depth window = openWith depth window false (openingHeader last 1 0)
+openBlankFor (place.address last) depth window = openWith depth window false (openingHeader (asAddress last) 1 0)
 openBlankFor (place.refused n) depth window = openRefused n
 
 unfoldable pub openBlankOf : Geometry → ℕ → ℕ → OutcomeSaid

@@ -3,7 +3,7 @@ use Prim.Native.Nat.{ℕ, _+_, _*_}
 use mathlib.Core.Bool.{true}
 use lib.Dec.{ltb}
 use Rattle.geometry.specs.Pick.{pick}
-use Rattle.geometry.specs.Refused.{verdictNumber}
+use Rattle.geometry.specs.Refusal.{verdictNumber}
 use Rattle.frame.specs.Lengths.{dataLength}
 use Rattle.frame.specs.declared.header.Header.{Header}
 use Rattle.drive.specs.declared.exchange.Exchange.{Exchange}

@@ -1,6 +1,6 @@
 // The state of a session, what its calls return, and the steps that several of them take.
 ghost use mathlib.Core.Path.{_≡_};
-ghost use Rattle.geometry.specs.Refused.{refusalNumber};
+ghost use Rattle.geometry.specs.Refusal.{refusalNumber};
 ghost use Rattle.recording_state.specs.Reply.{completedOf};
 ghost use Rattle.recording_state.specs.State.{followingOf, windowOf, outcomeSaid, accepting, refusing, ending, eodDue, closingStarted, settledOf};
 use carried_headers::closing_header;

@@ -19,7 +19,7 @@ fn step(skip: u8) -> u8
 fn target_number(p: Address, skip: u8) -> u64
     ensures { λ r. ⌜ r ≡ targetAddress p skip ⌝ }
 {
-    past_reserved((p.0 as u64) + (step(skip) as u64))
+    past_reserved(p, step(skip))
 }
 
 // The same as an address. No cartridge has so many frames that the remainder changes it.

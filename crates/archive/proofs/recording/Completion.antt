@@ -8,7 +8,7 @@ use native.Mathlib.Omega.{arith}
 use borrow.Author.Tests.{eqb-true}
 use lib.Dec.{eqb}
 use lib.ListN.{length}
-use Rattle.geometry.specs.Place.{address}
+use Rattle.geometry.specs.Place.{asAddress, address}
 use Rattle.geometry.specs.Cartridge.{isUser, lastOf}
 use Rattle.geometry.proofs.TestLaws.{or-true}
 use Rattle.geometry.proofs.Impossible.{never}
@@ -57,10 +57,10 @@ module _ {last pass spare : ℕ} (set : Setting last pass) (h : Header) (c : Car
   pass-low = omega (arith, c .pass-is, set .low)
 
   module _ {f : List ℕ} (r : ReadsAs (headerFrame h) f) where
-    pub copy-valid : validHeader last f ≡ true
+    pub copy-valid : validHeader (asAddress last) f ≡ true
     copy-valid =
-        read-valid r last
-        ∙ subst (λ (n : ℕ). validHeader n (headerFrame h) ≡ true) (c .last-is)
+        read-valid r (asAddress last)
+        ∙ subst (λ (n : ℕ). validHeader (asAddress n) (headerFrame h) ≡ true) (c .last-is)
         (built-valid h last-small pass-low eod-small (subst (λ (n : ℕ). (eqb (h .eod .0) 0 || isUser n (h .eod .0)) ≡ true) (sym (c .last-is)) (c .eod-fits)))
 
     pub copy-update : updateOf f ≡ h .update

@@ -9,7 +9,7 @@ use native.Mathlib.Omega.{arith}
 use borrow.Author.Tests.{ltb-false, leb-false}
 use lib.Dec.{eqb, ltb, leb}
 use lib.ListN.{length-replicate}
-use Rattle.geometry.specs.Place.{PlaceSaid, address, refused}
+use Rattle.geometry.specs.Place.{asAddress, PlaceSaid, address, refused}
 use Rattle.geometry.specs.Cartridge.{lastOf, isUser}
 use Rattle.geometry.specs.declared.cartridge.Geometry.{Geometry}
 use Rattle.geometry.proofs.PickLaws.{pick-by}
@@ -72,7 +72,7 @@ opened-with depth blocks exhausted h s =
 
 module _ (g : Geometry) (last depth blocks : ℕ) (s : State) (e : lastOf g ≡ address last) where
   pub record OnHeader (h : List ℕ) : Type 0 where
-    pub valid : validHeader last h ≡ true
+    pub valid : validHeader (asAddress last) h ≡ true
     pub with : (fresh depth (blocks - 1) (renewed (headerOf h)) ≡ s) × (blocks ≤ 64) × (isExhausted (headerOf h) ≡ false)
 
   on-header-view : (h : List ℕ) → openOf g depth blocks h ≡ accepting s → OnHeader h
@@ -110,9 +110,9 @@ module _ (g : Geometry) (last depth blocks : ℕ) (s : State) (e : lastOf g ≡ 
         count-fits = let y = x .1 in omega (arith, few);
       }
 
-  blank-with : openBlankOf g depth blocks ≡ accepting s → (fresh depth (blocks - 1) (openingHeader last 1 0) ≡ s) × (blocks ≤ 64) × (false ≡ false)
+  blank-with : openBlankOf g depth blocks ≡ accepting s → (fresh depth (blocks - 1) (openingHeader (asAddress last) 1 0) ≡ s) × (blocks ≤ 64) × (false ≡ false)
   unfolding openBlankOf
-  blank-with q = opened-with depth blocks false (openingHeader last 1 0) s (sym (ap (λ (y : PlaceSaid). openBlankFor y depth blocks) e) ∙ q)
+  blank-with q = opened-with depth blocks false (openingHeader (asAddress last) 1 0) s (sym (ap (λ (y : PlaceSaid). openBlankFor y depth blocks) e) ∙ q)
 
   started-none : openBlankOf g depth blocks ≡ accepting s → Started last s
   started-none q =
@@ -120,7 +120,7 @@ module _ (g : Geometry) (last depth blocks : ℕ) (s : State) (e : lastOf g ≡ 
       record {
         depth = depth;
         highest = blocks - 1;
-        header = openingHeader last 1 0;
+        header = openingHeader (asAddress last) 1 0;
         is = o .0;
         narrow = let y = o .1 in omega arith;
         last-is = refl;

@@ -291,7 +291,7 @@ module _ (b : List ℕ) (full : length b ≡ 32768) where
   first-readable = first-promised .readable first-on-none first-bears-none refl refl
 
 -- the newest header of the cartridge as left
-pub first-valid : validHeader 11999 (headerFrame firstClosing) ≡ true
+pub first-valid : validHeader (asAddress 11999) (headerFrame firstClosing) ≡ true
 first-valid = built-valid firstClosing (lit< tt) (lit≤ tt) (lit< tt) refl
 
 pub first-newest : (b : List ℕ) → Newest 11999 (firstLeft b .tape) (headerFrame firstClosing)

@@ -231,7 +231,7 @@ module _ (t : Tape) (place : ℕ) (deliveries : List Element) (n : ℕ) (pass : 
 -- ---- the opening
 
 -- whatever AUX 4 to 11 hold
-pub reading-opened : (h : Header) → h .last .0 ≡ 11999 → h .pass < 2 ^ 16 → validHeader 11999 (headerFrame h) ≡ true
+pub reading-opened : (h : Header) → h .last .0 ≡ 11999 → h .pass < 2 ^ 16 → validHeader (asAddress 11999) (headerFrame h) ≡ true
     → openOf geometry (headerFrame h) ≡ record { session = fresh (telling 11999 (h .pass)); number = 0 }
 unfolding openOf
 reading-opened h last small valid =

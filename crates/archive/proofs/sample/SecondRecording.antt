@@ -231,7 +231,7 @@ module _ (b : List ℕ) (full : length b ≡ 32768) where
   second-readable = second-promised .readable (first-newest b) (second-bears-none b full) refl refl
 
 -- the newest header of the cartridge as left
-pub second-valid : validHeader 11999 (headerFrame secondClosing) ≡ true
+pub second-valid : validHeader (asAddress 11999) (headerFrame secondClosing) ≡ true
 second-valid = built-valid secondClosing (lit< tt) (lit≤ tt) (lit< tt) refl
 
 pub second-newest : (b : List ℕ) → Newest 11999 (secondLeft b .tape) (headerFrame secondClosing)

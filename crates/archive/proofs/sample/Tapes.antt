@@ -9,6 +9,7 @@ use native.Mathlib.Decide.{ℕ-discrete}
 use native.Mathlib.Nat.{le-refl}
 use native.Mathlib.Omega.{arith}
 use lib.ListN.{length, drop, replicate}
+use Rattle.geometry.specs.Place.{asAddress}
 use Rattle.geometry.specs.Cartridge.{isHeader}
 use Rattle.buffer.specs.Bytes.{get16}
 use Rattle.frame.specs.Aux.{elementAux}
@@ -96,7 +97,7 @@ module _ (h : Header) (d : Drive) where
       (run-cartridge (headerFrame h) last 5 (d .tape) 5 (d .written) (header-length h) (omega arith) c)
 
   -- the copies are newest headers, the one at 5 for instance
-  pub headers-newest : (last : ℕ) → validHeader last (headerFrame h) ≡ true → Newest last (headersWritten h d .tape) (headerFrame h)
+  pub headers-newest : (last : ℕ) → validHeader (asAddress last) (headerFrame h) ≡ true → Newest last (headersWritten h d .tape) (headerFrame h)
   headers-newest last valid = record {
     address = 5;
     here = record { group = refl; reads = headers-read 5 refl; valid = valid };

@@ -132,19 +132,19 @@ slice-write-aux-2 : tie.Need-slice-write-aux-2
 slice-write-aux-2 c = rw (bytes-kind (c .before .before)) (lit< tt)
 
 put-be16-requires-2 : tie.Need-put-be16-requires-2
-put-be16-requires-2 c κs = rw (bytes-kind (c .before .before .before)) (lit≤ tt)
+put-be16-requires-2 c κs = search needs
 
 put-be32-requires-2 : tie.Need-put-be32-requires-2
-put-be32-requires-2 c κs = rw (bytes-pass (c .before .before .before)) (lit≤ tt)
+put-be32-requires-2 c κs = search needs
 
 put-be32-requires-3 : tie.Need-put-be32-requires-3
-put-be32-requires-3 c κs = rw (bytes-first (c .before .before .before)) (lit≤ tt)
+put-be32-requires-3 c κs = search needs
 
 put-be32-requires-4 : tie.Need-put-be32-requires-4
-put-be32-requires-4 c κs = rw (bytes-last (c .before .before .before)) (lit≤ tt)
+put-be32-requires-4 c κs = search needs
 
 put-be32-requires-5 : tie.Need-put-be32-requires-5
-put-be32-requires-5 c κs = rw (bytes-seq (c .before .before .before)) (lit≤ tt)
+put-be32-requires-5 c κs = search needs
 
 sub-build-access-table : tie.Need-sub-build-access-table
 sub-build-access-table c = search needs
@@ -159,16 +159,13 @@ build-access-table-requires : tie.Need-build-access-table-requires
 build-access-table-requires c κs = search needs
 
 put-be32-requires-6 : tie.Need-put-be32-requires-6
-unfolding accessBytes
-put-be32-requires-6 c κs = rw (bytes-block (c .before .before .before .before .before .before .before), c .before .before .before .build-access-table .ensures) (lit≤ tt)
+put-be32-requires-6 c κs = search needs
 
 put-be32-requires-7 : tie.Need-put-be32-requires-7
-unfolding accessBytes
-put-be32-requires-7 c κs = rw (bytes-filemarks (c .before .before .before)) (lit≤ tt)
+put-be32-requires-7 c κs = search needs
 
 put-be32-requires-8 : tie.Need-put-be32-requires-8
-unfolding accessBytes
-put-be32-requires-8 c κs = rw (bytes-unused (c .before .before .before)) (lit≤ tt)
+put-be32-requires-8 c κs = search needs
 
 same-length : tie.Need-same-length
 unfolding accessBytes

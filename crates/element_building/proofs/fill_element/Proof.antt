@@ -1,5 +1,6 @@
 -- The two parts are filled one after the other. Assumes nothing.
 use borrow.Author.Needs.{needs}
+use borrow.Author.Tests.{eq-eqb}
 use native.Mathlib.Nat.{le-refl}
 use mathlib.Core.Path.{_≡_, ap, sym, _∙_}
 use mathlib.Core.List.{List, _++_}
@@ -7,6 +8,7 @@ use Prim.Native.Nat.{ℕ}
 use denote.Ref.{now}
 use lib.ListN.{length, take, drop}
 use lib.Seq.{length-take-le, length-front}
+use Rattle.geometry.proofs.PickLaws.{pick-t}
 use Rattle.frame.specs.Aux.{auxBytes}
 use Rattle.frame.specs.Frame.{elementFrame}
 use Rattle.frame.proofs.Frames.{holds-front, rest-length, fits-length, fits-block}
@@ -40,20 +42,20 @@ fill-data-requires c κs =
     let s = c .before .before .before in
     (front c, fits-block (s .args .e .kind) (length (s .args .frame .now)) (length (now (s .args .block))) (s .pre))
 
-sub-fill-aux : tie.Need-sub-fill-aux
-sub-fill-aux c = holds-front (kept (c .before .before))
+sub-build-aux : tie.Need-sub-build-aux
+sub-build-aux c = holds-front (kept (c .before .before))
 
-part-fill-aux-start : tie.Need-part-fill-aux-start
-part-fill-aux-start c = holds-front (kept (c .before .before))
+part-build-aux-start : tie.Need-part-build-aux-start
+part-build-aux-start c = holds-front (kept (c .before .before))
 
-part-fill-aux-end : tie.Need-part-fill-aux-end
-part-fill-aux-end c = le-refl _
+part-build-aux-end : tie.Need-part-build-aux-end
+part-build-aux-end c = le-refl _
 
-element-fields-requires : tie.Need-element-fields-requires
-element-fields-requires c κs = search needs
+element-aux-requires : tie.Need-element-aux-requires
+element-aux-requires c κs = search needs
 
-fill-aux-requires : tie.Need-fill-aux-requires
-fill-aux-requires c κs = rest-length (frontIn (c .before .before .before .before)) (kept (c .before .before .before .before))
+build-aux-requires : tie.Need-build-aux-requires
+build-aux-requires c κs = search needs
 
 same-length : tie.Need-same-length
 same-length c = search needs
@@ -63,7 +65,7 @@ unfolding elementFrame
 returns c =
     let filled = c .before .before .before .before .before .before .before in
     let fields = c .before .before .before in
-    tail-filled 32768 (drop 32768 (filled .before .before .before .before .args .frame .now)) (filled .fill-data .kept .0 ∙ front (filled .before)) (filled .fill-data .ensures) (c .before .before .fill-aux .ensures ∙ ap auxBytes (fields .element-fields .ensures))
+    tail-filled 32768 (drop 32768 (filled .before .before .before .before .args .frame .now)) (filled .fill-data .kept .0 ∙ front (filled .before)) (filled .fill-data .ensures) (c .before .before .build-aux .ensures .1 ∙ pick-t _ (eq-eqb _ 512 (rest-length (frontIn filled) (kept filled))) ∙ ap auxBytes (fields .element-aux .ensures))
 
 pub fill-element-spec : {M : Type 1} → statement M
 fill-element-spec =
@@ -72,10 +74,10 @@ fill-element-spec =
     slice-relend-prefix-fill-data
     slice-aggregate-fill-data
     fill-data-requires
-    sub-fill-aux
-    part-fill-aux-start
-    part-fill-aux-end
-    element-fields-requires
-    fill-aux-requires
+    sub-build-aux
+    part-build-aux-start
+    part-build-aux-end
+    element-aux-requires
+    build-aux-requires
     same-length
     returns)

@@ -1,11 +1,13 @@
 -- The two parts are filled one after the other. Assumes nothing.
 use borrow.Author.Needs.{needs}
+use borrow.Author.Tests.{eq-eqb}
 use native.Mathlib.Nat.{le-refl}
 use mathlib.Core.Path.{_≡_, ap, sym, _∙_}
 use mathlib.Core.List.{List, _++_}
 use Prim.Native.Nat.{ℕ}
 use lib.ListN.{length, take, drop}
 use lib.Seq.{length-take-le, length-front}
+use Rattle.geometry.proofs.PickLaws.{pick-t}
 use Rattle.frame.specs.Aux.{auxBytes}
 use Rattle.frame.specs.Header.{headerFrame}
 use Rattle.frame.proofs.Frames.{holds-front, rest-length}
@@ -34,20 +36,20 @@ slice-aggregate-fill-header-data c = sym (front c)
 fill-header-data-requires : tie.Need-fill-header-data-requires
 fill-header-data-requires c κs = front c
 
-sub-fill-aux : tie.Need-sub-fill-aux
-sub-fill-aux c = holds-front (kept (c .before .before))
+sub-build-aux : tie.Need-sub-build-aux
+sub-build-aux c = holds-front (kept (c .before .before))
 
-part-fill-aux-start : tie.Need-part-fill-aux-start
-part-fill-aux-start c = holds-front (kept (c .before .before))
+part-build-aux-start : tie.Need-part-build-aux-start
+part-build-aux-start c = holds-front (kept (c .before .before))
 
-part-fill-aux-end : tie.Need-part-fill-aux-end
-part-fill-aux-end c = le-refl _
+part-build-aux-end : tie.Need-part-build-aux-end
+part-build-aux-end c = le-refl _
 
-header-fields-requires : tie.Need-header-fields-requires
-header-fields-requires c κs = search needs
+header-aux-requires : tie.Need-header-aux-requires
+header-aux-requires c κs = search needs
 
-fill-aux-requires : tie.Need-fill-aux-requires
-fill-aux-requires c κs = rest-length (frontIn (c .before .before .before .before)) (kept (c .before .before .before .before))
+build-aux-requires : tie.Need-build-aux-requires
+build-aux-requires c κs = search needs
 
 same-length : tie.Need-same-length
 same-length c = search needs
@@ -57,7 +59,7 @@ unfolding headerFrame
 returns c =
     let filled = c .before .before .before .before .before .before .before in
     let fields = c .before .before .before in
-    tail-filled 32768 (drop 32768 (filled .before .before .before .args .frame .now)) (filled .fill-header-data .kept .0 ∙ front (filled .before)) (filled .fill-header-data .ensures) (c .before .before .fill-aux .ensures ∙ ap auxBytes (fields .header-fields .ensures))
+    tail-filled 32768 (drop 32768 (filled .before .before .before .args .frame .now)) (filled .fill-header-data .kept .0 ∙ front (filled .before)) (filled .fill-header-data .ensures) (c .before .before .build-aux .ensures .1 ∙ pick-t _ (eq-eqb _ 512 (rest-length (frontIn filled) (kept filled))) ∙ ap auxBytes (fields .header-aux .ensures))
 
 pub fill-header-spec : {M : Type 1} → statement M
 fill-header-spec =
@@ -66,10 +68,10 @@ fill-header-spec =
     slice-relend-prefix-fill-header-data
     slice-aggregate-fill-header-data
     fill-header-data-requires
-    sub-fill-aux
-    part-fill-aux-start
-    part-fill-aux-end
-    header-fields-requires
-    fill-aux-requires
+    sub-build-aux
+    part-build-aux-start
+    part-build-aux-end
+    header-aux-requires
+    build-aux-requires
     same-length
     returns)

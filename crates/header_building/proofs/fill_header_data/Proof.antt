@@ -19,14 +19,14 @@ before-fields c = ap (λ (x : List ℕ). take 36 x) (zeroed c) ∙ blank-before
 clear-requires : tie.Need-clear-requires
 clear-requires c κs = search needs
 
-slice-relend-prefix-fill-fields : tie.Need-slice-relend-prefix-fill-fields
-slice-relend-prefix-fill-fields c = search needs
+slice-relend-prefix-fill-header-fields : tie.Need-slice-relend-prefix-fill-header-fields
+slice-relend-prefix-fill-header-fields c = search needs
 
-slice-aggregate-fill-fields : tie.Need-slice-aggregate-fill-fields
-slice-aggregate-fill-fields c = sym (ap length (before-fields (c .before .before .before)))
+slice-aggregate-fill-header-fields : tie.Need-slice-aggregate-fill-header-fields
+slice-aggregate-fill-header-fields c = sym (ap length (before-fields (c .before .before .before)))
 
-fill-fields-requires : tie.Need-fill-fields-requires
-fill-fields-requires c κs = before-fields (c .before .before .before)
+fill-header-fields-requires : tie.Need-fill-header-fields-requires
+fill-header-fields-requires c κs = before-fields (c .before .before .before)
 
 same-length : tie.Need-same-length
 same-length c = search needs
@@ -35,7 +35,7 @@ returns : tie.Need-returns
 returns c =
     let h = c .before .before .before .before .before .before .before .before .before .args .h in
     let clear-in = c .before .before .before .before .before .before in
-    ap (λ (x : List ℕ). x ++ drop 36 (clear-in .clear .last .0)) (c .before .before .fill-fields .ensures)
+    ap (λ (x : List ℕ). x ++ drop 36 (clear-in .clear .last .0)) (c .before .before .fill-header-fields .ensures)
     ∙ ap (λ (x : List ℕ). headerFields h ++ x) (ap (λ (x : List ℕ). drop 36 x) (zeroed clear-in) ∙ blank-behind)
 
 pub fill-header-data-spec : {M : Type 1} → statement M
@@ -43,8 +43,8 @@ fill-header-data-spec =
     tie.close
     (tie.spec
     clear-requires
-    slice-relend-prefix-fill-fields
-    slice-aggregate-fill-fields
-    fill-fields-requires
+    slice-relend-prefix-fill-header-fields
+    slice-aggregate-fill-header-fields
+    fill-header-fields-requires
     same-length
     returns)

@@ -1,7 +1,6 @@
 -- The numbers are compared. Assumes nothing.
-use Rattle.geometry.specs.Refused.{refusalNumber}
+use Rattle.geometry.specs.Refusal.{refusalNumber}
 use Prim.Native.Nat.{_≤_, _<_}
--- The numbers are compared. Assumes nothing.
 use Rattle.geometry.proofs.PickLaws.{pick-t, pick-f}
 use borrow.Author.Tests.{lt-ltb, le-ltb}
 use native.Mathlib.Omega.{arith}

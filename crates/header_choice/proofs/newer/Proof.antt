@@ -4,48 +4,35 @@ use native.Mathlib.Omega.{arith}
 use borrow.Author.Needs.{needs}
 use lib.Seq.{length-take-le}
 use Rattle.geometry.proofs.PickLaws.{pick-t, pick-f}
-use Rattle.header.specs.Valid.{updateOf}
 use Rattle.header_choice.proofs.Choices.{higher-first, higher-second, equal-counts}
 use Rattle.header_choice.proofs.newer.Statement.{statement}
 use Rattle.header_choice.proofs.newer.Tie as tie
 
-be32-at-requires : tie.Need-be32-at-requires
-be32-at-requires c κs = search needs
-
-be32-at-requires-2 : tie.Need-be32-at-requires-2
-be32-at-requires-2 c κs = search needs
-
 returns : tie.Need-returns
-unfolding updateOf
-returns c = higher-first _ _ (omega arith)
+returns c = higher-first _ _ _ _ (omega arith)
 
 returns-2 : tie.Need-returns-2
-unfolding updateOf
-returns-2 c = higher-second _ _ (omega arith)
+returns-2 c = higher-second _ _ _ _ (omega arith)
 
 slice-aggregate-agrees : tie.Need-slice-aggregate-agrees
-slice-aggregate-agrees c = sym (length-take-le 32768 (c .before .before .before .before .before .before .before .args .first .now) (omega arith))
+slice-aggregate-agrees c = sym (length-take-le 32768 (c .before .before .before .before .before .before .before .before .before .args .first .now) (omega arith))
 
 slice-aggregate-agrees-2 : tie.Need-slice-aggregate-agrees-2
-slice-aggregate-agrees-2 c = sym (length-take-le 32768 (c .before .before .before .before .before .before .before .before .args .second .now) (omega arith))
+slice-aggregate-agrees-2 c = sym (length-take-le 32768 (c .before .before .before .before .before .before .before .before .before .before .args .second .now) (omega arith))
 
 agrees-requires : tie.Need-agrees-requires
 agrees-requires c κs = search needs
 
 returns-3 : tie.Need-returns-3
-unfolding updateOf
-returns-3 c = sym (pick-t _ (sym (c .before .agrees .ensures) ∙ c .if3 .taken)) ∙ equal-counts _ _ (omega (arith, c .before .before .before .before .before .before .be32-at2 .ensures, c .before .before .before .before .before .before .before .be32-at .ensures))
+returns-3 c = sym (pick-t _ (sym (c .before .agrees .ensures) ∙ c .if3 .taken)) ∙ equal-counts _ _ _ _ (omega arith)
 
 returns-4 : tie.Need-returns-4
-unfolding updateOf
-returns-4 c = sym (pick-f _ (sym (c .before .agrees .ensures) ∙ c .if3 .left)) ∙ equal-counts _ _ (omega (arith, c .before .before .before .before .before .before .be32-at2 .ensures, c .before .before .before .before .before .before .before .be32-at .ensures))
+returns-4 c = sym (pick-f _ (sym (c .before .agrees .ensures) ∙ c .if3 .left)) ∙ equal-counts _ _ _ _ (omega arith)
 
 pub newer-spec : {M : Type 1} → statement M
 newer-spec =
     tie.close
     (tie.spec
-    be32-at-requires
-    be32-at-requires-2
     returns
     returns-2
     slice-aggregate-agrees

@@ -1,6 +1,6 @@
 -- `opening::refuse_opening` meets its contract: the blank session, ended. Assumes nothing.
 use mathlib.Core.Path.{_∙_, ap}
-use Rattle.geometry.specs.Refused.{refusalNumber}
+use Rattle.geometry.specs.Refusal.{refusalNumber}
 use Rattle.recording_state.specs.declared.state.State.{State}
 use Rattle.recording_state.specs.State.{ending}
 use Rattle.opening.proofs.refuse_opening.Statement.{statement}

@@ -6,7 +6,7 @@ use lib.Dec.{eqb}
 use Rattle.recording_state.specs.State.{accepting, settledOf}
 use Rattle.recording_state.specs.Reply.{elementReplyBy}
 use Rattle.elements.specs.Reply.{steppedSaid}
-use Rattle.geometry.specs.Refused.{refusalNumber}
+use Rattle.geometry.specs.Refusal.{refusalNumber}
 use Rattle.geometry.specs.declared.refusal.Refusal.{Refusal}
 use Rattle.geometry.specs.declared.refusal.Refusal.the-variants as R
 use Rattle.geometry.proofs.PickLaws.{pick-f}

@@ -6,23 +6,14 @@ use Rattle.geometry.specs.Cartridge.{pastReserved}
 use Rattle.write_error.proofs.target_number.Statement.{statement}
 use Rattle.write_error.proofs.target_number.Tie as tie
 
-cast-past-reserved : tie.Need-cast-past-reserved
-cast-past-reserved c = search needs
-
 step-requires : tie.Need-step-requires
 step-requires c κs = search needs
-
-cast-past-reserved-2 : tie.Need-cast-past-reserved-2
-cast-past-reserved-2 c = search needs
-
-add-past-reserved : tie.Need-add-past-reserved
-add-past-reserved c = search needs
 
 past-reserved-requires : tie.Need-past-reserved-requires
 past-reserved-requires c κs = search needs
 
 returns : tie.Need-returns
-returns c = c .past-reserved .ensures ∙ ap (λ (n : ℕ). pastReserved (c .before .before .before .args .p .0 + n)) (c .before .step .ensures)
+returns c = c .past-reserved .ensures ∙ ap (λ (n : ℕ). pastReserved (c .before .before .args .p .0 + n)) (c .before .step .ensures)
 
 pub target-number-spec : {M : Type 1} → statement M
-target-number-spec = tie.close (tie.spec cast-past-reserved step-requires cast-past-reserved-2 add-past-reserved past-reserved-requires returns)
+target-number-spec = tie.close (tie.spec step-requires past-reserved-requires returns)

@@ -3,7 +3,7 @@ use borrow.Author.Needs.{needs}
 use mathlib.Core.Path.{_≡_, ap, sym, _∙_}
 use mathlib.Core.List.{List}
 use Prim.Native.Nat.{ℕ}
-use lib.Dec.{lit<, lit≤}
+use lib.Dec.{lit<}
 use lib.ListN.{replicate, set}
 use Rattle.frame.specs.Aux.{accessBytes}
 use Rattle.buffer.specs.Bytes.{put32}
@@ -30,7 +30,7 @@ slice-write-table-2 : tie.Need-slice-write-table-2
 slice-write-table-2 c = search needs
 
 put-be32-requires : tie.Need-put-be32-requires
-put-be32-requires c κs = rw (zeroed (c .before .before .before)) (lit≤ tt)
+put-be32-requires c κs = search needs
 
 slice-write-table-3 : tie.Need-slice-write-table-3
 slice-write-table-3 c = rw (stored (c .before .before)) (lit< tt)

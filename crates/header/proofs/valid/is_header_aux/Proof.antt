@@ -9,6 +9,9 @@ be32-at-requires c κs = search needs
 be16-at-requires : tie.Need-be16-at-requires
 be16-at-requires c κs = search needs
 
+cast-byte-at : tie.Need-cast-byte-at
+cast-byte-at c = search needs
+
 byte-at-requires : tie.Need-byte-at-requires
 byte-at-requires c κs = search needs
 
@@ -17,4 +20,4 @@ returns c = rw (c .byte-at .ensures, c .before .be16-at .ensures, c .before .bef
 
 pub is-header-aux-spec : {M : Type 1} → statement M
 is-header-aux-spec =
-    tie.close (tie.spec be32-at-requires be16-at-requires byte-at-requires returns)
+    tie.close (tie.spec be32-at-requires be16-at-requires cast-byte-at byte-at-requires returns)

@@ -15,8 +15,8 @@ use Rattle.judgement.proofs.table.as_table.Tie as tie
 slice-aggregate-build-aux : tie.Need-slice-aggregate-build-aux
 slice-aggregate-build-aux c = search needs
 
-element-fields-requires : tie.Need-element-fields-requires
-element-fields-requires c κs = search needs
+element-aux-requires : tie.Need-element-aux-requires
+element-aux-requires c κs = search needs
 
 build-aux-requires : tie.Need-build-aux-requires
 build-aux-requires c κs = search needs
@@ -65,7 +65,7 @@ agrees-requires-2 c κs = search needs
 
 -- the local holds the element's AUX
 built : (c : tie.After-build-aux) → c .build-aux .last .0 ≡ auxBytes (elementAux (c .before .before .before .before .args .e))
-built c = c .build-aux .ensures .1 ∙ ap (λ (f : Fields). auxBytes f) (c .before .element-fields .ensures)
+built c = c .build-aux .ensures .1 ∙ ap (λ (f : Fields). auxBytes f) (c .before .element-aux .ensures)
 
 returns : tie.Need-returns
 unfolding asTable
@@ -80,7 +80,7 @@ as-table-spec =
     tie.close
     (tie.spec
     slice-aggregate-build-aux
-    element-fields-requires
+    element-aux-requires
     build-aux-requires
     sub-agrees
     part-agrees-start

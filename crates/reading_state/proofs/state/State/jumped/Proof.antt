@@ -7,12 +7,6 @@ use Rattle.reading_state.proofs.state.State.jumped.Tie as tie
 address-requires : tie.Need-address-requires
 address-requires c κs = search needs
 
-cast-past-reserved : tie.Need-cast-past-reserved
-cast-past-reserved c = search needs
-
-add-past-reserved : tie.Need-add-past-reserved
-add-past-reserved c = search needs
-
 past-reserved-requires : tie.Need-past-reserved-requires
 past-reserved-requires c κs = search needs
 
@@ -26,15 +20,13 @@ taken-requires : tie.Need-taken-requires
 taken-requires c κs = search needs
 
 returns : tie.Need-returns
-returns c = c .taken .ensures ∙ rw (c .before .moved .ensures, c .before .before .wrapped .ensures, c .before .before .before .past-reserved .ensures, c .before .before .before .before .before .address .ensures)
+returns c = c .taken .ensures ∙ rw (c .before .moved .ensures, c .before .before .wrapped .ensures, c .before .before .before .past-reserved .ensures, c .before .before .before .before .address .ensures)
 
 pub jumped-spec : {M : Type 1} → statement M
 jumped-spec =
     tie.close
     (tie.spec
     address-requires
-    cast-past-reserved
-    add-past-reserved
     past-reserved-requires
     wrapped-requires
     moved-requires

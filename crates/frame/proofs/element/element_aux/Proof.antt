@@ -1,7 +1,7 @@
 -- The fields that the kind decides are the callees' answers. Assumes nothing.
 use borrow.Author.Needs.{needs}
-use Rattle.frame.proofs.element.element_fields.Statement.{statement}
-use Rattle.frame.proofs.element.element_fields.Tie as tie
+use Rattle.frame.proofs.element.element_aux.Statement.{statement}
+use Rattle.frame.proofs.element.element_aux.Tie as tie
 
 type-of-requires : tie.Need-type-of-requires
 type-of-requires c κs = search needs
@@ -18,7 +18,7 @@ flags-of-requires c κs = search needs
 returns : tie.Need-returns
 returns c = rw (c .before .before .before .type-of .ensures, c .before .before .entries-of .ensures, c .before .size-of .ensures, c .flags-of .ensures)
 
-pub element-fields-spec : {M : Type 1} → statement M
-element-fields-spec =
+pub element-aux-spec : {M : Type 1} → statement M
+element-aux-spec =
     tie.close
     (tie.spec type-of-requires entries-of-requires size-of-requires flags-of-requires returns)

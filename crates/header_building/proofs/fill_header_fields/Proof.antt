@@ -1,14 +1,15 @@
 -- Stores into 36 zeros are the header's fields. Assumes nothing.
+use borrow.Author.Needs.{needs}
 use mathlib.Core.Path.{_≡_, ap, _∙_}
 use mathlib.Core.List.{List}
 use Prim.Native.Nat.{ℕ}
-use lib.Dec.{lit<, lit≤}
+use lib.Dec.{lit<}
 use lib.ListN.{replicate, set}
 use Rattle.buffer.specs.Bytes.{put16, put32}
 use Rattle.frame.specs.Header.{headerFields}
 use Rattle.frame.specs.declared.header.Header.{Header}
-use Rattle.header_building.proofs.fill_fields.Statement.{statement}
-use Rattle.header_building.proofs.fill_fields.Tie as tie
+use Rattle.header_building.proofs.fill_header_fields.Statement.{statement}
+use Rattle.header_building.proofs.fill_header_fields.Tie as tie
 
 -- the bytes after each of the calls, and the header that they are of
 abbrev named : List ℕ
@@ -55,10 +56,10 @@ unfolding headerFields
 bytes-7 c = c .put-be325 .ensures ∙ ap (λ (x : List ℕ). put32 x 32 (header-7 c .eod .0)) (bytes-6 (c .before .before .before .before))
 
 put-be32-requires : tie.Need-put-be32-requires
-put-be32-requires c κs = rw (c .before .before .pre) (lit≤ tt)
+put-be32-requires c κs = search needs
 
 put-be32-requires-2 : tie.Need-put-be32-requires-2
-put-be32-requires-2 c κs = rw (bytes-1 (c .before .before .before)) (lit≤ tt)
+put-be32-requires-2 c κs = search needs
 
 slice-write-front : tie.Need-slice-write-front
 slice-write-front c = rw (bytes-2 (c .before .before)) (lit< tt)
@@ -73,16 +74,16 @@ slice-write-front-4 : tie.Need-slice-write-front-4
 slice-write-front-4 c = rw (bytes-2 (c .before .before)) (lit< tt)
 
 put-be16-requires : tie.Need-put-be16-requires
-put-be16-requires c κs = rw (bytes-2 (c .before .before .before)) (lit≤ tt)
+put-be16-requires c κs = search needs
 
 put-be32-requires-3 : tie.Need-put-be32-requires-3
-put-be32-requires-3 c κs = rw (bytes-4 (c .before .before .before)) (lit≤ tt)
+put-be32-requires-3 c κs = search needs
 
 put-be32-requires-4 : tie.Need-put-be32-requires-4
-put-be32-requires-4 c κs = rw (bytes-5 (c .before .before .before)) (lit≤ tt)
+put-be32-requires-4 c κs = search needs
 
 put-be32-requires-5 : tie.Need-put-be32-requires-5
-put-be32-requires-5 c κs = rw (bytes-6 (c .before .before .before)) (lit≤ tt)
+put-be32-requires-5 c κs = search needs
 
 same-length : tie.Need-same-length
 unfolding headerFields
@@ -91,8 +92,8 @@ same-length c = rw (bytes-7 (c .before .before), c .before .before .before .befo
 returns : tie.Need-returns
 returns c = bytes-7 (c .before .before)
 
-pub fill-fields-spec : {M : Type 1} → statement M
-fill-fields-spec =
+pub fill-header-fields-spec : {M : Type 1} → statement M
+fill-header-fields-spec =
     tie.close
     (tie.spec
     put-be32-requires
