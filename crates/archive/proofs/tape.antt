@@ -1,7 +1,4 @@
 pub mod Basics
-pub mod Places
-pub mod UserPlaces
-pub mod WindowLaws
 pub mod Stands
 pub mod WrittenFrames
 pub mod StandsLaws

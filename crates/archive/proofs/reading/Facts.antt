@@ -15,6 +15,8 @@ use Rattle.geometry.proofs.Impossible.{never}
 use Rattle.judgement.specs.Judgement as judgement
 use Rattle.judgement.specs.Judgement.{JudgementSaid, judgeFrame}
 use Rattle.geometry.proofs.PastReserved.{past-reserved-least}
+use Rattle.geometry.proofs.UserFrames.{User, user-ranges}
+use Rattle.geometry.proofs.Landing.{past-skips}
 use Rattle.judgement.specs.declared.told.Told.{Told}
 use Rattle.archive.specs.Tape.{Tape, Cartridge}
 use Rattle.archive.specs.Recordings.{Element}
@@ -22,7 +24,6 @@ use Rattle.archive.proofs.tape.Basics.{none-some}
 use Rattle.archive.specs.Fold.{Reader, going, ended, stopped, advance, look, foldOf, wholeOf}
 use Rattle.archive.proofs.tape.ScanLaws.{fold-over}
 use mathlib.Core.Logic.{inl, inr}
-use Rattle.archive.proofs.tape.UserPlaces.{User, user-ranges, past-skips}
 
 -- ---- what a fold counts
 

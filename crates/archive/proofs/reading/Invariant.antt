@@ -7,6 +7,7 @@ use mathlib.Core.Logic.{_⊎_}
 use mathlib.Core.Option.{Option, none, some}
 use Rattle.geometry.specs.Cartridge.{isUser}
 use Rattle.geometry.specs.declared.address.Address.{Address}
+use Rattle.geometry.proofs.UserFrames.{Stand}
 use Rattle.drive.specs.Listed.{Means}
 use Rattle.drive.specs.Senses.{good, busy, recovered, unreadable, endOfData, endOfMedium}
 use Rattle.drive.specs.declared.command.Command.{Command}
@@ -20,7 +21,6 @@ use Rattle.archive.specs.Readings as readings
 use Rattle.archive.specs.Readings.{Notes, World, Flight}
 use Rattle.archive.specs.Demand.{replyBound}
 use Rattle.archive.specs.Fold.{going, ended, stopped, foldOf, wholeOf}
-use Rattle.archive.proofs.tape.UserPlaces.{Stand}
 use Rattle.archive.proofs.reading.Bound.{Spent}
 
 -- what was delivered is what the fold has at the next address

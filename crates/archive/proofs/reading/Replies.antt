@@ -29,12 +29,13 @@ use Rattle.reading_state.specs.State.{withExpected}
 use Rattle.reading_state.specs.declared.state.State.{State as Reading}
 use Rattle.reading_state.proofs.ReplyView.{Taken, taken-so}
 use Rattle.geometry.proofs.PastReserved.{past-reserved-least}
+use Rattle.geometry.proofs.UserFrames.{User, user-ranges, ranges-user, Stand, user-next}
+use Rattle.geometry.proofs.Landing.{Landing, before, across, behind, landing, past-user}
 use Rattle.archive.specs.Tape.{Tape}
 use Rattle.archive.specs.Readings as readings
 use Rattle.archive.specs.Readings.{World, LentWith, replyNumber, delivered, endAfter, refusedAfter, repliesAfter, afterTaking, afterReply}
 use Rattle.archive.specs.Fold.{Reader, going, ended, stopped, advance, look, foldOf, wholeOf}
 use Rattle.archive.proofs.tape.ScanLaws.{fold-user, Final, fold-final}
-use Rattle.archive.proofs.tape.UserPlaces.{User, Landing, before, across, behind, user-ranges, ranges-user, Stand, user-next, landing, past-user}
 use Rattle.archive.proofs.reading.Bound.{Spent, few-further, few-crossed, few-jumped, few-ended}
 use Rattle.archive.proofs.reading.Facts.{Counts, fold-counts, ReadTape, fold-crosses, fold-blank, fold-jump}
 use Rattle.archive.proofs.reading.Fetches.{stands-within}

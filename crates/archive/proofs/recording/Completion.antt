@@ -13,6 +13,7 @@ use Rattle.geometry.specs.Cartridge.{isUser, lastOf}
 use Rattle.geometry.proofs.TestLaws.{or-true}
 use Rattle.geometry.proofs.Impossible.{never}
 use Rattle.geometry.specs.declared.cartridge.Geometry.{Geometry}
+use Rattle.geometry.proofs.UserFrames.{User, user-ranges}
 use Rattle.frame.specs.Header.{headerFrame}
 use Rattle.frame.specs.Sent.{ReadsAs}
 use Rattle.frame.specs.declared.header.Header.{Header}
@@ -28,7 +29,6 @@ use Rattle.archive.specs.Headers.{HeaderAt, Newest}
 use Rattle.archive.specs.Recordings.{World}
 use Rattle.archive.proofs.tape.Scan.{Seen}
 use Rattle.archive.proofs.tape.SeenLaws.{seen-recorded}
-use Rattle.archive.proofs.tape.UserPlaces.{User, user-ranges}
 use Rattle.archive.proofs.recording.HeaderCopies.{Carried, Copy, Below}
 use Rattle.archive.proofs.recording.Invariant.{totalOf, Course, opening, writing, closing, finished, Content, Live, live, rejecting, over, Inv}
 use Rattle.archive.proofs.recording.Setting.{Setting, EodAt, Leaves}

@@ -13,6 +13,7 @@ use lib.ListN.{length}
 use Rattle.geometry.specs.Cartridge.{isHeader, isUser}
 use Rattle.geometry.proofs.TestLaws.{and-true, or-true}
 use Rattle.geometry.proofs.Impossible.{never}
+use Rattle.geometry.proofs.UserFrames.{header-not-user, user-ranges}
 use Rattle.frame.specs.Header.{headerFrame}
 use Rattle.frame.specs.Sent.{ReadsAs}
 use Rattle.frame.specs.declared.header.Header.{Header}
@@ -25,13 +26,11 @@ use Rattle.recording_state.specs.declared.state.Stage.the-variants as S
 use Rattle.recording_state.proofs.Stages.{ElementStage}
 use Rattle.archive.specs.Recordings.{World, Element, withDrive}
 use Rattle.archive.proofs.tape.Basics.{none-some, some-same}
-use Rattle.archive.proofs.tape.Places.{header-not-user}
 use Rattle.archive.proofs.tape.Scan.{Seen}
 use Rattle.archive.proofs.tape.ScanLaws.{put-same, put-other}
 use Rattle.archive.proofs.tape.SeenLaws.{cartridge-put, seen-elsewhere, seen-writes, seen-fails}
 use Rattle.archive.proofs.tape.Stands.{Item, eod, itemAt, Stands, Queue}
 use Rattle.archive.proofs.tape.StandsLaws.{item-past, stands-read, stands-long}
-use Rattle.archive.proofs.tape.UserPlaces.{user-ranges}
 use Rattle.archive.proofs.recording.HeaderCopies.{Below}
 use Rattle.archive.proofs.recording.Setting.{EodAt}
 use Rattle.archive.proofs.recording.Invariant.{totalOf, Content}

@@ -25,7 +25,7 @@ use Rattle.drive.specs.Listed.{Listed}
 use Rattle.copies.specs.Copies.{nextAddress}
 use Rattle.copies.specs.declared.copies.Copies.{Copies}
 use Rattle.copies.proofs.Counts.{CountsOf}
-use Rattle.copies.proofs.HeaderPlaces.{is-header, header-from-first}
+use Rattle.geometry.proofs.HeaderPlaces.{is-header, header-from-first}
 use Rattle.recording_state.specs.declared.state.State.{State}
 use Rattle.archive.specs.Recordings.{Flight}
 use Rattle.archive.proofs.recording.HeaderCopies.{Copy}

@@ -13,6 +13,7 @@ use Rattle.geometry.specs.Place.{asAddress}
 use Rattle.geometry.specs.Cartridge.{isUser}
 use Rattle.geometry.proofs.TestLaws.{either-right}
 use Rattle.geometry.proofs.Impossible.{never, clash}
+use Rattle.geometry.proofs.UserFrames.{User, user-ranges}
 use Rattle.drive.specs.Command.{commandAddress}
 use Rattle.drive.specs.Cases.{locateGood, locateBusy, writeGood, writeBusy, writeFailed, writeOverflow, positionGood, positionBusy, positionFailed}
 use Rattle.drive.specs.Listed.{Means}
@@ -40,7 +41,6 @@ use Rattle.archive.proofs.tape.Scan.{Seen}
 use Rattle.archive.proofs.tape.ScanLaws.{fold-over}
 use Rattle.archive.proofs.tape.SeenLaws.{seen-moves}
 use Rattle.archive.proofs.tape.Stands.{itemAt, telling, StoredAs}
-use Rattle.archive.proofs.tape.UserPlaces.{User, user-ranges}
 use Rattle.archive.proofs.recording.HeaderCopies.{Below}
 use Rattle.archive.proofs.recording.Completion.{copy-update}
 use Rattle.archive.proofs.recording.CopiesLink as copies

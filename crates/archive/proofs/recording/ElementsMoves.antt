@@ -11,6 +11,7 @@ use Rattle.geometry.specs.Cartridge.{isHeader, isUser}
 use Rattle.geometry.specs.declared.address.Address.{Address}
 use Rattle.geometry.proofs.TestLaws.{either-right}
 use Rattle.geometry.proofs.Impossible.{clash}
+use Rattle.geometry.proofs.UserFrames.{user-not-header, ranges-user}
 use Rattle.archive.specs.Conduct as conduct
 use Rattle.archive.specs.Conduct.{Drive, wrote, failing, taking, moved, empty}
 use Rattle.drive.specs.Senses.{meaningOf}
@@ -21,8 +22,6 @@ use Rattle.drive.specs.Listed.{Listed}
 use Rattle.recording_state.specs.declared.state.State.{State}
 use Rattle.recording_state.proofs.Kept.{Held, heldOf}
 use Rattle.archive.specs.Recordings.{Flight}
-use Rattle.archive.proofs.tape.Places.{user-not-header}
-use Rattle.archive.proofs.tape.UserPlaces.{ranges-user}
 use Rattle.archive.proofs.recording.CopiesMoves.{rests-still, rests-safe}
 use Rattle.archive.proofs.recording.ElementsLink.{edgeOf, Linked, Moving, Asks, writes, asks, moves, Answered, taken, counted, failed-write, failed-position, filled, waits, Writing, at-place, to-locate, again, under-way, replied}
 use Rattle.archive.proofs.recording.ElementsLink as link

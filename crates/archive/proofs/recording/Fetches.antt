@@ -24,7 +24,7 @@ use Rattle.drive.proofs.CaseLaws.{command-by}
 use Rattle.copies.specs.Copies as copying
 use Rattle.copies.proofs.CommandView as command
 use Rattle.copies.proofs.DueAddress.{PlacedOf}
-use Rattle.copies.proofs.HeaderPlaces.{header-from-first}
+use Rattle.geometry.proofs.HeaderPlaces.{header-from-first}
 use Rattle.elements.specs.Due as due
 use Rattle.elements.proofs.DueView as rule
 use Rattle.recording_state.specs.State.{windowOf, windowLength}

@@ -16,6 +16,7 @@ use Rattle.geometry.proofs.PickLaws.{pick-by}
 use Rattle.geometry.proofs.Last.{frames-of, last-small}
 use Rattle.geometry.proofs.TestLaws.{or-false}
 use Rattle.geometry.proofs.Impossible.{never}
+use Rattle.geometry.proofs.UserFrames.{User, user-ranges}
 use Rattle.frame.specs.declared.header.Header.{Header}
 use Rattle.header.specs.Valid.{validHeader, headerOf}
 use Rattle.header.specs.Read as checked
@@ -38,7 +39,6 @@ use Rattle.archive.specs.Fold.{foldOf}
 use Rattle.archive.proofs.tape.Stands.{telling}
 use Rattle.archive.proofs.tape.Scan.{Seen}
 use Rattle.archive.proofs.tape.ScanLaws.{seen-part, fold-over}
-use Rattle.archive.proofs.tape.UserPlaces.{User, user-ranges}
 use Rattle.archive.proofs.recording.HeaderCopies.{Carried, Below}
 use Rattle.archive.proofs.recording.CopiesLink.{to-seek}
 use Rattle.archive.proofs.recording.Invariant as inv

@@ -40,7 +40,7 @@ use Rattle.archive.specs.EndOfData.{EndsAt, EndNamed}
 use Rattle.archive.specs.Sample.{geometry, depth, blocks, good, busy, older, tape, stopped, firstOpening, window, frame, firstElements, windowWith, firstError, firstBlock, firstFilemark, firstEod, firstClosing, exchanges, firstCalls}
 use Rattle.archive.proofs.sample.Exchange.{Step, between, reported, exchange, block-accepted, filemark-accepted, close-accepted, filemark-refused, close-refused}
 use Rattle.archive.proofs.sample.Flush.{buffered}
-use Rattle.archive.proofs.tape.WindowLaws.{put-length, put-same-block}
+use Rattle.recording_state.proofs.WindowLaws.{put-length, put-same-block}
 use Rattle.archive.proofs.sample.Headers.{writing, ending, closing, finished, headersWritten, opening-written, closing-written}
 use Rattle.archive.proofs.tape.WrittenFrames.{block-fits}
 use Rattle.archive.proofs.sample.Tapes.{empty, empty-cartridge, empty-bears-none, frame-on-none, frame-cartridge, frame-bears-none, headers-newest}

@@ -10,6 +10,7 @@ use native.Mathlib.Nat.{le-refl}
 use native.Mathlib.Omega.{arith}
 use lib.ListN.{length, drop, replicate}
 use Rattle.geometry.specs.Cartridge.{isHeader}
+use Rattle.geometry.proofs.UserFrames.{ranges, User, user-ranges}
 use Rattle.buffer.specs.Bytes.{get16}
 use Rattle.frame.specs.Aux.{elementAux}
 use Rattle.frame.specs.Frame.{elementFrame, elementFits}
@@ -23,10 +24,8 @@ use Rattle.archive.specs.Conduct.{Drive}
 use Rattle.archive.specs.Tape.{Tape, put, Cartridge}
 use Rattle.archive.specs.Headers.{Newest, NoHeader}
 use Rattle.archive.specs.Demand.{NoneBears}
-use Rattle.archive.proofs.tape.Places.{ranges}
 use Rattle.archive.proofs.tape.ScanLaws.{put-same, put-other}
 use Rattle.archive.proofs.tape.SeenLaws.{cartridge-put}
-use Rattle.archive.proofs.tape.UserPlaces.{User, user-ranges}
 use Rattle.archive.proofs.sample.Flush.{flushed}
 use Rattle.archive.proofs.sample.Headers.{groupWritten, headersWritten}
 
