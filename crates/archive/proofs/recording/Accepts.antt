@@ -3,7 +3,7 @@ use Prim.Native.Nat.{ℕ, suc, _+_, _-_, _*_, _/_, _%_, _^_, _≤_, _<_}
 use mathlib.Core.Path.{_≡_, refl, sym, ap, subst, _∙_}
 use mathlib.Core.Bool.{Bool, true, false, _&&_}
 use mathlib.Core.List.{List, [], _∷_, _++_}
-use mathlib.Core.Logic.{_⊎_, inl, inr}
+use mathlib.Core.Logic.{_⊎_, inl, inr, ⊎-elim}
 use native.Mathlib.Decide.{decLe}
 use native.Mathlib.Nat.{eq-or-lt-of-le, div-add-mod', mul-le-mul-right, mod-eq-of-lt}
 use native.Mathlib.Omega.{arith}
@@ -39,7 +39,7 @@ use Rattle.archive.proofs.tape.StandsLaws.{item-in, item-more}
 use Rattle.archive.proofs.recording.ElementsLink.{Writing}
 use Rattle.archive.proofs.recording.KeptAgreement.{agree-as, writing-as, writing-numbers, sent-due}
 use Rattle.archive.proofs.recording.Invariant as inv
-use Rattle.archive.proofs.recording.Invariant.{totalOf, Counted, Course, Content, Live, Rejecting, Inv, live, rejecting, over}
+use Rattle.archive.proofs.recording.Invariant.{totalOf, Counted, Course, Outgoing, Content, Live, Rejecting, Inv, live, rejecting, over}
 use Rattle.archive.proofs.recording.Setting.{Setting}
 
 -- ---- calls that take effect
@@ -184,10 +184,26 @@ module _ {last pass : ℕ} {premises : Type 0} (w : World) (set : Setting last p
   first-small (inv.closing st v c a b g) = clash c (acc .unclosed)
   first-small (inv.finished st v c a b f g h r y) = clash c (acc .unclosed)
 
-  module _ (window : List ℕ) (c : Content last pass w (l .k) (l .edge)) (g : Gains (w .session) (w .window) window x (elements.acceptedOf (w .session .elements) mark .marks)) where
-    count-is : w .session .elements .first .0 + w .session .elements .pending ≡ length (w .notes .accepted)
-    count-is = l .counted .numbered ∙ total-plain (length (w .notes .accepted)) (early (l .course))
+  count-is : w .session .elements .first .0 + w .session .elements .pending ≡ length (w .notes .accepted)
+  count-is = l .counted .numbered ∙ total-plain (length (w .notes .accepted)) (early (l .course))
 
+  writing-of : ElementStage (w .session) → Writing last (w .session) (w .drive) (l .k) (l .edge) (w .flight)
+  writing-of st = go st (early (l .course))
+    where
+      go : ElementStage (w .session) → Early (l .k) (l .edge) → Writing last (w .session) (w .drive) (l .k) (l .edge) (w .flight)
+      go q (opening o _) = never (cc)
+      go q (writing o _ a) = a
+
+  -- the frames stand for what they stood for
+  outgoing-more : (window : List ℕ) (unaltered : Bool) → Outgoing last pass w (l .k) → Outgoing last pass (acceptedWorld w (withElement (w .session) mark) window unaltered x) (l .k)
+  outgoing-more window unaltered f = record {
+    queue = λ st free. queue-grow last pass (w .notes .accepted) (x ∷ []) (l .k) (w .drive .buffer) (omega (arith, writing-numbers (l .counted .held) (writing-of st) .fits free, count-is)) (f .queue st free);
+    sent = λ a g st q.
+        let due = sent-due (subst (Writing last (w .session) (w .drive) (l .k) (l .edge)) q (writing-of st)) in
+        subst (λ (y : Item). Stands last pass y (w .session .elements .first .0 + w .session .elements .outstanding) g) (sym (item-more (w .notes .accepted) (x ∷ []) (w .session .elements .first .0 + w .session .elements .outstanding) (omega (arith, count-is)))) (f .sent a g st q);
+  }
+
+  module _ (window : List ℕ) (c : Content last pass w (l .k) (l .edge)) (g : Gains (w .session) (w .window) window x (elements.acceptedOf (w .session .elements) mark .marks)) where
     -- an item that was pending stays as it was stored
     stays : (y : Item) (i : ℕ) → i < w .session .elements .pending → StoredAs y (w .window) (w .session .elements .marks) (windowOf (w .session)) (w .session .elements .first .0 + i)
         → StoredAs y window (elements.acceptedOf (w .session .elements) mark .marks) (windowOf (w .session)) (w .session .elements .first .0 + i)
@@ -217,13 +233,6 @@ module _ {last pass : ℕ} {premises : Type 0} (w : World) (set : Setting last p
             subst (λ (y : Item). StoredAs y window (elements.acceptedOf (w .session .elements) mark .marks) (windowOf (w .session)) (w .session .elements .first .0 + i)) (sym (item-more (w .notes .accepted) (x ∷ []) (w .session .elements .first .0 + i) (omega (arith, count-is))))
             (stays (itemAt (w .notes .accepted) (w .session .elements .first .0 + i)) i low (c .stored i low))
 
-    writing-of : ElementStage (w .session) → Writing last (w .session) (w .drive) (l .k) (l .edge) (w .flight)
-    writing-of st = go st (early (l .course))
-      where
-        go : ElementStage (w .session) → Early (l .k) (l .edge) → Writing last (w .session) (w .drive) (l .k) (l .edge) (w .flight)
-        go q (opening o _) = never (cc)
-        go q (writing o _ a) = a
-
     content-more : (unaltered : Bool) → Content last pass (acceptedWorld w (withElement (w .session) mark) window unaltered x) (l .k) (l .edge)
     content-more unaltered =
         let y = early (l .course) in
@@ -233,12 +242,6 @@ module _ {last pass : ℕ} {premises : Type 0} (w : World) (set : Setting last p
               (seen-accept x (subst (λ (n : ℕ). Seen last pass (w .notes .accepted) n (l .k) (l .edge) (w .drive .tape)) (total-plain (length (w .notes .accepted)) y) (c .seen)));
           below = c .below;
           stored = stored-more;
-          queue = λ st free. queue-grow last pass (w .notes .accepted) (x ∷ []) (l .k) (w .drive .buffer) (omega (arith, writing-numbers (l .counted .held) (writing-of st) .fits free, count-is)) (c .queue st free);
-          sent = λ a f st q.
-              let due = sent-due (subst (Writing last (w .session) (w .drive) (l .k) (l .edge)) q (writing-of st)) in
-              subst (λ (y : Item). Stands last pass y (w .session .elements .first .0 + w .session .elements .outstanding) f) (sym (item-more (w .notes .accepted) (x ∷ []) (w .session .elements .first .0 + w .session .elements .outstanding) (omega (arith, count-is)))) (c .sent a f st q);
-          eod-written = λ _ b _. clash b (early-unended y);
-          eod-named = λ q. early-unclosed y q;
         }
 
   live-more : (window : List ℕ) (unaltered : Bool) → (unaltered ≡ true → (w .notes .unaltered ≡ true) × Gains (w .session) (w .window) window x (elements.acceptedOf (w .session .elements) mark .marks))
@@ -251,6 +254,8 @@ module _ {last pass : ℕ} {premises : Type 0} (w : World) (set : Setting last p
     carried = l .carried;
     course = course-more window unaltered (l .course);
     reported = l .reported;
+    outgoing = λ n. outgoing-more window unaltered (l .outgoing (⊎-elim (λ y. inl (y .0, gain (y .1) .0)) inr n));
+    eod-place = let y = early (l .course) in record { written = λ _ b _. clash b (early-unended y); named = λ q. early-unclosed y q };
     content = λ p u. let y = gain u in content-more window (l .content p (y .0)) (y .1) unaltered;
   }
 

@@ -17,12 +17,14 @@ use Rattle.recording_state.proofs.Stages.{ElementStage}
 use Rattle.archive.specs.Recordings.{World, TakesEffect, withSession}
 use Rattle.archive.proofs.tape.Scan.{Seen}
 use Rattle.archive.proofs.tape.SeenLaws.{seen-eod}
-use Rattle.archive.proofs.tape.Stands.{Item, itemAt, StoredAs}
+use Rattle.archive.proofs.tape.Basics.{no-frames}
+use Rattle.archive.proofs.tape.Stands.{Item, itemAt, Queue, StoredAs}
 use Rattle.archive.proofs.tape.StandsLaws.{item-past}
-use Rattle.archive.proofs.recording.KeptAgreement.{agree-as, writing-as}
+use Rattle.archive.proofs.recording.ElementsLink.{Writing}
+use Rattle.archive.proofs.recording.KeptAgreement.{agree-as, writing-as, Numbers, writing-numbers, sent-due}
 use Rattle.archive.proofs.recording.Accepts.{close-view, settled-cases}
 use Rattle.archive.proofs.recording.Invariant as inv
-use Rattle.archive.proofs.recording.Invariant.{totalOf, Course, Live, Rejecting, Inv, live, rejecting, over}
+use Rattle.archive.proofs.recording.Invariant.{totalOf, Course, Outgoing, Live, Rejecting, Inv, live, rejecting, over}
 use Rattle.geometry.proofs.Impossible.{never, clash}
 
 -- ---- EOD becomes due
@@ -44,6 +46,23 @@ module _ {last pass : ℕ} {premises : Type 0} (w : World) (l : Live last pass p
   eod-stored window marks i h =
       subst (λ (x : Item). StoredAs x window marks (windowOf (w .session)) (w .session .elements .first .0 + i)) (sym (item-past (w .notes .accepted) (w .session .elements .first .0 + i) (omega (arith, count)))) tt
 
+  agreed : Course last w (l .k) (l .edge) → Writing last (w .session) (w .drive) (l .k) (l .edge) (w .flight)
+  agreed (inv.opening q _ t c) = never (cc)
+  agreed (inv.writing q _ a) = a
+  agreed (inv.closing q _ c a b g) = never (cc)
+  agreed (inv.finished q _ c a b f g h r y) = never (cc)
+
+  numbers : Numbers last (w .session .elements .first .0) (w .session .elements .outstanding) (w .session .elements .pending) (l .k) (w .drive)
+  numbers = writing-numbers (l .counted .held) (agreed (l .course))
+
+  -- nothing is with the drive, or on the way to it
+  none-outgoing : Outgoing last pass (withSession w (eodDue (w .session))) (l .k)
+  unfolding Queue
+  none-outgoing = record {
+    queue = λ _ free. subst (Queue last pass (w .notes .accepted) (l .k)) (sym (no-frames (w .drive .buffer) (omega (arith, numbers .fits free, numbers .least, none)))) tt;
+    sent = λ a f _ q. absurd (omega (arith, sent-due (subst (Writing last (w .session) (w .drive) (l .k) (l .edge)) q (agreed (l .course))), none));
+  }
+
   pub eod-live : Live last pass premises (withSession w (eodDue (w .session)))
   eod-live =
       let c = l .counted in
@@ -63,6 +82,8 @@ module _ {last pass : ℕ} {premises : Type 0} (w : World) (l : Live last pass p
         carried = l .carried;
         course = eod-course (l .course);
         reported = l .reported;
+        outgoing = λ _. none-outgoing;
+        eod-place = record { written = λ _ _ k. absurd (omega (arith, numbers .most, none, count)); named = λ q. ⊎-elim (λ z. never (cc)) (λ z. never (cc)) q };
         content = λ p u.
             let x = l .content p u in
             record {
@@ -70,10 +91,6 @@ module _ {last pass : ℕ} {premises : Type 0} (w : World) (l : Live last pass p
               seen = seen-eod (subst (λ (n : ℕ). Seen last pass (w .notes .accepted) n (l .k) (l .edge) (w .drive .tape)) (ap (λ (y : Bool). totalOf y (length (w .notes .accepted))) v) (x .seen));
               below = x .below;
               stored = λ i h. eod-stored (w .window) (elements.acceptedOf (w .session .elements) false .marks) i h;
-              queue = x .queue;
-              sent = x .sent;
-              eod-written = λ _ _ k. let low = x .seen .low in let top = x .seen .top in absurd (omega (arith, ap (λ (y : Bool). totalOf y (length (w .notes .accepted))) v));
-              eod-named = λ q. ⊎-elim (λ z. never (cc)) (λ z. never (cc)) q;
             };
       }
 
@@ -99,7 +116,9 @@ module _ {last pass : ℕ} {premises : Type 0} (w : World) (l : Live last pass p
         carried = l .carried;
         course = closed-course (l .course);
         reported = l .reported;
-        content = λ p u. let x = l .content p u in record { tape = x .tape; seen = x .seen; below = x .below; stored = x .stored; queue = x .queue; sent = x .sent; eod-written = x .eod-written; eod-named = x .eod-named };
+        outgoing = λ n. let f = l .outgoing n in record { queue = f .queue; sent = f .sent };
+        eod-place = record { written = l .eod-place .written; named = l .eod-place .named };
+        content = λ p u. let x = l .content p u in record { tape = x .tape; seen = x .seen; below = x .below; stored = x .stored };
       }
 
   not-eod : {X : Type 0} → w .session .elements .eod ≡ true → Course last w (l .k) (l .edge) → X

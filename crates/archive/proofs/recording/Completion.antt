@@ -66,7 +66,7 @@ module _ {last pass spare : ℕ} (set : Setting last pass) (h : Header) (c : Car
     pub copy-update : updateOf f ≡ h .update
     copy-update = read-update r ∙ built-update h update-small
 
-    copy-fields : headerOf f ≡ h
+    pub copy-fields : headerOf f ≡ h
     copy-fields = read-fields r ∙ built-fields h last-small (omega (arith, pass-low)) eod-small update-small
 
     pub copy-pass : headerOf f .pass ≡ pass
@@ -113,7 +113,7 @@ module _ {last pass : ℕ} {premises : Type 0} {w : World} (set : Setting last p
         header = copy .frame;
         newest = copy-newest set (w .session .copies .header) (l .carried) copy (content .below);
         passes = newest-pass set (w .session .copies .header) (l .carried) copy (content .below);
-        ends = λ h n. subst (EodAt last pass (length (w .notes .accepted)) (w .drive .tape)) (sym (newest-eod set (w .session .copies .header) (l .carried) copy (content .below) h n)) (content .eod-named (inr s));
+        ends = λ h n. subst (EodAt last pass (length (w .notes .accepted)) (w .drive .tape)) (sym (newest-eod set (w .session .copies .header) (l .carried) copy (content .below) h n)) (l .eod-place .named (inr s));
       }
 
 pub completes : {last pass : ℕ} {premises : Type 0} (w : World) → Setting last pass → Inv last pass premises w → premises → w .notes .unaltered ≡ true → w .notes .reported ≡ true → Leaves last pass (w .drive .tape) (w .notes .accepted)

@@ -113,10 +113,6 @@ module _ {last pass : ℕ} {premises : Type 0} (w : World) (r : Reply) (set : Se
           seen = subst (λ (n : ℕ). Seen last pass (w .notes .accepted) n (l .k) (s .tried) (w .drive .tape)) (sym total-so) (seen-moves (c .tape) (s .tried) (s .further) (c .seen));
           below = c .below;
           stored = stored-so c;
-          queue = c .queue;
-          sent = λ _ _ _ z. none-sent z;
-          eod-written = λ q b n. c .eod-written q (sym (s .eod-is) ∙ b) n;
-          eod-named = λ q. ⊎-elim (λ z. never (cc)) (λ z. never (cc)) q;
         }
 
     stepped-live : Course last (repliedWorld w stepped) (l .k) (s .tried) → Live last pass premises (repliedWorld w stepped)
@@ -128,6 +124,8 @@ module _ {last pass : ℕ} {premises : Type 0} (w : World) (r : Reply) (set : Se
       carried = l .carried;
       course = course;
       reported = l .reported;
+      outgoing = λ n. record { queue = l .outgoing (⊎-elim inl (λ b. inr (sym (s .eod-is) ∙ b)) n) .queue; sent = λ _ _ _ z. none-sent z };
+      eod-place = record { written = λ q b n. l .eod-place .written q (sym (s .eod-is) ∙ b) n; named = λ q. ⊎-elim (λ z. never (cc)) (λ z. never (cc)) q };
       content = content-so;
     }
 
@@ -180,6 +178,11 @@ module _ {last pass : ℕ} {premises : Type 0} (w : World) (r : Reply) (set : Se
               copying = copies.to-seek refl again (record { due = refl; rests = on-tape .1; kept = inl refl });
             });
             reported = λ x. never (let z = l .reported x in cc);
+            outgoing = λ _. record { queue = λ el _. never (cc); sent = λ _ _ _ z. none-sent z };
+            eod-place = record {
+              written = λ el _ _. never (cc);
+              named = λ _. subst (λ (a : ℕ). EodAt last pass (length (w .notes .accepted)) (w .drive .tape) (a - 1)) (sym (on-tape .3)) (l .eod-place .written st v all-on);
+            };
             content = λ p u.
                 let x = l .content p u in
                 record {
@@ -187,10 +190,6 @@ module _ {last pass : ℕ} {premises : Type 0} (w : World) (r : Reply) (set : Se
                   seen = subst (λ (n : ℕ). Seen last pass (w .notes .accepted) n (l .k) (last + 1) (w .drive .tape)) (sym (total-so ∙ total)) (seen-all x);
                   below = below-so (x .below);
                   stored = λ i h. absurd (omega arith);
-                  queue = λ el _. never (cc);
-                  sent = λ _ _ _ z. none-sent z;
-                  eod-written = λ el _ _. never (cc);
-                  eod-named = λ _. subst (λ (a : ℕ). EodAt last pass (length (w .notes .accepted)) (w .drive .tape) (a - 1)) (sym (on-tape .3)) (x .eod-written st v all-on);
                 };
           }
 
@@ -237,7 +236,9 @@ module _ {last pass : ℕ} {premises : Type 0} (w : World) (r : Reply) (set : Se
           carried = l .carried;
           course = inv.writing st which (elements.again refl refl asks);
           reported = l .reported;
-          content = λ p u. let c = l .content p u in record { tape = c .tape; seen = c .seen; below = c .below; stored = c .stored; queue = c .queue; sent = λ _ _ _ z. none-sent z; eod-written = c .eod-written; eod-named = c .eod-named };
+          outgoing = λ n. record { queue = l .outgoing n .queue; sent = λ _ _ _ z. none-sent z };
+          eod-place = record { written = l .eod-place .written; named = l .eod-place .named };
+          content = λ p u. let c = l .content p u in record { tape = c .tape; seen = c .seen; below = c .below; stored = c .stored };
         }))
       where
         asks : Asks last (heldOf (repeatedOf (w .session))) (w .session .elements .pending) (w .drive) (l .k) (l .edge) (w .session .exchange .command)

@@ -52,7 +52,7 @@ use Rattle.archive.proofs.recording.ElementsMoves.{link-safe}
 use Rattle.archive.proofs.recording.KeptAgreement.{Numbers, writing-numbers}
 use Rattle.archive.proofs.recording.SentFrames.{sent-element, sent-eod}
 use Rattle.archive.proofs.recording.Invariant as inv
-use Rattle.archive.proofs.recording.Invariant.{EodDue, totalOf, Course, Content, Live, Safe, Inv, live, rejecting, over}
+use Rattle.archive.proofs.recording.Invariant.{EodDue, totalOf, Course, Known, Content, Live, Safe, Inv, live, rejecting, over}
 use Rattle.archive.proofs.recording.InvariantLaws.{unreported}
 use Rattle.archive.proofs.recording.Setting.{Setting}
 
@@ -108,6 +108,13 @@ module _ {last pass : ℕ} {premises : Type 0} (w : World) (lent frame : List �
   as-left : (w .notes .unaltered && agree lent (w .window)) ≡ true → (w .notes .unaltered ≡ true) × (lent ≡ w .window)
   as-left u = let b = and-true (w .notes .unaltered) (agree lent (w .window)) u in (b .0, agree-is lent (w .window) (b .1))
 
+  -- what is known after the window was lent
+  abbrev KnownLent : Type 0
+  KnownLent = (premises × ((w .notes .unaltered && agree lent (w .window)) ≡ true)) ⊎ (w .session .elements .eod ≡ true)
+
+  known-left : KnownLent → Known premises w
+  known-left n = ⊎-elim (λ y. inl (y .0, as-left (y .1) .0)) inr n
+
   stored-lent : lent ≡ w .window → Content last pass w (l .k) (l .edge) → (i : ℕ) → i < w .session .elements .pending
       → StoredAs (itemAt (w .notes .accepted) (w .session .elements .first .0 + i)) lent (w .session .elements .marks) (windowOf (w .session)) (w .session .elements .first .0 + i)
   stored-lent e c i h = subst (λ (x : List ℕ). StoredAs (itemAt (w .notes .accepted) (w .session .elements .first .0 + i)) x (w .session .elements .marks) (windowOf (w .session)) (w .session .elements .first .0 + i)) (sym e) (c .stored i h)
@@ -123,10 +130,12 @@ module _ {last pass : ℕ} {premises : Type 0} (w : World) (lent frame : List �
     carried = l .carried;
     course = course (l .course);
     reported = done;
+    outgoing = λ n. let f = l .outgoing (known-left n) in record { queue = f .queue; sent = f .sent };
+    eod-place = record { written = l .eod-place .written; named = l .eod-place .named };
     content = λ p u.
         let b = as-left u in
         let c = l .content p (b .0) in
-        record { tape = c .tape; seen = c .seen; below = c .below; stored = stored-lent (b .1) c; queue = c .queue; sent = c .sent; eod-written = c .eod-written; eod-named = c .eod-named };
+        record { tape = c .tape; seen = c .seen; below = c .below; stored = stored-lent (b .1) c };
   }
     where
       course : Course last w (l .k) (l .edge) → Course last (lentWorld w lent (w .session) (w .flight) reported) (l .k) (l .edge)
@@ -141,8 +150,12 @@ module _ {last pass : ℕ} {premises : Type 0} (w : World) (lent frame : List �
     abbrev sentWorld : World
     sentWorld = lentWorld w lent (awaits (w .session) c) (recordings.sent c (frameFor c (w .session) lent frame)) (w .notes .reported)
 
-    goes-out : (edge : ℕ) → Course last sentWorld (l .k) edge → (premises → w .notes .unaltered ≡ true → lent ≡ w .window → Content last pass sentWorld (l .k) edge) → Live last pass premises sentWorld
-    goes-out edge course content = record {
+    goes-out : (edge : ℕ) → Course last sentWorld (l .k) edge
+        → ((a : Address) (f : List ℕ) → Known premises sentWorld → ElementStage (w .session) → recordings.sent c (frameFor c (w .session) lent frame) ≡ recordings.sent (Write a) f
+        → Stands last pass (itemAt (w .notes .accepted) (w .session .elements .first .0 + w .session .elements .outstanding)) (w .session .elements .first .0 + w .session .elements .outstanding) f)
+        → (Content last pass w (l .k) (l .edge) → Seen last pass (w .notes .accepted) (totalOf (w .session .elements .eod) (length (w .notes .accepted))) (l .k) edge (w .drive .tape))
+        → Live last pass premises sentWorld
+    goes-out edge course sent seen = record {
       k = l .k;
       edge = edge;
       going = l .going;
@@ -150,18 +163,13 @@ module _ {last pass : ℕ} {premises : Type 0} (w : World) (lent frame : List �
       carried = l .carried;
       course = course;
       reported = l .reported;
-      content = λ p u. let b = as-left u in content p (b .0) (b .1);
+      outgoing = λ n. record { queue = l .outgoing (known-left n) .queue; sent = λ a f. sent a f n };
+      eod-place = record { written = l .eod-place .written; named = l .eod-place .named };
+      content = λ p u.
+          let b = as-left u in
+          let x = l .content p (b .0) in
+          record { tape = x .tape; seen = seen x; below = x .below; stored = stored-lent (b .1) x };
     }
-
-    -- what is known of the frame, by the command
-    content-out : {edge : ℕ} → premises → w .notes .unaltered ≡ true → lent ≡ w .window
-        → Seen last pass (w .notes .accepted) (totalOf (w .session .elements .eod) (length (w .notes .accepted))) (l .k) edge (w .drive .tape)
-        → ((a : Address) (f : List ℕ) → ElementStage (w .session) → recordings.sent c (frameFor c (w .session) lent frame) ≡ recordings.sent (Write a) f
-        → Stands last pass (itemAt (w .notes .accepted) (w .session .elements .first .0 + w .session .elements .outstanding)) (w .session .elements .first .0 + w .session .elements .outstanding) f)
-        → Content last pass sentWorld (l .k) edge
-    content-out p u same seen sent =
-        let x = l .content p u in
-        record { tape = x .tape; seen = seen; below = x .below; stored = stored-lent same x; queue = x .queue; sent = sent; eod-written = x .eod-written; eod-named = x .eod-named }
 
   -- ---- from a header stage
 
@@ -181,7 +189,7 @@ module _ {last pass : ℕ} {premises : Type 0} (w : World) (lent frame : List �
     header-out c agree asked course =
         live wr
         (goes-out c (l .edge) (course (record { counts = agree .counts; placed = agree .placed; copying = copies.under-way c (frameFor c (w .session) lent frame) refl refl refl (header-sent c) asked }))
-        (λ p u same. content-out c p u same (l .content p u .seen) (λ _ _ el _. header-not-element (w .session) st el)))
+        (λ _ _ _ el _. header-not-element (w .session) st el) (λ x. x .seen))
 
     asks-header : {x : CommandSaid} → PlacedOf (w .session .copies) → command.CommandView (w .session .setup .depth) (w .session .copies) x → w .session .exchange .again ≡ false → Copying (w .session) (w .drive) recordings.no-command → CopyAsks (w .session .copies) (w .drive) (commandFor x)
     asks-header pl (command.locating t) ag (copies.at-place a g x) = clash t (x .placed)
@@ -261,17 +269,19 @@ module _ {last pass : ℕ} {premises : Type 0} (w : World) (lent frame : List �
   -- the frame of a WRITE
   module _ (long : length lent ≡ windowLength (w .session)) (numbers : Numbers last (w .session .elements .first .0) (w .session .elements .outstanding) (w .session .elements .pending) (l .k) (w .drive))
       (phase : EodDue (w .session .elements) (w .session .closed)) where
-    stands-sent : premises → w .notes .unaltered ≡ true → lent ≡ w .window → ElementStage (w .session) → w .session .elements .outstanding < w .session .elements .pending
+    stands-sent : KnownLent → ElementStage (w .session) → w .session .elements .outstanding < w .session .elements .pending
         → Stands last pass (itemAt (w .notes .accepted) (w .session .elements .first .0 + w .session .elements .outstanding)) (w .session .elements .first .0 + w .session .elements .outstanding) (writtenFrame (w .session) lent)
-    stands-sent p u same st d = go phase
+    stands-sent known st d = go phase known
       where
-        go : EodDue (w .session .elements) (w .session .closed) → Stands last pass (itemAt (w .notes .accepted) (w .session .elements .first .0 + w .session .elements .outstanding)) (w .session .elements .first .0 + w .session .elements .outstanding) (writtenFrame (w .session) lent)
-        go (inv.not-yet v) =
+        go : EodDue (w .session .elements) (w .session .closed) → KnownLent → Stands last pass (itemAt (w .notes .accepted) (w .session .elements .first .0 + w .session .elements .outstanding)) (w .session .elements .first .0 + w .session .elements .outstanding) (writtenFrame (w .session) lent)
+        go (inv.not-yet v) (inr e) = clash e v
+        go (inv.not-yet v) (inl y) =
+            let b = as-left (y .1) in
             let n = l .counted .numbered in
             let t = ap (λ (x : Bool). totalOf x (length (w .notes .accepted))) v in
             sent-element last pass (w .session) lent (w .notes .accepted) (l .carried .last-is) (l .carried .pass-is) (set .low) long (omega (arith, numbers .low, l .counted .windowed, l .counted .wide, set .small)) st v (omega arith)
-            (stored-lent same (l .content p u) (w .session .elements .outstanding) d)
-        go (inv.alone v closed one) =
+            (stored-lent (b .1) (l .content (y .0) (b .0)) (w .session .elements .outstanding) d)
+        go (inv.alone v closed one) _ =
             let n = l .counted .numbered in
             let t = ap (λ (x : Bool). totalOf x (length (w .notes .accepted))) v in
             sent-eod last pass (w .session) lent (w .notes .accepted) (l .carried .last-is) (l .carried .pass-is) (set .low) long (omega (arith, numbers .low, l .counted .windowed, l .counted .wide, set .small)) st v (omega arith)
@@ -281,13 +291,13 @@ module _ {last pass : ℕ} {premises : Type 0} (w : World) (lent frame : List �
     element-out c o st course =
         live wr
         (goes-out c (o .edge) (course (o .edge) (elements.under-way c (frameFor c (w .session) lent frame) refl refl refl (reask (heldOf (w .session)) (heldOf (awaits (w .session) c)) refl refl refl refl (o .asks))))
-        (λ p u same. content-out c p u same (seen-moves (l .content p u .tape) (o .edge) (o .further) (l .content p u .seen))
-        (λ a f el q.
+        (λ a f known el q.
         let command-is : c ≡ Write a = cc in
         let frame-is : frameFor c (w .session) lent frame ≡ f = cc in
         subst (λ (y : List ℕ). Stands last pass (itemAt (w .notes .accepted) (w .session .elements .first .0 + w .session .elements .outstanding)) (w .session .elements .first .0 + w .session .elements .outstanding) y)
         (sym (ap (λ (y : Command). frameFor y (w .session) lent frame) command-is) ∙ frame-is)
-        (stands-sent p u same el (due-of (subst (λ (y : Command). Asks last (heldOf (w .session)) (w .session .elements .pending) (w .drive) (l .k) (o .edge) y) command-is (o .asks)))))))
+        (stands-sent known el (due-of (subst (λ (y : Command). Asks last (heldOf (w .session)) (w .session .elements .pending) (w .drive) (l .k) (o .edge) y) command-is (o .asks)))))
+        (λ x. seen-moves (x .tape) (o .edge) (o .further) (x .seen)))
 
 -- ---- no reply is awaited, so no command is in flight
 

@@ -96,6 +96,11 @@ module _ {last pass : ℕ} {premises : Type 0} (w : World) (r : Reply) (set : Se
       carried = subst (λ (n : ℕ). Carried last pass n (v .copies .header)) (ap spareOf (sym stage)) (subst (λ (x : Header). Carried last pass (spareOf (w .session .stage)) x) (sym head) (l .carried));
       course = course;
       reported = λ e. stage ∙ l .reported e;
+      outgoing = λ _. record { queue = λ el _. header-not-element (w .session) st (sym stage ∙ el); sent = λ _ _ _ z. none-sent z };
+      eod-place = record {
+        written = λ el _ _. header-not-element (w .session) st (sym stage ∙ el);
+        named = λ q. subst (λ (x : Header). EodAt last pass (length (w .notes .accepted)) (w .drive .tape) (x .eod .0)) (sym head) (l .eod-place .named (⊎-elim (λ z. inl (sym stage ∙ z)) (λ z. inr (sym stage ∙ z)) q));
+      };
       content = λ p u.
           let c = l .content p u in
           record {
@@ -103,10 +108,6 @@ module _ {last pass : ℕ} {premises : Type 0} (w : World) (r : Reply) (set : Se
             seen = subst (λ (x : Elements). Seen last pass (w .notes .accepted) (totalOf (x .eod) (length (w .notes .accepted))) (l .k) (l .edge) (w .drive .tape)) (sym els) (c .seen);
             below = subst (λ (x : Header). Below last x (w .drive .tape)) (sym head) (c .below);
             stored = subst (λ (p : Sized). (i : ℕ) → i < p .els .pending → StoredAs (itemAt (w .notes .accepted) (p .els .first .0 + i)) (w .window) (p .els .marks) (p .top + 1) (p .els .first .0 + i)) (sym (sized-same v high els)) (c .stored);
-            queue = λ el _. header-not-element (w .session) st (sym stage ∙ el);
-            sent = λ _ _ _ z. none-sent z;
-            eod-written = λ el _ _. header-not-element (w .session) st (sym stage ∙ el);
-            eod-named = λ q. subst (λ (x : Header). EodAt last pass (length (w .notes .accepted)) (w .drive .tape) (x .eod .0)) (sym head) (c .eod-named (⊎-elim (λ z. inl (sym stage ∙ z)) (λ z. inr (sym stage ∙ z)) q));
           };
     }
 
@@ -127,18 +128,9 @@ module _ {last pass : ℕ} {premises : Type 0} (w : World) (r : Reply) (set : Se
           carried = subst (λ (n : ℕ). Carried last pass n (w .session .copies .header)) spare (l .carried);
           course = course;
           reported = reported;
-          content = λ p u.
-              let x = l .content p u in
-              record {
-                tape = x .tape;
-                seen = x .seen;
-                below = x .below;
-                stored = x .stored;
-                queue = queue;
-                sent = λ _ _ _ z. none-sent z;
-                eod-written = λ el b _. absurd (unended el b);
-                eod-named = λ q. x .eod-named (inl (named q));
-              };
+          outgoing = λ _. record { queue = queue; sent = λ _ _ _ z. none-sent z };
+          eod-place = record { written = λ el b _. absurd (unended el b); named = λ q. l .eod-place .named (inl (named q)) };
+          content = λ p u. let x = l .content p u in record { tape = x .tape; seen = x .seen; below = x .below; stored = x .stored };
         }
 
   -- ---- the opening headers

@@ -82,6 +82,24 @@ pub data Course (last : ℕ) (w : World) (k edge : ℕ) : Type 0 where
       → w .flight ≡ recordings.no-command → w .session .exchange .awaiting ≡ false → w .session .exchange .again ≡ false → AtRest (w .drive)
       → Copy (w .session .copies .header) (w .drive .tape) (last + 1) → Course last w k edge
 
+-- ---- the frames of elements and EOD
+
+-- on their way to the tape: those that the drive holds, and one that goes to it
+pub record Outgoing (last pass : ℕ) (w : World) (k : ℕ) : Type 0 where
+  -- behind a failed one none is ever written
+  pub queue : ElementStage (w .session) → w .drive .failed ≡ false → Queue last pass (w .notes .accepted) k (w .drive .buffer)
+  pub sent : (a : Address) (f : List ℕ) → ElementStage (w .session) → w .flight ≡ recordings.sent (Write a) f
+      → Stands last pass (itemAt (w .notes .accepted) (w .session .elements .first .0 + w .session .elements .outstanding)) (w .session .elements .first .0 + w .session .elements .outstanding) f
+
+-- when they are known: under the premises, and once EOD alone is due, since its frame has nothing from the window
+abbrev pub Known : Type 0 → World → Type 0
+Known premises w = (premises × (w .notes .unaltered ≡ true)) ⊎ (w .session .elements .eod ≡ true)
+
+-- EOD, once it is on tape, stands behind the drive's place, and then where the closing headers say
+pub record EodPlace (last pass : ℕ) (w : World) (k : ℕ) : Type 0 where
+  pub written : ElementStage (w .session) → w .session .elements .eod ≡ true → k ≡ length (w .notes .accepted) + 1 → EodAt last pass (length (w .notes .accepted)) (w .drive .tape) (w .drive .at - 1)
+  pub named : (w .session .stage ≡ S.ClosingHeaders) ⊎ (w .session .stage ≡ S.Done) → EodAt last pass (length (w .notes .accepted)) (w .drive .tape) (w .session .copies .header .eod .0)
+
 -- ---- tape and window, under the premises
 
 pub record Content (last pass : ℕ) (w : World) (k edge : ℕ) : Type 0 where
@@ -90,13 +108,6 @@ pub record Content (last pass : ℕ) (w : World) (k edge : ℕ) : Type 0 where
   pub below : Below last (w .session .copies .header) (w .drive .tape)
   pub stored : (i : ℕ) → i < w .session .elements .pending
       → StoredAs (itemAt (w .notes .accepted) (w .session .elements .first .0 + i)) (w .window) (w .session .elements .marks) (windowOf (w .session)) (w .session .elements .first .0 + i)
-  -- frames behind a failed one are never written
-  pub queue : ElementStage (w .session) → w .drive .failed ≡ false → Queue last pass (w .notes .accepted) k (w .drive .buffer)
-  pub sent : (a : Address) (f : List ℕ) → ElementStage (w .session) → w .flight ≡ recordings.sent (Write a) f
-      → Stands last pass (itemAt (w .notes .accepted) (w .session .elements .first .0 + w .session .elements .outstanding)) (w .session .elements .first .0 + w .session .elements .outstanding) f
-  -- EOD, once it is on tape, stands behind the drive's place, and then where the closing headers say
-  pub eod-written : ElementStage (w .session) → w .session .elements .eod ≡ true → k ≡ length (w .notes .accepted) + 1 → EodAt last pass (length (w .notes .accepted)) (w .drive .tape) (w .drive .at - 1)
-  pub eod-named : (w .session .stage ≡ S.ClosingHeaders) ⊎ (w .session .stage ≡ S.Done) → EodAt last pass (length (w .notes .accepted)) (w .drive .tape) (w .session .copies .header .eod .0)
 
 -- ---- the whole
 
@@ -108,6 +119,8 @@ pub record Live (last pass : ℕ) (premises : Type 0) (w : World) : Type 0 where
   pub carried : Carried last pass (spareOf (w .session .stage)) (w .session .copies .header)
   pub course : Course last w k edge
   pub reported : w .notes .reported ≡ true → w .session .stage ≡ S.Done
+  pub outgoing : Known premises w → Outgoing last pass w k
+  pub eod-place : EodPlace last pass w k
   pub content : premises → w .notes .unaltered ≡ true → Content last pass w k edge
 
 -- all that the drive may still write goes to addresses that are allowed

@@ -206,6 +206,8 @@ begins-fresh last d window s x premises set unwritten rest pre =
             copying = to-seek refl refl (record { due = refl; rests = rest; kept = inl refl });
           }));
       reported = λ e. absurd (true≢false (sym e));
+      outgoing = λ _. record { queue = λ st _. absurd (opening-stage st); sent = λ _ _ st _. absurd (opening-stage st) };
+      eod-place = record { written = λ st _ _. absurd (opening-stage st); named = λ st. absurd (⊎-elim closing-stage done-stage st) };
       content = λ p _.
           let c = pre p in
           record {
@@ -213,10 +215,6 @@ begins-fresh last d window s x premises set unwritten rest pre =
             seen = subst (λ (n : ℕ). Seen last (s .copies .header .pass) [] n 0 10 (d .tape)) (ap (λ (r : State). inv.totalOf (r .elements .eod) 0) (x .is)) (nothing-seen last (s .copies .header .pass) (d .tape) (c .0) (c .1));
             below = c .2;
             stored = λ i h. absurd (none-pending i h);
-            queue = λ st _. absurd (opening-stage st);
-            sent = λ _ _ st _. absurd (opening-stage st);
-            eod-written = λ st _ _. absurd (opening-stage st);
-            eod-named = λ st. absurd (⊎-elim closing-stage done-stage st);
           };
     })
   where
