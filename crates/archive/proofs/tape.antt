@@ -2,6 +2,6 @@ pub mod Basics
 pub mod Stands
 pub mod WrittenFrames
 pub mod StandsLaws
-pub mod Scan
-pub mod ScanLaws
+pub mod Seen
+pub mod FoldLaws
 pub mod SeenLaws

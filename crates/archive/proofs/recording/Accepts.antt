@@ -32,7 +32,7 @@ use Rattle.recording_state.proofs.Stages.{HeaderStage, ElementStage}
 use Rattle.archive.specs.Recordings.{World, Element, block, filemark, TakesEffect, afterBlock, afterFilemark, acceptedAfter}
 use Rattle.archive.proofs.tape.Basics.{no-effect}
 use Rattle.recording_state.proofs.WindowLaws.{put-same-block, put-other-block}
-use Rattle.archive.proofs.tape.Scan.{Seen}
+use Rattle.archive.proofs.tape.Seen.{Seen}
 use Rattle.archive.proofs.tape.SeenLaws.{seen-accept}
 use Rattle.archive.proofs.tape.Stands.{Item, element, eod, itemAt, Stands, Queue, StoredAs}
 use Rattle.archive.proofs.tape.StandsLaws.{item-in, item-more}

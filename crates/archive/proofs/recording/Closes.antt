@@ -15,7 +15,7 @@ use Rattle.recording_state.specs.declared.state.State.{State}
 use Rattle.recording_state.specs.declared.state.Stage.the-variants as S
 use Rattle.recording_state.proofs.Stages.{ElementStage}
 use Rattle.archive.specs.Recordings.{World, TakesEffect, withSession}
-use Rattle.archive.proofs.tape.Scan.{Seen}
+use Rattle.archive.proofs.tape.Seen.{Seen}
 use Rattle.archive.proofs.tape.SeenLaws.{seen-eod}
 use Rattle.archive.proofs.tape.Basics.{no-frames}
 use Rattle.archive.proofs.tape.Stands.{Item, itemAt, Queue, StoredAs}

@@ -27,7 +27,7 @@ use Rattle.recording_state.specs.declared.state.Stage.the-variants as S
 use Rattle.reading_state.specs.Open as reading
 use Rattle.archive.specs.Headers.{HeaderAt, Newest}
 use Rattle.archive.specs.Recordings.{World}
-use Rattle.archive.proofs.tape.Scan.{Seen}
+use Rattle.archive.proofs.tape.Seen.{Seen}
 use Rattle.archive.proofs.tape.SeenLaws.{seen-recorded}
 use Rattle.archive.proofs.recording.HeaderCopies.{Carried, Copy, Below}
 use Rattle.archive.proofs.recording.Invariant.{totalOf, Course, opening, writing, closing, finished, Content, Live, live, rejecting, over, Inv}

@@ -24,8 +24,8 @@ use Rattle.recording_state.specs.declared.state.Stage.the-variants as S
 use Rattle.recording_state.proofs.Stages.{ElementStage}
 use Rattle.archive.specs.Recordings.{World, Element, withDrive}
 use Rattle.archive.proofs.tape.Basics.{none-some, some-same}
-use Rattle.archive.proofs.tape.Scan.{Seen}
-use Rattle.archive.proofs.tape.ScanLaws.{put-same, put-other}
+use Rattle.archive.proofs.tape.Seen.{Seen}
+use Rattle.archive.proofs.tape.FoldLaws.{put-same, put-other}
 use Rattle.archive.proofs.tape.SeenLaws.{cartridge-put, seen-elsewhere, seen-writes, seen-fails}
 use Rattle.archive.proofs.tape.Stands.{Item, eod, itemAt, Stands, Queue}
 use Rattle.archive.proofs.tape.StandsLaws.{item-past, stands-read, stands-long}

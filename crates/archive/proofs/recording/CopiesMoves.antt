@@ -29,7 +29,7 @@ use Rattle.geometry.proofs.HeaderPlaces.{is-header, header-from-first}
 use Rattle.recording_state.specs.declared.state.State.{State}
 use Rattle.archive.specs.Recordings.{Flight}
 use Rattle.archive.proofs.recording.HeaderCopies.{Copy}
-use Rattle.archive.proofs.tape.ScanLaws.{put-same, put-other}
+use Rattle.archive.proofs.tape.FoldLaws.{put-same, put-other}
 use Rattle.archive.proofs.recording.CopiesLink.{CopyLink, CopyAsks, writes, asks, seeks, CopyAnswered, taken, counted, failed-write, failed-position, waits, HeaderSent, Copying, at-place, to-seek, again, under-way, replied}
 use Rattle.archive.proofs.recording.CopiesLink as link
 use Rattle.archive.proofs.recording.Invariant.{Safe, halted, allowed}

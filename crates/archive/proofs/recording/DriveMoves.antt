@@ -27,7 +27,7 @@ use Rattle.archive.proofs.tape.Stands.{itemAt, Stands, Queue}
 use Rattle.drive.specs.Senses.{meaningOf}
 use Rattle.drive.specs.Listed.{Listed}
 use Rattle.archive.specs.Tape.{Tape, Cartridge}
-use Rattle.archive.proofs.tape.Scan.{Seen}
+use Rattle.archive.proofs.tape.Seen.{Seen}
 use Rattle.archive.proofs.recording.HeaderCopies.{Below}
 use Rattle.archive.proofs.recording.CopiesLink as copies
 use Rattle.archive.proofs.recording.CopiesLink.{Copying, CopiesAgree}
@@ -36,7 +36,7 @@ use Rattle.archive.proofs.recording.CopiesMoves.{rests-still, CopyGoes,
 use Rattle.archive.proofs.recording.ElementsLink as elements
 use Rattle.archive.proofs.recording.ElementsLink.{Asks, Answered, Writing}
 use Rattle.archive.proofs.recording.ElementsMoves as writing
-use Rattle.archive.proofs.recording.ElementsMoves.{Goes, writing-goes, Outcome, elements-answer, asks-off-header}
+use Rattle.archive.proofs.recording.ElementsMoves.{Goes, writing-goes, ElementsOutcome, elements-answer, asks-off-header}
 use Rattle.archive.proofs.recording.ContentMoves.{header-content, header-eod-place, outgoing-written, outgoing-failed, eod-written, eod-failed, content-written, content-failed, queue-more}
 use Rattle.archive.proofs.recording.Invariant as inv
 use Rattle.archive.proofs.recording.Invariant.{totalOf, EodDue, Course, Outgoing, Known, EodPlace, Content, Live, Safe, halted, allowed, Inv, live, rejecting, over}
@@ -255,7 +255,7 @@ module _ {last pass : ℕ} {premises : Type 0} {w : World} (set : Setting last p
       element-answers : Writing last (w .session) (w .drive) (l .k) (l .edge) (recordings.sent c frame) → Inv last pass premises (withDrive w d (recordings.answered r))
       element-answers (elements.under-way _ _ a g e x) = go (elements-answer x an)
         where
-          go : Outcome last (heldOf (w .session)) (w .session .elements .pending) d (l .k) (l .edge) r c → Inv last pass premises (withDrive w d (recordings.answered r))
+          go : ElementsOutcome last (heldOf (w .session)) (w .session .elements .pending) d (l .k) (l .edge) r c → Inv last pass premises (withDrive w d (recordings.answered r))
           go (writing.goes-on y) =
               live within
               (relive d (recordings.answered r) (l .k) (l .edge)

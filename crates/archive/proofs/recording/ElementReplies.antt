@@ -37,8 +37,8 @@ use Rattle.archive.specs.Recordings as recordings
 use Rattle.archive.specs.Recordings.{World, Element}
 use Rattle.archive.specs.Demand.{Within}
 use Rattle.archive.proofs.tape.Basics.{none-sent}
-use Rattle.archive.proofs.tape.Scan.{Seen}
-use Rattle.archive.proofs.tape.ScanLaws.{fold-over}
+use Rattle.archive.proofs.tape.Seen.{Seen}
+use Rattle.archive.proofs.tape.FoldLaws.{fold-over}
 use Rattle.archive.proofs.tape.SeenLaws.{seen-moves}
 use Rattle.archive.proofs.tape.Stands.{itemAt, telling, StoredAs}
 use Rattle.archive.proofs.recording.HeaderCopies.{Below}

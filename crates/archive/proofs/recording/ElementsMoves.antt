@@ -157,11 +157,11 @@ asks-off-header {last} {h} {d = d} {k} (writes a p due off low l) =
     let user : isUser last (h .next .0) ≡ true = ranges-user last (h .next .0) (⊎-elim (λ z. inl (omega arith, omega (arith, off))) (λ z. inr (omega arith, low)) (l .zone)) in
     subst (λ (x : Address). isHeader (x .0) ≡ false) (sym p) (user-not-header last (h .next .0) user)
 
-pub data Outcome (last : ℕ) (h : Held) (pending : ℕ) (d : Drive) (k edge : ℕ) (r : Reply) (c : Command) : Type 0 where
-  goes-on : Answered last h pending d k edge r c → Outcome last h pending d k edge r c
-  reject : (Listed c (meaningOf (r .key) (r .asc) (r .ascq)) → ⊥) → Safe last d → Outcome last h pending d k edge r c
+pub data ElementsOutcome (last : ℕ) (h : Held) (pending : ℕ) (d : Drive) (k edge : ℕ) (r : Reply) (c : Command) : Type 0 where
+  goes-on : Answered last h pending d k edge r c → ElementsOutcome last h pending d k edge r c
+  reject : (Listed c (meaningOf (r .key) (r .asc) (r .ascq)) → ⊥) → Safe last d → ElementsOutcome last h pending d k edge r c
 
-pub elements-answer : {last : ℕ} {h : Held} {pending : ℕ} {d e : Drive} {k edge : ℕ} {frame : List ℕ} {c : Command} {r : Reply} → Asks last h pending d k edge c → conduct.Answers d frame c r e → Outcome last h pending e k edge r c
+pub elements-answer : {last : ℕ} {h : Held} {pending : ℕ} {d e : Drive} {k edge : ℕ} {frame : List ℕ} {c : Command} {r : Reply} → Asks last h pending d k edge c → conduct.Answers d frame c r e → ElementsOutcome last h pending e k edge r c
 elements-answer {frame = frame} (writes a p due off low l) (conduct.takes _ r m) = goes-on (taken a m due (link-takes frame off low l))
 elements-answer {last} (writes a p due off low l) (conduct.overflows _ r off-header m) = goes-on (filled a m (subst (λ (x : Address). x .0 ≤ last) (sym p) low) l)
 elements-answer (writes a p due off low l) (conduct.write-fails _ r m x q) = goes-on (failed-write a m x q l)

@@ -40,7 +40,7 @@ use Rattle.archive.specs.Recordings as recordings
 use Rattle.archive.specs.Recordings.{World, Flight, TakesEffect, fetchNumber, flightAfter, reportedAfter, afterFetch}
 use Rattle.archive.specs.Demand.{Within}
 use Rattle.archive.proofs.tape.Basics.{no-effect, no-frames}
-use Rattle.archive.proofs.tape.Scan.{Seen}
+use Rattle.archive.proofs.tape.Seen.{Seen}
 use Rattle.archive.proofs.tape.SeenLaws.{seen-moves}
 use Rattle.archive.proofs.tape.Stands.{itemAt, Stands, StoredAs}
 use Rattle.archive.proofs.recording.CopiesLink as copies

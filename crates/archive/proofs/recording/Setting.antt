@@ -11,7 +11,7 @@ use Rattle.archive.specs.Tape.{Tape, Cartridge}
 use Rattle.archive.specs.Headers.{Newest}
 use Rattle.archive.specs.Recordings.{Element}
 use Rattle.archive.specs.Demand.{Opening, OnNewest, NoneBears}
-use Rattle.archive.proofs.tape.Scan.{Recorded}
+use Rattle.archive.proofs.tape.Seen.{Recorded}
 use Rattle.archive.proofs.tape.Stands.{eod, Stands}
 
 -- the numbers that the geometry and the opening fix

@@ -37,8 +37,8 @@ use Rattle.archive.specs.Demand as demand
 use Rattle.archive.specs.Demand.{newPass, Opening, on-header, on-none, opened, OnNewest, NoneBears}
 use Rattle.archive.specs.Fold.{foldOf}
 use Rattle.archive.proofs.tape.Stands.{telling}
-use Rattle.archive.proofs.tape.Scan.{Seen}
-use Rattle.archive.proofs.tape.ScanLaws.{seen-part, fold-over}
+use Rattle.archive.proofs.tape.Seen.{Seen}
+use Rattle.archive.proofs.tape.FoldLaws.{seen-part, fold-over}
 use Rattle.archive.proofs.recording.HeaderCopies.{Carried, Below}
 use Rattle.archive.proofs.recording.CopiesLink.{to-seek}
 use Rattle.archive.proofs.recording.Invariant as inv

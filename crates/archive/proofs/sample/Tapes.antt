@@ -24,7 +24,7 @@ use Rattle.archive.specs.Conduct.{Drive}
 use Rattle.archive.specs.Tape.{Tape, put, Cartridge}
 use Rattle.archive.specs.Headers.{Newest, NoHeader}
 use Rattle.archive.specs.Demand.{NoneBears}
-use Rattle.archive.proofs.tape.ScanLaws.{put-same, put-other}
+use Rattle.archive.proofs.tape.FoldLaws.{put-same, put-other}
 use Rattle.archive.proofs.tape.SeenLaws.{cartridge-put}
 use Rattle.archive.proofs.sample.Flush.{flushed}
 use Rattle.archive.proofs.sample.Headers.{groupWritten, headersWritten}
