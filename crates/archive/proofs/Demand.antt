@@ -30,7 +30,7 @@ use Rattle.archive.proofs.tape.Stands.{telling}
 use Rattle.archive.proofs.Fold.{reading-is-fold}
 
 -- the invariant holds after every list
-pub runs-keep : {last pass : ℕ} {premises : Type 0} {w v : recordings.World} {cs : List recordings.Call} → Setting last pass → Inv last pass premises w → recordings.Runs w cs v → Inv last pass premises v
+runs-keep : {last pass : ℕ} {premises : Type 0} {w v : recordings.World} {cs : List recordings.Call} → Setting last pass → Inv last pass premises w → recordings.Runs w cs v → Inv last pass premises v
 runs-keep set i recordings.stop = i
 runs-keep set i (recordings.call c rest) = runs-keep set (keeps-call _ _ _ set i c) rest
 runs-keep set i (recordings.drive m rest) = runs-keep set (keeps-move _ _ set i m) rest

@@ -1,5 +1,5 @@
 -- Accepting and close keep the invariant. Assumes nothing.
-use Prim.Native.Nat.{ℕ, suc, _+_, _-_, _*_, _/_, _%_, _^_, _≤_, _<_}
+use Prim.Native.Nat.{ℕ, suc, _+_, _*_, _/_, _%_, _^_, _≤_, _<_}
 use mathlib.Core.Path.{_≡_, refl, sym, ap, subst, _∙_}
 use mathlib.Core.Bool.{Bool, true, false, _&&_}
 use mathlib.Core.List.{List, [], _∷_, _++_}
@@ -9,7 +9,7 @@ use native.Mathlib.Nat.{eq-or-lt-of-le, div-add-mod', mul-le-mul-right, mod-eq-o
 use native.Mathlib.Omega.{arith}
 use borrow.Author.Tests.{ltb-true, ltb-false, eqb-true}
 use lib.Dec.{eqb, ltb}
-use lib.ListN.{length, set, length-append, length-set}
+use lib.ListN.{length, length-append, length-set}
 use lib.Seq.{getD-at}
 use Rattle.geometry.proofs.PickLaws.{pick-by}
 use Rattle.geometry.proofs.TestLaws.{or-false, and-true}
@@ -19,7 +19,6 @@ use Rattle.buffer.proofs.Agreement.{agree-is}
 use Rattle.drive.specs.Listed.{Listed}
 use Rattle.drive.specs.Senses.{meaningOf}
 use Rattle.elements.specs.Elements as elements
-use Rattle.elements.specs.declared.elements.Elements.{Elements}
 use Rattle.elements.proofs.AcceptLaws.{mark-kept, accepted-new}
 use Rattle.recording_state.specs.Accept.{acceptsNone, isFull, withElement, filemarkOf, placeOf, StoredSaid, blockOf, closeOf}
 use Rattle.recording_state.specs.State.{closedOf, OutcomeSaid, windowOf, windowLength, accepting, eodDue, closingStarted, settledBy, settledOf}
@@ -52,7 +51,7 @@ pub record Accepting (s : State) : Type 0 where
 accepting-so : (s : State) → acceptsNone s ≡ false → isFull s ≡ false → Accepting s
 accepting-so s a b = let x = or-false (s .ended) (s .closed) a in record { going = x .0; unclosed = x .1; room = ltb-false (s .setup .highest) (s .elements .pending) b }
 
-pub filemark-view : (s : State) → TakesEffect (filemarkOf s .number) → (filemarkOf s ≡ accepting (withElement s true)) × Accepting s
+filemark-view : (s : State) → TakesEffect (filemarkOf s .number) → (filemarkOf s ≡ accepting (withElement s true)) × Accepting s
 unfolding filemarkOf
 filemark-view s =
     pick-by (λ (r : OutcomeSaid). TakesEffect (r .number) → (r ≡ accepting (withElement s true)) × Accepting s) (acceptsNone s) (λ _ te. no-effect (omega arith) (omega arith) te)
@@ -65,7 +64,7 @@ pub record Storing (s : State) (b window : List ℕ) (r : StoredSaid) : Type 0 w
   pub full : length b ≡ 32768
   pub long : length window ≡ windowLength s
 
-pub block-view : (s : State) (b window : List ℕ) → TakesEffect (blockOf s b window .result .number) → Storing s b window (blockOf s b window)
+block-view : (s : State) (b window : List ℕ) → TakesEffect (blockOf s b window .result .number) → Storing s b window (blockOf s b window)
 unfolding blockOf
 block-view s b window =
     pick-by (λ (r : StoredSaid). TakesEffect (r .result .number) → Storing s b window r) (acceptsNone s) (λ _ te. no-effect (omega arith) (omega arith) te)

@@ -1,7 +1,7 @@
 -- What a recording that reported done leaves, and that a reading opens on it. Assumes nothing.
 use Prim.Native.Nat.{ℕ, _+_, _^_, _≤_, _<_}
 use mathlib.Core.Path.{_≡_, sym, ap, subst, _∙_}
-use mathlib.Core.Bool.{Bool, true, false, true≢false, _||_}
+use mathlib.Core.Bool.{Bool, true, true≢false, _||_}
 use mathlib.Core.List.{List}
 use mathlib.Core.Logic.{_⊎_, inl, inr, ⊎-elim}
 use native.Mathlib.Omega.{arith}
@@ -57,7 +57,7 @@ module _ {last pass spare : ℕ} (set : Setting last pass) (h : Header) (c : Car
   pass-low = omega (arith, c .pass-is, set .low)
 
   module _ {f : List ℕ} (r : ReadsAs (headerFrame h) f) where
-    pub copy-valid : validHeader last f ≡ true
+    copy-valid : validHeader last f ≡ true
     copy-valid =
         read-valid r last
         ∙ subst (λ (n : ℕ). validHeader n (headerFrame h) ≡ true) (c .last-is)
@@ -69,10 +69,10 @@ module _ {last pass spare : ℕ} (set : Setting last pass) (h : Header) (c : Car
     pub copy-fields : headerOf f ≡ h
     copy-fields = read-fields r ∙ built-fields h last-small (omega (arith, pass-low)) eod-small update-small
 
-    pub copy-pass : headerOf f .pass ≡ pass
+    copy-pass : headerOf f .pass ≡ pass
     copy-pass = ap (λ (x : Header). x .pass) copy-fields ∙ c .pass-is
 
-    pub copy-eod : headerOf f .eod .0 ≡ h .eod .0
+    copy-eod : headerOf f .eod .0 ≡ h .eod .0
     copy-eod = ap (λ (x : Header). x .eod .0) copy-fields
 
   -- it is the newest, and so is every other newest one a copy
@@ -80,7 +80,7 @@ module _ {last pass spare : ℕ} (set : Setting last pass) (h : Header) (c : Car
     here : HeaderAt last t (y .address) (y .frame)
     here = record { group = y .group; reads = y .reads; valid = copy-valid (y .as-sent) }
 
-    pub copy-newest : Newest last t (y .frame)
+    copy-newest : Newest last t (y .frame)
     copy-newest = record {
       address = y .address;
       here = here;
@@ -91,10 +91,10 @@ module _ {last pass spare : ℕ} (set : Setting last pass) (h : Header) (c : Car
     newest-copy f n =
         ⊎-elim (λ l. absurd (omega (arith, copy-update (y .as-sent), n .highest (y .address) (y .frame) here))) (λ r. r) (below (n .address) f (n .here))
 
-    pub newest-pass : (f : List ℕ) → Newest last t f → headerOf f .pass ≡ pass
+    newest-pass : (f : List ℕ) → Newest last t f → headerOf f .pass ≡ pass
     newest-pass f n = copy-pass (newest-copy f n)
 
-    pub newest-eod : (f : List ℕ) → Newest last t f → headerOf f .eod .0 ≡ h .eod .0
+    newest-eod : (f : List ℕ) → Newest last t f → headerOf f .eod .0 ≡ h .eod .0
     newest-eod f n = copy-eod (newest-copy f n)
 
 -- ---- done

@@ -34,7 +34,7 @@ use Rattle.archive.proofs.recording.Setting.{EodAt}
 use Rattle.archive.proofs.recording.Invariant.{totalOf, Outgoing, EodPlace, Content}
 
 -- what a tried address reads as
-pub left-reads : {before : Option (List ℕ)} {sent f : List ℕ} {v : Option (List ℕ)} → Left before sent v → v ≡ some f → (before ≡ some f) ⊎ ReadsAs sent f
+left-reads : {before : Option (List ℕ)} {sent f : List ℕ} {v : Option (List ℕ)} → Left before sent v → v ≡ some f → (before ≡ some f) ⊎ ReadsAs sent f
 left-reads as-before e = inl e
 left-reads {sent = sent} (as-new _ (conduct.reads read r)) e = inr (subst (λ (x : List ℕ). ReadsAs sent x) (some-same e) r)
 left-reads not-at-all e = none-some e

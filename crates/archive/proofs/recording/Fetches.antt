@@ -58,7 +58,7 @@ use Rattle.archive.proofs.recording.Setting.{Setting}
 
 -- ---- the same elements, by another command
 
-pub relink : {last : ℕ} {d : Drive} {k edge extra : ℕ} (h v : Held) → v .first ≡ h .first → v .outstanding ≡ h .outstanding → v .next ≡ h .next → v .locate ≡ h .locate → Linked last h d k edge extra → Linked last v d k edge extra
+relink : {last : ℕ} {d : Drive} {k edge extra : ℕ} (h v : Held) → v .first ≡ h .first → v .outstanding ≡ h .outstanding → v .next ≡ h .next → v .locate ≡ h .locate → Linked last h d k edge extra → Linked last v d k edge extra
 relink h v a b c e l =
     let a0 = ap (λ (x : Seq). x .0) a in
     let c0 = ap (λ (x : Address). x .0) c in
@@ -77,7 +77,7 @@ relink h v a b c e l =
       edge-is = l .edge-is;
     }
 
-pub remove : {last : ℕ} {d : Drive} {k edge target : ℕ} (h v : Held) → v .first ≡ h .first → v .outstanding ≡ h .outstanding → Moving last h d k edge target → Moving last v d k edge target
+remove : {last : ℕ} {d : Drive} {k edge target : ℕ} (h v : Held) → v .first ≡ h .first → v .outstanding ≡ h .outstanding → Moving last h d k edge target → Moving last v d k edge target
 remove h v a b m =
     let a0 = ap (λ (x : Seq). x .0) a in
     record { none-out = b ∙ m .none-out; first-is = a0 ∙ m .first-is; rests = m .rests; roof = m .roof; zone = m .zone; spread = m .spread; edge-is = m .edge-is }

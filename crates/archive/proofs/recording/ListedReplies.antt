@@ -86,7 +86,7 @@ module _ {last pass : ℕ} {premises : Type 0} (w : World) (c : Command) (f : Li
   live-issued l (invariant.closing st _ _ _ _ agree) = header-issued w c f (l .going) (inr st) (subst (Copying (w .session) (w .drive)) q (agree .copying))
   live-issued l (invariant.finished _ _ _ _ _ none _ _ _ _) = none-sent (sym none ∙ q)
 
-  pub issued : Inv last pass premises w → Issued (w .session) c
+  issued : Inv last pass premises w → Issued (w .session) c
   issued (live _ l) = live-issued l (l .course)
   issued (rejecting _ d) = answered-sent (sym (d .replied) ∙ q)
   issued (over _ o) = none-sent (sym (o .none) ∙ q)

@@ -3,13 +3,13 @@ use Prim.Native.Nat.{ℕ, _+_, _-_, _%_, _^_, _≤_, _<_}
 use mathlib.Core.Path.{_≡_, refl, sym, ap, subst, _∙_}
 use mathlib.Core.Bool.{Bool, true, false, _||_, true≢false}
 use mathlib.Core.List.{List, []}
-use mathlib.Core.Logic.{_⊎_, inl, inr, ⊎-elim}
+use mathlib.Core.Logic.{inl, inr, ⊎-elim}
 use native.Mathlib.Nat.{le-refl, mod-eq-of-lt}
 use native.Mathlib.Omega.{arith}
 use borrow.Author.Tests.{ltb-false, leb-false}
 use lib.Dec.{eqb, ltb, leb}
 use lib.ListN.{length-replicate}
-use Rattle.geometry.specs.Place.{PlaceSaid, address, refused}
+use Rattle.geometry.specs.Place.{PlaceSaid, address}
 use Rattle.geometry.specs.Cartridge.{lastOf, isUser}
 use Rattle.geometry.specs.declared.cartridge.Geometry.{Geometry}
 use Rattle.geometry.proofs.PickLaws.{pick-by}
@@ -129,7 +129,7 @@ module _ (g : Geometry) (last depth blocks : ℕ) (s : State) (e : lastOf g ≡ 
         count-fits = omega arith;
       }
 
-  pub started-as : (o : Opening) → opened g depth blocks o ≡ accepting s → Started last s
+  started-as : (o : Opening) → opened g depth blocks o ≡ accepting s → Started last s
   started-as (on-header h) q = started-header h (on-header-view h q)
   started-as on-none q = started-none q
 
@@ -141,7 +141,7 @@ module _ (g : Geometry) (last depth blocks : ℕ) (s : State) (e : lastOf g ≡ 
   pass-is on-none q = sym (ap (λ (r : State). r .copies .header .pass) (blank-with q .0))
 
   -- every valid header that the cartridge holds counts less
-  pub starts-below : (t : Tape) (o : Opening) → opened g depth blocks o ≡ accepting s → OnNewest last t o → Below last (s .copies .header) t
+  starts-below : (t : Tape) (o : Opening) → opened g depth blocks o ≡ accepting s → OnNewest last t o → Below last (s .copies .header) t
   starts-below t (on-header h) q n a f at =
       let o = on-header-view h q in
       let x = fresh-counts h o in

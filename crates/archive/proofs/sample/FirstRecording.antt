@@ -176,7 +176,7 @@ afterBlock b t = put (afterFailure t) 44 (some (elementFrame firstBlock b))
 abbrev pub afterFilemark : List ℕ → Tape → Tape
 afterFilemark b t = put (afterBlock b t) 45 (some (elementFrame firstFilemark blank))
 
-abbrev pub afterEod : List ℕ → Tape → Tape
+abbrev afterEod : List ℕ → Tape → Tape
 afterEod b t = put (afterFilemark b t) 46 (some (elementFrame firstEod blank))
 
 -- the drive after the opening headers, after EOD, and at the end

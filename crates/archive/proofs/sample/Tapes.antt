@@ -71,7 +71,7 @@ module _ (h : Header) (d : Drive) where
   firstGroup = groupWritten h 0 d
 
   -- a copy at each address of the groups
-  pub headers-read : (a : ℕ) → isHeader a ≡ true → headersWritten h d .tape a ≡ some (headerFrame h)
+  headers-read : (a : ℕ) → isHeader a ≡ true → headersWritten h d .tape a ≡ some (headerFrame h)
   headers-read a group = go (ranges 5 9 2990 2994 a group)
     where
       go : ((5 ≤ a) × (a ≤ 9)) ⊎ ((2990 ≤ a) × (a ≤ 2994)) → headersWritten h d .tape a ≡ some (headerFrame h)

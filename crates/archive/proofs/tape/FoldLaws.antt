@@ -97,10 +97,6 @@ pub fold-user : (told : Told) (t : Tape) (a : ℕ) → isUser (told .last .0) a 
 unfolding foldOf
 fold-user told t a u = ap (foldOf told t) (add-one a) ∙ pick-t _ u
 
-pub fold-other : (told : Told) (t : Tape) (a : ℕ) → isUser (told .last .0) a ≡ false → foldOf told t (a + 1) ≡ foldOf told t a
-unfolding foldOf
-fold-other told t a u = ap (foldOf told t) (add-one a) ∙ pick-f _ u
-
 -- a reading that has ended or was refused stays so
 abbrev pub Final : Reader → Type 0
 Final (going n got) = ⊥
@@ -127,7 +123,7 @@ pub fold-final : (told : Told) (t : Tape) (a b : ℕ) {r : Reader} → a ≤ b �
 fold-final told t a b l h e = let z : b ≡ b - a + a = omega arith in ap (foldOf told t) z ∙ fold-final-by told t a (b - a) h e
 
 -- an address above changes nothing
-pub fold-put : (told : Told) (t : Tape) (a : ℕ) (v : Option (List ℕ)) (b : ℕ) → b ≤ a → foldOf told (put t a v) b ≡ foldOf told t b
+fold-put : (told : Told) (t : Tape) (a : ℕ) (v : Option (List ℕ)) (b : ℕ) → b ≤ a → foldOf told (put t a v) b ≡ foldOf told t b
 unfolding foldOf
 fold-put told t a v zero h = refl
 fold-put told t a v (suc b) h = rw (put-other t a v b (λ e. omega arith), fold-put told t a v b (omega arith))

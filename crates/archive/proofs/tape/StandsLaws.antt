@@ -46,7 +46,7 @@ carries-read eod r c = tt
 pub stands-read : {last pass i : ℕ} {x : Item} {sent read : List ℕ} → Stands last pass x i sent → ReadsAs sent read → Stands last pass x i read
 stands-read {last} {pass} {i} {x} s r = record { found = judged-as-sent r (telling last pass) (record { 0 = i }) ∙ s .found; carries = carries-read x r (s .carries) }
 
-pub stands-found : {last pass i : ℕ} {x : Item} {f : List ℕ} → Stands last pass x i f → FoundAs (telling last pass) (record { 0 = i }) (kindFor x) f
+stands-found : {last pass i : ℕ} {x : Item} {f : List ℕ} → Stands last pass x i f → FoundAs (telling last pass) (record { 0 = i }) (kindFor x) f
 stands-found {last} {pass} {i} {x} {f} s = found-known (kindFor x) (subst (λ (j : JudgementSaid). JudgeView (telling last pass) (record { 0 = i }) f j) (s .found) (judge-view (telling last pass) (record { 0 = i }) f))
 
 pub stands-long : {last pass i : ℕ} {x : Item} {f : List ℕ} → Stands last pass x i f → length f ≡ 33280
