@@ -19,7 +19,7 @@ use Rattle.reading_state.specs.Open as reading
 use Rattle.archive.specs.Recordings as recordings
 use Rattle.archive.specs.Recordings.{Element}
 use Rattle.archive.specs.Demand.{Opening, opened, newPass, OnNewest, NoneBears, Readable, Within, Promised, Demand3}
-use Rattle.archive.proofs.recording.Setting.{Setting, Premises, Leaves}
+use Rattle.archive.proofs.recording.Setting.{Setting, Leaves}
 use Rattle.archive.proofs.recording.Invariant.{Inv, live, rejecting, over}
 use Rattle.archive.proofs.recording.InvariantLaws.{flight-awaits, fetch-awaited}
 use Rattle.archive.proofs.recording.Start.{sets, pass-is, begins}
@@ -30,27 +30,27 @@ use Rattle.archive.proofs.tape.Stands.{telling}
 use Rattle.archive.proofs.Fold.{reading-is-fold}
 
 -- the invariant holds after every list
-runs-keep : {last pass : ℕ} {premises : Type 0} {w v : recordings.World} {cs : List recordings.Call} → Setting last pass → Inv last pass premises w → recordings.Runs w cs v → Inv last pass premises v
+runs-keep : {last pass : ℕ} {on-newest none-bears : Type 0} {w v : recordings.World} {cs : List recordings.Call} → Setting last pass → Inv last pass on-newest none-bears w → recordings.Runs w cs v → Inv last pass on-newest none-bears v
 runs-keep set i recordings.stop = i
 runs-keep set i (recordings.call c rest) = runs-keep set (keeps-call _ _ _ set i c) rest
 runs-keep set i (recordings.drive m rest) = runs-keep set (keeps-move _ _ set i m) rest
 
-within : {last pass : ℕ} {premises : Type 0} {w : recordings.World} → Inv last pass premises w → Within last (w .drive .written)
+within : {last pass : ℕ} {on-newest none-bears : Type 0} {w : recordings.World} → Inv last pass on-newest none-bears w → Within last (w .drive .written)
 within (live h _) = h
 within (rejecting h _) = h
 within (over h _) = h
 
 -- what a newest header tells a reading
 told-is : {last pass : ℕ} {t : Tape} {xs : List Element} (l : Leaves last pass t xs) (h : List ℕ) → Newest last t h → reading.toldOf (headerOf h) ≡ telling last pass
-told-is {last} l h n = ap (λ (x : ℕ). telling x (headerOf h .pass)) (valid-last last h (n .here .valid)) ∙ ap (telling last) (l .passes h n)
+told-is {last} l h n = ap (λ (x : ℕ). telling x (headerOf h .pass)) (valid-last last h (n .here .valid)) ∙ ap (telling last) (l .headers .passes h n)
 
 -- a reading of what a done recording left is an instance of what every reading gives
 readable : (g : Geometry) (last pass : ℕ) (t : Tape) (xs : List Element) → g .segtrk < 2 ^ 16 → g .trks < 2 ^ 16 → lastOf g ≡ address last → Leaves last pass t xs → Readable g last t xs
 unfolding ReadingIsFold
 readable g last pass t xs seg trk e l = record {
-  header = l .header;
-  newest = l .newest;
-  opens = opens g last t (l .header) e (l .cartridge) (l .newest);
+  header = l .headers .header;
+  newest = l .headers .newest;
+  opens = opens g last t (l .headers .header) e (l .cartridge) (l .headers .newest);
   reads = λ h at calls w n r.
       subst (λ (x : Told). IsFold x t w) (told-is l h n) (reading-is-fold g last t h at calls w seg trk e (l .cartridge) (opens g last t h e (l .cartridge) n) r) .faithful xs (l .recorded);
 }
@@ -61,14 +61,11 @@ module _ (g : Geometry) (last depth blocks : ℕ) (d : Drive) (o : Opening) (s :
   pub set : Setting last (s .copies .header .pass)
   set = sets g last depth blocks o s seg trk e op
 
-  pub kept : Inv last (s .copies .header .pass) (Premises last (s .copies .header .pass) (d .tape) o) w
+  pub kept : Inv last (s .copies .header .pass) (OnNewest last (d .tape) o) (NoneBears last (d .tape) (s .copies .header .pass)) w
   kept = runs-keep set (begins g last depth blocks d o s window e set cart unwritten rest op) r
 
-  premises : OnNewest last (d .tape) o → NoneBears last (d .tape) (newPass o) → Premises last (s .copies .header .pass) (d .tape) o
-  premises newest none = (newest, subst (NoneBears last (d .tape)) (sym (pass-is g last depth blocks s e o op)) none)
-
-  pub leaves : OnNewest last (d .tape) o → NoneBears last (d .tape) (newPass o) → w .notes .unaltered ≡ true → w .notes .reported ≡ true → Leaves last (s .copies .header .pass) (w .drive .tape) (w .notes .accepted)
-  leaves newest none unaltered reported = completes w set kept (premises newest none) unaltered reported
+  leaves : OnNewest last (d .tape) o → NoneBears last (d .tape) (newPass o) → w .notes .unaltered ≡ true → w .notes .reported ≡ true → Leaves last (s .copies .header .pass) (w .drive .tape) (w .notes .accepted)
+  leaves newest none unaltered reported = completes w set kept newest (subst (NoneBears last (d .tape)) (sym (pass-is g last depth blocks s e o op)) none) unaltered reported
 
   promised : Promised g last (d .tape) o w
   promised = record {

@@ -36,8 +36,8 @@ use Rattle.archive.proofs.tape.Basics.{reads-itself}
 use Rattle.archive.proofs.tape.Stands.{telling}
 use Rattle.archive.proofs.recording.Setting.{Setting, EodAt}
 use Rattle.archive.proofs.recording.Invariant.{Inv, live, rejecting, over}
-use Rattle.archive.proofs.recording.Completion.{copy-fields}
-use Rattle.archive.proofs.Demand.{set, kept, leaves}
+use Rattle.archive.proofs.recording.Completion.{copy-fields, closes}
+use Rattle.archive.proofs.Demand.{set, kept}
 
 -- EOD at an address, in the terms of a header that names it
 ends-at : {last pass n : ℕ} {t : Tape} (h : Header) → h .last .0 ≡ last → h .pass ≡ pass → EodAt last pass n t (h .eod .0) → EndsAt h n t
@@ -73,7 +73,7 @@ module _ (s : State) (lent frame : List ℕ) (a : ℕ) (closing : s .stage ≡ S
   given-so (view.stopping _ _ _ _ _) e = never (cc)
   given-so (view.finished _ _ _) e = never (cc)
 
-given-end : {last pass : ℕ} {premises : Type 0} (w : recordings.World) (frame : List ℕ) → Setting last pass → Inv last pass premises w → w .session .stage ≡ S.ClosingHeaders → Given (w .session) frame
+given-end : {last pass : ℕ} {on-newest none-bears : Type 0} (w : recordings.World) (frame : List ℕ) → Setting last pass → Inv last pass on-newest none-bears w → w .session .stage ≡ S.ClosingHeaders → Given (w .session) frame
     → EndsAt (headerOf frame) (length (w .notes .accepted)) (w .drive .tape)
 given-end w frame set (live _ l) closing x =
     let h = w .session .copies .header in
@@ -92,8 +92,8 @@ module _ (g : Geometry) (last depth blocks : ℕ) (d : Drive) (o : Opening) (s :
     given = λ lent frame a closing said.
         given-end w (fetchOf (w .session) lent frame .frame) (set g last depth blocks d o s window calls w seg trk e cart unwritten rest op r) (kept g last depth blocks d o s window calls w seg trk e cart unwritten rest op r) closing
         (given-so (w .session) lent frame a closing (fetch-view (w .session) lent frame) said);
-    newest = λ newest none unaltered reported h n.
-        let l = leaves g last depth blocks d o s window calls w seg trk e cart unwritten rest op r newest none unaltered reported in
+    newest = λ newest reported h n.
+        let l = closes w (set g last depth blocks d o s window calls w seg trk e cart unwritten rest op r) (kept g last depth blocks d o s window calls w seg trk e cart unwritten rest op r) newest reported in
         ends-at (headerOf h) (valid-last last h (n .here .valid)) (l .passes h n) (l .ends h n);
   }
 

@@ -22,7 +22,7 @@ use Rattle.archive.specs.Tape.{Tape, Cartridge}
 use Rattle.archive.specs.Conduct.{Drive, AtRest}
 use Rattle.archive.specs.Headers.{Newest}
 use Rattle.archive.specs.Recordings as recordings
-use Rattle.archive.specs.Demand.{Opening, opened, newPass, OnNewest, NoneBears}
+use Rattle.archive.specs.Demand.{Opening, opened, OnNewest}
 
 -- where a header says, the tape reads as EOD with this number
 pub record EndsAt (h : Header) (n : ℕ) (t : Tape) : Type 0 where
@@ -36,8 +36,8 @@ pub record Ends (last : ℕ) (t : Tape) (o : Opening) (w : recordings.World) : T
   -- under the conduct alone: each closing header that a fetch gives, with a WRITE
   pub given : (lent frame : List ℕ) (a : ℕ) → w .session .stage ≡ S.ClosingHeaders → fetchOf (w .session) lent frame .said ≡ command 0x0A a
       → EndsAt (headerOf (fetchOf (w .session) lent frame .frame)) (length (w .notes .accepted)) (w .drive .tape)
-  -- under what demand 3 assumes, once the close has reported done: each newest header. (That there is one, demand 3 says.)
-  pub newest : OnNewest last t o → NoneBears last t (newPass o) → w .notes .unaltered ≡ true → w .notes .reported ≡ true
+  -- where the session was opened on the newest header or rightly on none, and the close has reported done: each newest header
+  pub newest : OnNewest last t o → w .notes .reported ≡ true
       → (h : List ℕ) → Newest last (w .drive .tape) h → EndsAt (headerOf h) (length (w .notes .accepted)) (w .drive .tape)
 
 unfoldable pub EndNamed : Type 0

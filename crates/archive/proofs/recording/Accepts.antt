@@ -120,7 +120,7 @@ queue-grow last pass xs ys k [] l q = tt
 queue-grow last pass xs ys k (f ∷ fs) l q =
     (subst (λ (x : Item). Stands last pass x k f) (sym (item-more xs ys k (omega arith))) (q .0), queue-grow last pass xs ys (k + 1) fs (omega arith) (q .1))
 
-module _ {last pass : ℕ} {premises : Type 0} (w : World) (set : Setting last pass) (l : Live last pass premises w) (mark : Bool) (x : Element) (acc : Accepting (w .session)) where
+module _ {last pass : ℕ} {on-newest none-bears : Type 0} (w : World) (set : Setting last pass) (l : Live last pass on-newest none-bears w) (mark : Bool) (x : Element) (acc : Accepting (w .session)) where
   -- the stages in which elements are accepted
   data Early (k edge : ℕ) : Type 0 where
     opening : w .session .stage ≡ S.OpeningHeaders → w .session .elements .eod ≡ false → Early k edge
@@ -239,12 +239,11 @@ module _ {last pass : ℕ} {premises : Type 0} (w : World) (set : Setting last p
           tape = c .tape;
           seen = subst (λ (n : ℕ). Seen last pass (w .notes .accepted ++ x ∷ []) n (l .k) (l .edge) (w .drive .tape)) (sym (total-plain (length (w .notes .accepted ++ x ∷ [])) y))
               (seen-accept x (subst (λ (n : ℕ). Seen last pass (w .notes .accepted) n (l .k) (l .edge) (w .drive .tape)) (total-plain (length (w .notes .accepted)) y) (c .seen)));
-          below = c .below;
           stored = stored-more;
         }
 
   live-more : (window : List ℕ) (unaltered : Bool) → (unaltered ≡ true → (w .notes .unaltered ≡ true) × Gains (w .session) (w .window) window x (elements.acceptedOf (w .session .elements) mark .marks))
-      → Live last pass premises (acceptedWorld w (withElement (w .session) mark) window unaltered x)
+      → Live last pass on-newest none-bears (acceptedWorld w (withElement (w .session) mark) window unaltered x)
   live-more window unaltered gain = record {
     k = l .k;
     edge = l .edge;
@@ -255,6 +254,7 @@ module _ {last pass : ℕ} {premises : Type 0} (w : World) (set : Setting last p
     reported = l .reported;
     outgoing = λ n. outgoing-more window unaltered (l .outgoing (⊎-elim (λ y. inl (y .0, gain (y .1) .0)) inr n));
     eod-place = let y = early (l .course) in record { written = λ _ b _. clash b (early-unended y); named = λ q. early-unclosed y q };
+    below = l .below;
     content = λ p u. let y = gain u in content-more window (l .content p (y .0)) (y .1) unaltered;
   }
 
@@ -272,24 +272,24 @@ rejecting-more w s window unaltered x d ended awaiting command stage = record {
   unreported = d .unreported;
 }
 
-pub keeps-filemark : {last pass : ℕ} {premises : Type 0} (w : World) → Setting last pass → Inv last pass premises w → TakesEffect (filemarkOf (w .session) .number) → Inv last pass premises (afterFilemark w)
-keeps-filemark {last} {pass} {premises} w set i te =
+pub keeps-filemark : {last pass : ℕ} {on-newest none-bears : Type 0} (w : World) → Setting last pass → Inv last pass on-newest none-bears w → TakesEffect (filemarkOf (w .session) .number) → Inv last pass on-newest none-bears (afterFilemark w)
+keeps-filemark {last} {pass} {on-newest} {none-bears} w set i te =
     let v = filemark-view (w .session) te in
-    subst (λ (r : OutcomeSaid). Inv last pass premises (withAccepted w (r .session) (w .window) (w .notes .unaltered) (acceptedAfter (r .number) (w .notes .accepted) filemark))) (sym (v .0)) (go (v .1) i)
+    subst (λ (r : OutcomeSaid). Inv last pass on-newest none-bears (withAccepted w (r .session) (w .window) (w .notes .unaltered) (acceptedAfter (r .number) (w .notes .accepted) filemark))) (sym (v .0)) (go (v .1) i)
   where
-    go : Accepting (w .session) → Inv last pass premises w → Inv last pass premises (acceptedWorld w (withElement (w .session) true) (w .window) (w .notes .unaltered) filemark)
+    go : Accepting (w .session) → Inv last pass on-newest none-bears w → Inv last pass on-newest none-bears (acceptedWorld w (withElement (w .session) true) (w .window) (w .notes .unaltered) filemark)
     go acc (live wr l) =
         live wr (live-more w set l true filemark acc (w .window) (w .notes .unaltered) (λ u. (u, record { keeps = λ _ _. refl; gains = accepted-new (w .session .elements) true (l .counted .marks) })))
     go acc (rejecting wr d) = rejecting wr (rejecting-more w (withElement (w .session) true) (w .window) (w .notes .unaltered) filemark d refl refl refl refl)
     go acc (over wr o) = clash (o .ended) (acc .going)
 
-pub keeps-block : {last pass : ℕ} {premises : Type 0} (w : World) (b lent : List ℕ) → Setting last pass → Inv last pass premises w → TakesEffect (blockOf (w .session) b lent .result .number) → Inv last pass premises (afterBlock w b lent)
-keeps-block {last} {pass} {premises} w b lent set i te =
+pub keeps-block : {last pass : ℕ} {on-newest none-bears : Type 0} (w : World) (b lent : List ℕ) → Setting last pass → Inv last pass on-newest none-bears w → TakesEffect (blockOf (w .session) b lent .result .number) → Inv last pass on-newest none-bears (afterBlock w b lent)
+keeps-block {last} {pass} {on-newest} {none-bears} w b lent set i te =
     let v = block-view (w .session) b lent te in
-    subst (λ (r : StoredSaid). Inv last pass premises (withAccepted w (r .result .session) (r .window) (w .notes .unaltered && agree lent (w .window)) (acceptedAfter (r .result .number) (w .notes .accepted) (block b)))) (sym (v .is)) (go v i)
+    subst (λ (r : StoredSaid). Inv last pass on-newest none-bears (withAccepted w (r .result .session) (r .window) (w .notes .unaltered && agree lent (w .window)) (acceptedAfter (r .result .number) (w .notes .accepted) (block b)))) (sym (v .is)) (go v i)
   where
-    go : Storing (w .session) b lent (blockOf (w .session) b lent) → Inv last pass premises w
-        → Inv last pass premises (acceptedWorld w (withElement (w .session) false) (putBlock lent (placeOf (w .session)) b) (w .notes .unaltered && agree lent (w .window)) (block b))
+    go : Storing (w .session) b lent (blockOf (w .session) b lent) → Inv last pass on-newest none-bears w
+        → Inv last pass on-newest none-bears (acceptedWorld w (withElement (w .session) false) (putBlock lent (placeOf (w .session)) b) (w .notes .unaltered && agree lent (w .window)) (block b))
     go v (live wr l) =
         let acc = v .accepting-it in
         let first = w .session .elements .first .0 in

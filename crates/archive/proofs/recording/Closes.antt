@@ -29,7 +29,7 @@ use Rattle.geometry.proofs.Impossible.{never, clash}
 
 -- ---- EOD becomes due
 
-module _ {last pass : ℕ} {premises : Type 0} (w : World) (l : Live last pass premises w) (st : w .session .stage ≡ S.Elements) (v : w .session .elements .eod ≡ false) (closed : w .session .closed ≡ true) (none : w .session .elements .pending ≡ 0) where
+module _ {last pass : ℕ} {on-newest none-bears : Type 0} (w : World) (l : Live last pass on-newest none-bears w) (st : w .session .stage ≡ S.Elements) (v : w .session .elements .eod ≡ false) (closed : w .session .closed ≡ true) (none : w .session .elements .pending ≡ 0) where
   one : (w .session .elements .pending + 1) % 2 ^ 16 ≡ 1
   one = ap (λ (n : ℕ). (n + 1) % 2 ^ 16) none
 
@@ -63,7 +63,7 @@ module _ {last pass : ℕ} {premises : Type 0} (w : World) (l : Live last pass p
     sent = λ a f _ q. absurd (omega (arith, sent-due (subst (Writing last (w .session) (w .drive) (l .k) (l .edge)) q (agreed (l .course))), none));
   }
 
-  pub eod-live : Live last pass premises (withSession w (eodDue (w .session)))
+  pub eod-live : Live last pass on-newest none-bears (withSession w (eodDue (w .session)))
   eod-live =
       let c = l .counted in
       let held = c .held in
@@ -84,19 +84,19 @@ module _ {last pass : ℕ} {premises : Type 0} (w : World) (l : Live last pass p
         reported = l .reported;
         outgoing = λ _. none-outgoing;
         eod-place = record { written = λ _ _ k. absurd (omega (arith, numbers .most, none, count)); named = λ q. ⊎-elim (λ z. never (cc)) (λ z. never (cc)) q };
+        below = l .below;
         content = λ p u.
             let x = l .content p u in
             record {
               tape = x .tape;
               seen = seen-eod (subst (λ (n : ℕ). Seen last pass (w .notes .accepted) n (l .k) (l .edge) (w .drive .tape)) (ap (λ (y : Bool). totalOf y (length (w .notes .accepted))) v) (x .seen));
-              below = x .below;
               stored = λ i h. eod-stored (w .window) (elements.acceptedOf (w .session .elements) false .marks) i h;
             };
       }
 
 -- ---- close was called
 
-module _ {last pass : ℕ} {premises : Type 0} (w : World) (l : Live last pass premises w) (unclosed : w .session .closed ≡ false) where
+module _ {last pass : ℕ} {on-newest none-bears : Type 0} (w : World) (l : Live last pass on-newest none-bears w) (unclosed : w .session .closed ≡ false) where
   closed-course : Course last w (l .k) (l .edge) → Course last (withSession w (closedOf (w .session))) (l .k) (l .edge)
   closed-course (inv.opening q v t c) =
       inv.opening q v t (agree-as (w .session) (closedOf (w .session)) (w .drive) refl refl c)
@@ -105,7 +105,7 @@ module _ {last pass : ℕ} {premises : Type 0} (w : World) (l : Live last pass p
   closed-course (inv.closing q v c a b g) = clash c unclosed
   closed-course (inv.finished q v c a b f g h r y) = clash c unclosed
 
-  closed-live : Live last pass premises (withSession w (closedOf (w .session)))
+  closed-live : Live last pass on-newest none-bears (withSession w (closedOf (w .session)))
   closed-live =
       let c = l .counted in
       record {
@@ -118,7 +118,8 @@ module _ {last pass : ℕ} {premises : Type 0} (w : World) (l : Live last pass p
         reported = l .reported;
         outgoing = λ n. let f = l .outgoing n in record { queue = f .queue; sent = f .sent };
         eod-place = record { written = l .eod-place .written; named = l .eod-place .named };
-        content = λ p u. let x = l .content p u in record { tape = x .tape; seen = x .seen; below = x .below; stored = x .stored };
+        below = l .below;
+        content = λ p u. let x = l .content p u in record { tape = x .tape; seen = x .seen; stored = x .stored };
       }
 
   not-eod : {X : Type 0} → w .session .elements .eod ≡ true → Course last w (l .k) (l .edge) → X
@@ -140,18 +141,18 @@ rejecting-close w s d ended awaiting command stage = record {
   unreported = d .unreported;
 }
 
-pub keeps-close : {last pass : ℕ} {premises : Type 0} (w : World) → Inv last pass premises w → TakesEffect (closeOf (w .session) .number) → Inv last pass premises (withSession w (closeOf (w .session) .session))
-keeps-close {last} {pass} {premises} w i te =
+pub keeps-close : {last pass : ℕ} {on-newest none-bears : Type 0} (w : World) → Inv last pass on-newest none-bears w → TakesEffect (closeOf (w .session) .number) → Inv last pass on-newest none-bears (withSession w (closeOf (w .session) .session))
+keeps-close {last} {pass} {on-newest} {none-bears} w i te =
     let v = close-view (w .session) te in
-    subst (λ (r : OutcomeSaid). Inv last pass premises (withSession w (r .session))) (sym (v .0)) (go (v .1) (v .2) i)
+    subst (λ (r : OutcomeSaid). Inv last pass on-newest none-bears (withSession w (r .session))) (sym (v .0)) (go (v .1) (v .2) i)
   where
-    go : w .session .ended ≡ false → w .session .closed ≡ false → Inv last pass premises w → Inv last pass premises (withSession w (settledOf (closedOf (w .session))))
+    go : w .session .ended ≡ false → w .session .closed ≡ false → Inv last pass on-newest none-bears w → Inv last pass on-newest none-bears (withSession w (settledOf (closedOf (w .session))))
     go going unclosed (live wr l) =
-        settled-cases (closedOf (w .session)) (λ (s : State). Inv last pass premises (withSession w s)) (λ _. live wr (closed-live w l unclosed))
+        settled-cases (closedOf (w .session)) (λ (s : State). Inv last pass on-newest none-bears (withSession w s)) (λ _. live wr (closed-live w l unclosed))
         (λ q v c none. live wr (eod-live (withSession w (closedOf (w .session))) (closed-live w l unclosed) q v c none))
         (λ q v none. not-eod w l unclosed v (l .course))
     go going unclosed (rejecting wr d) =
-        settled-cases (closedOf (w .session)) (λ (s : State). Inv last pass premises (withSession w s)) (λ _. rejecting wr (rejecting-close w (closedOf (w .session)) d refl refl refl (λ h. h)))
+        settled-cases (closedOf (w .session)) (λ (s : State). Inv last pass on-newest none-bears (withSession w s)) (λ _. rejecting wr (rejecting-close w (closedOf (w .session)) d refl refl refl (λ h. h)))
         (λ q v c none. rejecting wr (rejecting-close w (eodDue (closedOf (w .session))) d refl refl refl (λ h. h)))
         (λ q v none. rejecting wr (rejecting-close w (closingStarted (closedOf (w .session))) d refl refl refl (λ _. q)))
     go going unclosed (over wr o) = clash (o .ended) going

@@ -55,6 +55,15 @@ below-put last h t a v left below b f at = go (ℕ-discrete b a)
         ⊎-elim (λ q. again (ap t e ∙ q)) inr (left f (sym (put-same t a v) ∙ ap (put t a v) (sym e) ∙ at .reads))
     go (no n) = again (sym (put-other t a v b n) ∙ at .reads)
 
+pub header-below : {last : ℕ} (w : World) (v : Option (List ℕ)) → Left (w .drive .tape (w .drive .at)) (headerFrame (w .session .copies .header)) v → Below last (w .session .copies .header) (w .drive .tape)
+    → Below last (w .session .copies .header) (put (w .drive .tape) (w .drive .at) v)
+header-below {last} w v left = below-put last (w .session .copies .header) (w .drive .tape) (w .drive .at) v (λ f x. left-reads left x)
+
+-- where an element is written no header is
+pub element-below : {last : ℕ} (w : World) → isUser last (w .drive .at) ≡ true → (v : Option (List ℕ)) → Below last (w .session .copies .header) (w .drive .tape) → Below last (w .session .copies .header) (put (w .drive .tape) (w .drive .at) v)
+element-below {last} w here v below a g at =
+    below a g (record { group = at .group; reads = sym (put-other (w .drive .tape) (w .drive .at) v a (λ e. header-not-user last a (at .group) (ap (isUser last) e ∙ here))) ∙ at .reads; valid = at .valid })
+
 header-low : (last a : ℕ) → 3000 ≤ last → isHeader a ≡ true → a ≤ last
 header-low last a large h = ⊎-elim (λ x. let y = x .1 in omega arith) (λ x. let y = x .1 in omega arith) (ranges 5 9 2990 2994 a h)
 
@@ -70,7 +79,6 @@ module _ {last pass k : ℕ} (w : World) (e : Drive) (v : Option (List ℕ)) (q 
       record {
         tape = subst (Cartridge last) (sym q) (cartridge-put last t a v (header-low last a large at) (λ f x. ⊎-elim (λ y. c .tape .long a f y) (λ r. r .long ∙ header-length (w .session .copies .header)) (left-reads left x)) (c .tape));
         seen = subst (λ x. Seen last pass (w .notes .accepted) (totalOf (w .session .elements .eod) (length (w .notes .accepted))) k edge x) (sym q) (seen-elsewhere a v (not-user last a at (isUser last a) refl) (c .seen));
-        below = subst (Below last (w .session .copies .header)) (sym q) (below-put last (w .session .copies .header) t a v (λ f x. left-reads left x) (c .below));
         stored = c .stored;
       }
 
@@ -138,11 +146,6 @@ module _ {last pass k : ℕ} (w : World) (f : List ℕ) (rest : List (List ℕ))
       seen-here : Seen last pass (w .notes .accepted) (totalOf (w .session .elements .eod) (length (w .notes .accepted))) k (w .drive .at) (w .drive .tape)
       seen-here = subst (λ (a : ℕ). Seen last pass (w .notes .accepted) (totalOf (w .session .elements .eod) (length (w .notes .accepted))) k a (w .drive .tape)) edge-here (c .seen)
 
-      -- no header is there
-      below-user : (v : Option (List ℕ)) → Below last (w .session .copies .header) (put (w .drive .tape) (w .drive .at) v)
-      below-user v a g at =
-          c .below a g (record { group = at .group; reads = sym (put-other (w .drive .tape) (w .drive .at) v a (λ e. header-not-user last a (at .group) (ap (isUser last) e ∙ here))) ∙ at .reads; valid = at .valid })
-
       long-left : {v : Option (List ℕ)} → Left (w .drive .tape (w .drive .at)) f v → (g : List ℕ) → v ≡ some g → length g ≡ 33280
       long-left left g e = ⊎-elim (λ y. c .tape .long (w .drive .at) g y) (λ r. r .long ∙ stands-long (queued x .0)) (left-reads left e)
 
@@ -153,7 +156,6 @@ module _ {last pass k : ℕ} (w : World) (f : List ℕ) (rest : List (List ℕ))
       content-written v (conduct.reads read r) = record {
         tape = cartridge-left (as-new (some read) (conduct.reads read r));
         seen = seen-writes (c .tape) (w .drive .at) here seen-here room (most (w .session .elements .eod) (length (w .notes .accepted))) read (stands-read (queued x .0) r);
-        below = below-user (some read);
         stored = c .stored;
       }
 
@@ -161,7 +163,6 @@ module _ {last pass k : ℕ} (w : World) (f : List ℕ) (rest : List (List ℕ))
       content-failed v left = record {
         tape = cartridge-left left;
         seen = seen-fails (c .tape) (w .drive .at) here seen-here room (most (w .session .elements .eod) (length (w .notes .accepted))) f v (queued x .0) left;
-        below = below-user v;
         stored = c .stored;
       }
 

@@ -103,16 +103,16 @@ fetchedWorld w lent x = record {
 abbrev lentWorld : World → List ℕ → State → Flight → Bool → World
 lentWorld w lent s f reported = record { session = s; window = lent; drive = w .drive; flight = f; notes = record { accepted = w .notes .accepted; unaltered = w .notes .unaltered && agree lent (w .window); reported = reported } }
 
-module _ {last pass : ℕ} {premises : Type 0} (w : World) (lent frame : List ℕ) (set : Setting last pass) (wr : Within last (w .drive .written)) (l : Live last pass premises w) where
+module _ {last pass : ℕ} {on-newest none-bears : Type 0} (w : World) (lent frame : List ℕ) (set : Setting last pass) (wr : Within last (w .drive .written)) (l : Live last pass on-newest none-bears w) where
   -- lent as last left
   as-left : (w .notes .unaltered && agree lent (w .window)) ≡ true → (w .notes .unaltered ≡ true) × (lent ≡ w .window)
   as-left u = let b = and-true (w .notes .unaltered) (agree lent (w .window)) u in (b .0, agree-is lent (w .window) (b .1))
 
   -- what is known after the window was lent
   abbrev KnownLent : Type 0
-  KnownLent = (premises × ((w .notes .unaltered && agree lent (w .window)) ≡ true)) ⊎ (w .session .elements .eod ≡ true)
+  KnownLent = (none-bears × ((w .notes .unaltered && agree lent (w .window)) ≡ true)) ⊎ (w .session .elements .eod ≡ true)
 
-  known-left : KnownLent → Known premises w
+  known-left : KnownLent → Known none-bears w
   known-left n = ⊎-elim (λ y. inl (y .0, as-left (y .1) .0)) inr n
 
   stored-lent : lent ≡ w .window → Content last pass w (l .k) (l .edge) → (i : ℕ) → i < w .session .elements .pending
@@ -121,7 +121,7 @@ module _ {last pass : ℕ} {premises : Type 0} (w : World) (lent frame : List �
 
   -- ---- nothing goes out: idle, or done
 
-  quiet : (reported : Bool) → (reported ≡ true → w .session .stage ≡ S.Done) → Live last pass premises (lentWorld w lent (w .session) (w .flight) reported)
+  quiet : (reported : Bool) → (reported ≡ true → w .session .stage ≡ S.Done) → Live last pass on-newest none-bears (lentWorld w lent (w .session) (w .flight) reported)
   quiet reported done = record {
     k = l .k;
     edge = l .edge;
@@ -132,10 +132,11 @@ module _ {last pass : ℕ} {premises : Type 0} (w : World) (lent frame : List �
     reported = done;
     outgoing = λ n. let f = l .outgoing (known-left n) in record { queue = f .queue; sent = f .sent };
     eod-place = record { written = l .eod-place .written; named = l .eod-place .named };
+    below = l .below;
     content = λ p u.
         let b = as-left u in
         let c = l .content p (b .0) in
-        record { tape = c .tape; seen = c .seen; below = c .below; stored = stored-lent (b .1) c };
+        record { tape = c .tape; seen = c .seen; stored = stored-lent (b .1) c };
   }
     where
       course : Course last w (l .k) (l .edge) → Course last (lentWorld w lent (w .session) (w .flight) reported) (l .k) (l .edge)
@@ -151,10 +152,10 @@ module _ {last pass : ℕ} {premises : Type 0} (w : World) (lent frame : List �
     sentWorld = lentWorld w lent (awaits (w .session) c) (recordings.sent c (frameFor c (w .session) lent frame)) (w .notes .reported)
 
     goes-out : (edge : ℕ) → Course last sentWorld (l .k) edge
-        → ((a : Address) (f : List ℕ) → Known premises sentWorld → ElementStage (w .session) → recordings.sent c (frameFor c (w .session) lent frame) ≡ recordings.sent (Write a) f
+        → ((a : Address) (f : List ℕ) → Known none-bears sentWorld → ElementStage (w .session) → recordings.sent c (frameFor c (w .session) lent frame) ≡ recordings.sent (Write a) f
         → Stands last pass (itemAt (w .notes .accepted) (w .session .elements .first .0 + w .session .elements .outstanding)) (w .session .elements .first .0 + w .session .elements .outstanding) f)
         → (Content last pass w (l .k) (l .edge) → Seen last pass (w .notes .accepted) (totalOf (w .session .elements .eod) (length (w .notes .accepted))) (l .k) edge (w .drive .tape))
-        → Live last pass premises sentWorld
+        → Live last pass on-newest none-bears sentWorld
     goes-out edge course sent seen = record {
       k = l .k;
       edge = edge;
@@ -165,10 +166,11 @@ module _ {last pass : ℕ} {premises : Type 0} (w : World) (lent frame : List �
       reported = l .reported;
       outgoing = λ n. record { queue = l .outgoing (known-left n) .queue; sent = λ a f. sent a f n };
       eod-place = record { written = l .eod-place .written; named = l .eod-place .named };
+      below = l .below;
       content = λ p u.
           let b = as-left u in
           let x = l .content p (b .0) in
-          record { tape = x .tape; seen = seen x; below = x .below; stored = stored-lent (b .1) x };
+          record { tape = x .tape; seen = seen x; stored = stored-lent (b .1) x };
     }
 
   -- ---- from a header stage
@@ -185,7 +187,7 @@ module _ {last pass : ℕ} {premises : Type 0} (w : World) (lent frame : List �
     header-sent ReadPosition = tt
 
     header-out : (c : Command) (agree : CopiesAgree (w .session) (w .drive) (w .flight)) → CopyAsks (w .session .copies) (w .drive) c
-        → (CopiesAgree (awaits (w .session) c) (w .drive) (recordings.sent c (frameFor c (w .session) lent frame)) → Course last (sentWorld c) (l .k) (l .edge)) → Inv last pass premises (sentWorld c)
+        → (CopiesAgree (awaits (w .session) c) (w .drive) (recordings.sent c (frameFor c (w .session) lent frame)) → Course last (sentWorld c) (l .k) (l .edge)) → Inv last pass on-newest none-bears (sentWorld c)
     header-out c agree asked course =
         live wr
         (goes-out c (l .edge) (course (record { counts = agree .counts; placed = agree .placed; copying = copies.under-way c (frameFor c (w .session) lent frame) refl refl refl (header-sent c) asked }))
@@ -287,7 +289,7 @@ module _ {last pass : ℕ} {premises : Type 0} (w : World) (lent frame : List �
             sent-eod last pass (w .session) lent (w .notes .accepted) (l .carried .last-is) (l .carried .pass-is) (set .low) long (omega (arith, numbers .low, l .counted .windowed, l .counted .wide, set .small)) st v (omega arith)
 
     element-out : (c : Command) → Out c → ElementStage (w .session) → ((edge : ℕ) → Writing last (awaits (w .session) c) (w .drive) (l .k) edge (recordings.sent c (frameFor c (w .session) lent frame)) → Course last (sentWorld c) (l .k) edge)
-        → Inv last pass premises (sentWorld c)
+        → Inv last pass on-newest none-bears (sentWorld c)
     element-out c o st course =
         live wr
         (goes-out c (o .edge) (course (o .edge) (elements.under-way c (frameFor c (w .session) lent frame) refl refl refl (reask (heldOf (w .session)) (heldOf (awaits (w .session) c)) refl refl refl refl (o .asks))))
@@ -320,15 +322,15 @@ writing-safe ag (elements.at-place b g x) = link-safe x
 writing-safe ag (elements.to-locate b g r x) = rests-safe (x .rests)
 writing-safe ag (elements.again b g x) = clash g ag
 
-module _ {last pass : ℕ} {premises : Type 0} (w : World) (lent frame : List ℕ) (set : Setting last pass) (wr : Within last (w .drive .written)) (l : Live last pass premises w) where
+module _ {last pass : ℕ} {on-newest none-bears : Type 0} (w : World) (lent frame : List ℕ) (set : Setting last pass) (wr : Within last (w .drive .written)) (l : Live last pass on-newest none-bears w) where
   abbrev After : FetchedSaid → Type 0
-  After x = Inv last pass premises (fetchedWorld w lent x)
+  After x = Inv last pass on-newest none-bears (fetchedWorld w lent x)
 
   -- the command goes to the drive as the fetch names it
-  as-named : (c : Command) → Inv last pass premises (sentWorld w lent frame set wr l c) → After (sending (w .session) c lent frame)
+  as-named : (c : Command) → Inv last pass on-newest none-bears (sentWorld w lent frame set wr l c) → After (sending (w .session) c lent frame)
   unfolding sending
   as-named c i =
-      subst (λ (x : Command). Inv last pass premises (lentWorld w lent (awaits (w .session) c) (recordings.sent x (frameFor c (w .session) lent frame)) (w .notes .reported))) (sym (command-by c)) i
+      subst (λ (x : Command). Inv last pass on-newest none-bears (lentWorld w lent (awaits (w .session) c) (recordings.sent x (frameFor c (w .session) lent frame)) (w .notes .reported))) (sym (command-by c)) i
 
   -- in a header stage
   module _ (st : HeaderStage (w .session)) (agree : CopiesAgree (w .session) (w .drive) (w .flight))
@@ -387,7 +389,7 @@ wrong-phase : {X : Type 0} (s : State) (lent frame : List ℕ) → s .ended || s
 unfolding fetchOf
 wrong-phase s lent frame e te = no-effect (omega arith) (omega arith) (subst (λ (x : FetchedSaid). TakesEffect (fetchNumber (x .said))) (pick-t _ e) te)
 
-pub keeps-fetch : {last pass : ℕ} {premises : Type 0} (w : World) (lent frame : List ℕ) → Setting last pass → Inv last pass premises w → TakesEffect (fetchNumber (fetchOf (w .session) lent frame .said)) → Inv last pass premises (afterFetch w lent frame)
+pub keeps-fetch : {last pass : ℕ} {on-newest none-bears : Type 0} (w : World) (lent frame : List ℕ) → Setting last pass → Inv last pass on-newest none-bears w → TakesEffect (fetchNumber (fetchOf (w .session) lent frame .said)) → Inv last pass on-newest none-bears (afterFetch w lent frame)
 keeps-fetch w lent frame set (live wr l) te = live-fetch w lent frame set wr l (l .course) (fetch-view (w .session) lent frame) te
 keeps-fetch w lent frame set (rejecting wr d) te = wrong-phase (w .session) lent frame (either-right (w .session .ended) (w .session .exchange .awaiting) (d .awaits)) te
 keeps-fetch w lent frame set (over wr o) te = wrong-phase (w .session) lent frame (either-left (w .session .ended) (w .session .exchange .awaiting) (o .ended)) te

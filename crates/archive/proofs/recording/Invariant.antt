@@ -91,27 +91,26 @@ pub record Outgoing (last pass : ℕ) (w : World) (k : ℕ) : Type 0 where
   pub sent : (a : Address) (f : List ℕ) → ElementStage (w .session) → w .flight ≡ recordings.sent (Write a) f
       → Stands last pass (itemAt (w .notes .accepted) (w .session .elements .first .0 + w .session .elements .outstanding)) (w .session .elements .first .0 + w .session .elements .outstanding) f
 
--- when they are known: under the premises, and once EOD alone is due, since its frame has nothing from the window
+-- when they are known: while the window is unaltered, and once EOD alone is due, since its frame has nothing from the window
 abbrev pub Known : Type 0 → World → Type 0
-Known premises w = (premises × (w .notes .unaltered ≡ true)) ⊎ (w .session .elements .eod ≡ true)
+Known none-bears w = (none-bears × (w .notes .unaltered ≡ true)) ⊎ (w .session .elements .eod ≡ true)
 
 -- EOD, once it is on tape, stands behind the drive's place, and then where the closing headers say
 pub record EodPlace (last pass : ℕ) (w : World) (k : ℕ) : Type 0 where
   pub written : ElementStage (w .session) → w .session .elements .eod ≡ true → k ≡ length (w .notes .accepted) + 1 → EodAt last pass (length (w .notes .accepted)) (w .drive .tape) (w .drive .at - 1)
   pub named : (w .session .stage ≡ S.ClosingHeaders) ⊎ (w .session .stage ≡ S.Done) → EodAt last pass (length (w .notes .accepted)) (w .drive .tape) (w .session .copies .header .eod .0)
 
--- ---- tape and window, under the premises
+-- ---- tape and window, where no user frame bore the pass and the window is unaltered
 
 pub record Content (last pass : ℕ) (w : World) (k edge : ℕ) : Type 0 where
   pub tape : Cartridge last (w .drive .tape)
   pub seen : Seen last pass (w .notes .accepted) (totalOf (w .session .elements .eod) (length (w .notes .accepted))) k edge (w .drive .tape)
-  pub below : Below last (w .session .copies .header) (w .drive .tape)
   pub stored : (i : ℕ) → i < w .session .elements .pending
       → StoredAs (itemAt (w .notes .accepted) (w .session .elements .first .0 + i)) (w .window) (w .session .elements .marks) (windowOf (w .session)) (w .session .elements .first .0 + i)
 
--- ---- the whole
+-- ---- the whole, with what may be assumed of the opening: that it was on the newest header or rightly on none, and that no user frame bore the pass
 
-pub record Live (last pass : ℕ) (premises : Type 0) (w : World) : Type 0 where
+pub record Live (last pass : ℕ) (on-newest none-bears : Type 0) (w : World) : Type 0 where
   pub k : ℕ
   pub edge : ℕ
   pub going : w .session .ended ≡ false
@@ -119,9 +118,10 @@ pub record Live (last pass : ℕ) (premises : Type 0) (w : World) : Type 0 where
   pub carried : Carried last pass (spareOf (w .session .stage)) (w .session .copies .header)
   pub course : Course last w k edge
   pub reported : w .notes .reported ≡ true → w .session .stage ≡ S.Done
-  pub outgoing : Known premises w → Outgoing last pass w k
+  pub outgoing : Known none-bears w → Outgoing last pass w k
   pub eod-place : EodPlace last pass w k
-  pub content : premises → w .notes .unaltered ≡ true → Content last pass w k edge
+  pub below : on-newest → Below last (w .session .copies .header) (w .drive .tape)
+  pub content : none-bears → w .notes .unaltered ≡ true → Content last pass w k edge
 
 -- all that the drive may still write goes to addresses that are allowed
 pub data Safe (last : ℕ) (d : Drive) : Type 0 where
@@ -146,7 +146,7 @@ pub record Over (last : ℕ) (w : World) : Type 0 where
   pub safe : Safe last (w .drive)
   pub unreported : w .notes .reported ≡ false
 
-pub data Inv (last pass : ℕ) (premises : Type 0) (w : World) : Type 0 where
-  live : Within last (w .drive .written) → Live last pass premises w → Inv last pass premises w
-  rejecting : Within last (w .drive .written) → Rejecting last w → Inv last pass premises w
-  over : Within last (w .drive .written) → Over last w → Inv last pass premises w
+pub data Inv (last pass : ℕ) (on-newest none-bears : Type 0) (w : World) : Type 0 where
+  live : Within last (w .drive .written) → Live last pass on-newest none-bears w → Inv last pass on-newest none-bears w
+  rejecting : Within last (w .drive .written) → Rejecting last w → Inv last pass on-newest none-bears w
+  over : Within last (w .drive .written) → Over last w → Inv last pass on-newest none-bears w

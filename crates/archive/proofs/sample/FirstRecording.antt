@@ -303,4 +303,4 @@ pub first-ends : (b : List ℕ) → length b ≡ 32768 → EndsAt (headerOf (hea
 unfolding EndNamed
 first-ends b full =
     end-named geometry 11999 depth blocks stopped on-none (fresh depth 0 firstOpening) window (firstCalls b) (firstEnd b) (lit< tt) (lit< tt) refl first-cartridge refl (conduct.stopped refl) first-opened (first-runs b full)
-    .newest first-on-none first-bears-none refl refl (headerFrame firstClosing) (first-newest b)
+    .newest first-on-none refl (headerFrame firstClosing) (first-newest b)
