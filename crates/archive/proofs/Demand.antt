@@ -1,22 +1,16 @@
--- Demand 3 holds, and the header that a done recording leaves names its end. Assumes nothing.
+-- Demand 3 holds. Assumes nothing.
 use Prim.Native.Nat.{ℕ, _^_, _<_}
 use mathlib.Core.Path.{_≡_, sym, ap, subst, _∙_}
-use mathlib.Core.Bool.{true, false}
+use mathlib.Core.Bool.{true}
 use mathlib.Core.List.{List, []}
-use mathlib.Core.Logic.{_⊎_}
-use lib.ListN.{length}
 use Rattle.geometry.specs.Place.{address}
-use Rattle.geometry.specs.Cartridge.{isUser, lastOf}
+use Rattle.geometry.specs.Cartridge.{lastOf}
 use Rattle.geometry.specs.declared.cartridge.Geometry.{Geometry}
-use Rattle.frame.specs.declared.element.Kind.the-variants.{Eod}
-use Rattle.frame.specs.declared.header.Header.{Header}
 use Rattle.header.specs.Valid.{headerOf}
 use Rattle.header.proofs.Facts.{valid-last}
-use Rattle.judgement.specs.Judgement.{judgeFrame, foundSaid}
 use Rattle.judgement.specs.declared.told.Told.{Told}
 use Rattle.recording_state.specs.State.{accepting}
 use Rattle.recording_state.specs.declared.state.State.{State}
-use Rattle.recording_state.specs.declared.state.Stage.the-variants as S
 use Rattle.archive.specs.Tape.{Tape, Cartridge}
 use Rattle.archive.specs.Conduct.{Drive, AtRest}
 use Rattle.archive.specs.Headers.{Newest}
@@ -25,75 +19,53 @@ use Rattle.reading_state.specs.Open as reading
 use Rattle.archive.specs.Recordings as recordings
 use Rattle.archive.specs.Recordings.{Element}
 use Rattle.archive.specs.Demand.{Opening, opened, newPass, OnNewest, NoneBears, Readable, Within, Promised, Demand3}
-use Rattle.archive.specs.EndOfData.{EndsAt, Ends, EndNamed}
-use Rattle.archive.proofs.recording.Setting.{Setting, Premises, EodAt, Leaves}
+use Rattle.archive.proofs.recording.Setting.{Setting, Leaves}
 use Rattle.archive.proofs.recording.Invariant.{Inv, live, rejecting, over}
 use Rattle.archive.proofs.recording.InvariantLaws.{flight-awaits, fetch-awaited}
 use Rattle.archive.proofs.recording.Start.{sets, pass-is, begins}
 use Rattle.archive.proofs.recording.DriveMoves.{keeps-move}
 use Rattle.archive.proofs.recording.Calls.{keeps-call}
 use Rattle.archive.proofs.recording.Completion.{completes, opens}
-use Rattle.archive.proofs.tape.Basics.{none-answered}
 use Rattle.archive.proofs.tape.Stands.{telling}
-use Rattle.geometry.proofs.Impossible.{clash}
 use Rattle.archive.proofs.Fold.{reading-is-fold}
 
 -- the invariant holds after every list
-pub runs-keep : {last pass : ℕ} {premises : Type 0} {w v : recordings.World} {cs : List recordings.Call} → Setting last pass → Inv last pass premises w → recordings.Runs w cs v → Inv last pass premises v
+runs-keep : {last pass : ℕ} {on-newest none-bears : Type 0} {w v : recordings.World} {cs : List recordings.Call} → Setting last pass → Inv last pass on-newest none-bears w → recordings.Runs w cs v → Inv last pass on-newest none-bears v
 runs-keep set i recordings.stop = i
 runs-keep set i (recordings.call c rest) = runs-keep set (keeps-call _ _ _ set i c) rest
 runs-keep set i (recordings.drive m rest) = runs-keep set (keeps-move _ _ set i m) rest
 
-within : {last pass : ℕ} {premises : Type 0} {w : recordings.World} → Inv last pass premises w → Within last (w .drive .written)
+within : {last pass : ℕ} {on-newest none-bears : Type 0} {w : recordings.World} → Inv last pass on-newest none-bears w → Within last (w .drive .written)
 within (live h _) = h
 within (rejecting h _) = h
 within (over h _) = h
 
 -- what a newest header tells a reading
 told-is : {last pass : ℕ} {t : Tape} {xs : List Element} (l : Leaves last pass t xs) (h : List ℕ) → Newest last t h → reading.toldOf (headerOf h) ≡ telling last pass
-told-is {last} l h n = ap (λ (x : ℕ). telling x (headerOf h .pass)) (valid-last last h (n .here .valid)) ∙ ap (telling last) (l .passes h n)
+told-is {last} l h n = ap (λ (x : ℕ). telling x (headerOf h .pass)) (valid-last last h (n .here .valid)) ∙ ap (telling last) (l .headers .passes h n)
 
 -- a reading of what a done recording left is an instance of what every reading gives
 readable : (g : Geometry) (last pass : ℕ) (t : Tape) (xs : List Element) → g .segtrk < 2 ^ 16 → g .trks < 2 ^ 16 → lastOf g ≡ address last → Leaves last pass t xs → Readable g last t xs
 unfolding ReadingIsFold
 readable g last pass t xs seg trk e l = record {
-  header = l .header;
-  newest = l .newest;
-  opens = opens g last t (l .header) e (l .cartridge) (l .newest);
+  header = l .headers .header;
+  newest = l .headers .newest;
+  opens = opens g last t (l .headers .header) e (l .cartridge) (l .headers .newest);
   reads = λ h at calls w n r.
       subst (λ (x : Told). IsFold x t w) (told-is l h n) (reading-is-fold g last t h at calls w seg trk e (l .cartridge) (opens g last t h e (l .cartridge) n) r) .faithful xs (l .recorded);
 }
 
--- EOD at an address, in the terms of a header that names it
-ends-at : {last pass n : ℕ} {t : Tape} (h : Header) → h .last .0 ≡ last → h .pass ≡ pass → EodAt last pass n t (h .eod .0) → EndsAt h n t
-ends-at {last} {pass} {n} h last-is pass-is x = record {
-  frame = x .frame;
-  user = subst (λ (m : ℕ). isUser m (h .eod .0) ≡ true) (sym last-is) (x .user);
-  reads = x .reads;
-  judged = subst (λ (y : Told). judgeFrame y (record { 0 = n }) (x .frame) ≡ foundSaid Eod) (sym (ap (λ (m : ℕ). telling m (h .pass)) last-is ∙ ap (telling last) pass-is)) (x .stands .found);
-}
-
--- what the session's header says while the closing headers are written, and when they are
-carried-end : {last pass : ℕ} {premises : Type 0} (w : recordings.World) → Inv last pass premises w → premises → w .notes .unaltered ≡ true → w .flight ≡ recordings.no-command → w .session .ended ≡ false
-    → (w .session .stage ≡ S.ClosingHeaders) ⊎ (w .session .stage ≡ S.Done) → EndsAt (w .session .copies .header) (length (w .notes .accepted)) (w .drive .tape)
-carried-end w (live _ l) pre unaltered free going stage = ends-at (w .session .copies .header) (l .carried .last-is) (l .carried .pass-is) (l .content pre unaltered .eod-named stage)
-carried-end w (rejecting _ d) pre unaltered free going stage = none-answered (sym free ∙ d .replied)
-carried-end w (over _ o) pre unaltered free going stage = clash (o .ended) going
-
 module _ (g : Geometry) (last depth blocks : ℕ) (d : Drive) (o : Opening) (s : State) (window : List ℕ) (calls : List recordings.Call) (w : recordings.World)
     (seg : g .segtrk < 2 ^ 16) (trk : g .trks < 2 ^ 16) (e : lastOf g ≡ address last) (cart : Cartridge last (d .tape)) (unwritten : d .written ≡ []) (rest : AtRest d)
     (op : opened g depth blocks o ≡ accepting s) (r : recordings.Runs (recordings.started s window d) calls w) where
-  set : Setting last (s .copies .header .pass)
+  pub set : Setting last (s .copies .header .pass)
   set = sets g last depth blocks o s seg trk e op
 
-  kept : Inv last (s .copies .header .pass) (Premises last (s .copies .header .pass) (d .tape) o) w
+  pub kept : Inv last (s .copies .header .pass) (OnNewest last (d .tape) o) (NoneBears last (d .tape) (s .copies .header .pass)) w
   kept = runs-keep set (begins g last depth blocks d o s window e set cart unwritten rest op) r
 
-  premises : OnNewest last (d .tape) o → NoneBears last (d .tape) (newPass o) → Premises last (s .copies .header .pass) (d .tape) o
-  premises newest none = (newest, subst (NoneBears last (d .tape)) (sym (pass-is g last depth blocks s e o op)) none)
-
   leaves : OnNewest last (d .tape) o → NoneBears last (d .tape) (newPass o) → w .notes .unaltered ≡ true → w .notes .reported ≡ true → Leaves last (s .copies .header .pass) (w .drive .tape) (w .notes .accepted)
-  leaves newest none unaltered reported = completes w set kept (premises newest none) unaltered reported
+  leaves newest none unaltered reported = completes w set kept newest (subst (NoneBears last (d .tape)) (sym (pass-is g last depth blocks s e o op)) none) unaltered reported
 
   promised : Promised g last (d .tape) o w
   promised = record {
@@ -102,18 +74,6 @@ module _ (g : Geometry) (last depth blocks : ℕ) (d : Drive) (o : Opening) (s :
     readable = λ newest none unaltered reported. readable g last (s .copies .header .pass) (w .drive .tape) (w .notes .accepted) seg trk e (leaves newest none unaltered reported);
   }
 
-  ends : OnNewest last (d .tape) o → NoneBears last (d .tape) (newPass o) → w .notes .unaltered ≡ true → Ends last w
-  ends newest none unaltered = record {
-    carried = carried-end w kept (premises newest none) unaltered;
-    newest = λ reported h n.
-        let l = leaves newest none unaltered reported in
-        ends-at (headerOf h) (valid-last last h (n .here .valid)) (l .passes h n) (l .ends h n);
-  }
-
 pub demand-3 : Demand3
 unfolding Demand3
 demand-3 = promised
-
-pub end-named : EndNamed
-unfolding EndNamed
-end-named = ends

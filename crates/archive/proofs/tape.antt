@@ -1,10 +1,7 @@
 pub mod Basics
-pub mod Places
-pub mod UserPlaces
-pub mod WindowLaws
 pub mod Stands
 pub mod WrittenFrames
 pub mod StandsLaws
-pub mod Scan
-pub mod ScanLaws
+pub mod Seen
+pub mod FoldLaws
 pub mod SeenLaws

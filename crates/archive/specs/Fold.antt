@@ -25,7 +25,7 @@ pub data Reader : Type 0 where
   -- it goes on, with the number that it expects and what it has delivered
   going : ℕ → List Element → Reader
   -- EOD was read
-  ended : List Element → Reader
+  finished : List Element → Reader
   -- it was refused, with this number
   stopped : ℕ → Reader
 
@@ -35,13 +35,13 @@ advance judgement.skipped f n got = going n got
 advance (judgement.refused m) f n got = stopped m
 advance judgement.block f n got = going (n + 1) (got ++ block (take dataLength f) ∷ [])
 advance judgement.filemark f n got = going (n + 1) (got ++ filemark ∷ [])
-advance judgement.end f n got = ended got
+advance judgement.end f n got = finished got
 
 -- what an address reads as
 unfoldable pub look : Told → Option (List ℕ) → Reader → Reader
 look told none r = r
 look told (some f) (going n got) = advance (judgeFrame told (record { 0 = n }) f) f n got
-look told (some f) (ended got) = ended got
+look told (some f) (finished got) = finished got
 look told (some f) (stopped m) = stopped m
 
 -- after the user frames below an address
@@ -54,22 +54,22 @@ abbrev pub wholeOf : Told → Tape → Reader
 wholeOf told t = foldOf told t (told .last .0 + 1)
 
 -- where a reading stands after a list of its calls
-pub data Outcome (told : Told) (t : Tape) (w : World) : Type 0 where
+pub data Standing (told : Told) (t : Tape) (w : World) : Type 0 where
   -- it goes on: it has delivered what the fold has at the next address
   goes-on : w .notes .refused ≡ 0 → w .notes .end ≡ false
-      → foldOf told t (w .session .next .0) ≡ going (w .session .expected .0) (w .notes .deliveries) → Outcome told t w
+      → foldOf told t (w .session .next .0) ≡ going (w .session .expected .0) (w .notes .deliveries) → Standing told t w
   -- the end was answered
-  at-end : w .notes .refused ≡ 0 → w .notes .end ≡ true → wholeOf told t ≡ ended (w .notes .deliveries) → Outcome told t w
+  at-end : w .notes .refused ≡ 0 → w .notes .end ≡ true → wholeOf told t ≡ finished (w .notes .deliveries) → Standing told t w
   -- refused with 10 or 11
-  stops : (w .notes .refused ≡ 10) ⊎ (w .notes .refused ≡ 11) → w .notes .end ≡ false → wholeOf told t ≡ stopped (w .notes .refused) → Outcome told t w
+  stops : (w .notes .refused ≡ 10) ⊎ (w .notes .refused ≡ 11) → w .notes .end ≡ false → wholeOf told t ≡ stopped (w .notes .refused) → Standing told t w
   -- refused with 12: the whole tape has no end
   finds-no-end : w .notes .refused ≡ 12 → w .notes .end ≡ false
-      → wholeOf told t ≡ going (w .session .expected .0) (w .notes .deliveries) → Outcome told t w
+      → wholeOf told t ≡ going (w .session .expected .0) (w .notes .deliveries) → Standing told t w
 
 pub record IsFold (told : Told) (t : Tape) (w : World) : Type 0 where
-  pub outcome : Outcome told t w
+  pub standing : Standing told t w
   -- where the fold over the whole tape ends, every list goes on to that end
-  pub faithful : (xs : List Element) → wholeOf told t ≡ ended xs → Faithful (told .last .0) xs w
+  pub faithful : (xs : List Element) → wholeOf told t ≡ finished xs → Faithful (told .last .0) xs w
 
 -- every list of a reading's calls, on any cartridge and any header that the opening accepts, whoever wrote them
 unfoldable pub ReadingIsFold : Type 0

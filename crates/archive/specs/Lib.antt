@@ -4,7 +4,7 @@ pub mod Headers
 pub mod Recordings
 pub mod Readings
 pub mod Demand
-pub mod EndOfData
+pub mod EndNamed
 pub mod Fold
 pub mod Sample
 pub mod Refusals

@@ -8,7 +8,7 @@ use Rattle.frame.specs.declared.header.Header.{Header}
 use Rattle.drive.specs.Command.{CommandSaid, write, locate}
 use Rattle.copies.specs.declared.copies.Copies.{Copies}
 use Rattle.copies.specs.Copies.{startOf, commandOf, ProgressSaid, more, complete, refused, onwardOf, nextAddress}
-use Rattle.copies.proofs.HeaderPlaces.{header-from-first}
+use Rattle.geometry.proofs.HeaderPlaces.{header-from-first}
 use Rattle.copies.proofs.CommandView.{CommandView, locating, writing, asking, command-view, write-due}
 use Rattle.copies.proofs.ReplyView.{OnwardView, unfinished, turning, unwritten, through, onward-view}
 

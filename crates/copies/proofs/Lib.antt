@@ -1,4 +1,3 @@
-pub mod HeaderPlaces
 pub mod CommandView
 pub mod ReplyView
 pub mod Counts

@@ -4,3 +4,7 @@ pub mod Table
 pub mod Impossible
 pub mod PastReserved
 pub mod Last
+pub mod NumberTests
+pub mod UserFrames
+pub mod HeaderPlaces
+pub mod Landing

@@ -1,4 +1,3 @@
-pub mod Tests
 pub mod FetchView
 pub mod ReplyView
 pub mod Cases

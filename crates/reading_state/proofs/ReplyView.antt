@@ -13,7 +13,7 @@ use Rattle.judgement.specs.Judgement.{JudgementSaid, judgeFrame}
 use Rattle.reading_state.specs.declared.state.State.{State}
 use Rattle.reading_state.specs.Reply.{nothing, TakenSaid, answering, refusing, ending, repeatedOf, locatedOf, skippedOf, judgedBy, judgedOf, jumpedOf, caseOf, replyBy, replyOf}
 use Rattle.geometry.proofs.TestLaws.{or-true, or-false}
-use Rattle.reading_state.proofs.Tests.{is-one, is-neither}
+use Rattle.geometry.proofs.NumberTests.{is-one, is-neither}
 
 -- the session awaits a reply
 pub record Awaited (s : State) : Type 0 where

@@ -2,6 +2,7 @@ pub mod Stages
 pub mod Ended
 pub mod Kept
 pub mod BlockPlace
+pub mod WindowLaws
 pub mod FetchView
 pub mod ReplyView
 pub mod Refusals

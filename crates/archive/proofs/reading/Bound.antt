@@ -4,7 +4,8 @@ use mathlib.Core.Path.{_≡_}
 use mathlib.Core.Logic.{inl, inr}
 use native.Mathlib.Omega.{arith}
 use Rattle.archive.specs.Demand.{replyBound}
-use Rattle.archive.proofs.tape.UserPlaces.{User, Landing, before, across, behind}
+use Rattle.geometry.proofs.UserFrames.{User}
+use Rattle.geometry.proofs.Landing.{Landing, before, across, behind}
 
 -- at most one for each user frame below it, which are a - 10 up to 2,990 and a - 20 from 3,000,
 -- one for LOCATE 10, and one for LOCATE 3,000 from there on

@@ -15,21 +15,22 @@ use Rattle.geometry.proofs.Impossible.{never}
 use Rattle.judgement.specs.Judgement as judgement
 use Rattle.judgement.specs.Judgement.{JudgementSaid, judgeFrame}
 use Rattle.geometry.proofs.PastReserved.{past-reserved-least}
+use Rattle.geometry.proofs.UserFrames.{User, user-ranges}
+use Rattle.geometry.proofs.Landing.{past-skips}
 use Rattle.judgement.specs.declared.told.Told.{Told}
 use Rattle.archive.specs.Tape.{Tape, Cartridge}
 use Rattle.archive.specs.Recordings.{Element}
 use Rattle.archive.proofs.tape.Basics.{none-some}
-use Rattle.archive.specs.Fold.{Reader, going, ended, stopped, advance, look, foldOf, wholeOf}
-use Rattle.archive.proofs.tape.ScanLaws.{fold-over}
+use Rattle.archive.specs.Fold.{Reader, going, finished, stopped, advance, look, foldOf, wholeOf}
+use Rattle.archive.proofs.tape.FoldLaws.{fold-over}
 use mathlib.Core.Logic.{inl, inr}
-use Rattle.archive.proofs.tape.UserPlaces.{User, user-ranges, past-skips}
 
 -- ---- what a fold counts
 
 -- as many as were delivered, and at most one for each address
 abbrev pub Counts : ℕ → Reader → Type 0
 Counts a (going n got) = (length got ≡ n) × (n ≤ a)
-Counts a (ended got) = Unit {0}
+Counts a (finished got) = Unit {0}
 Counts a (stopped m) = Unit {0}
 
 advance-counts : (a : ℕ) (j : JudgementSaid) (f : List ℕ) (n : ℕ) (got : List Element) → Counts a (going n got) → Counts (suc a) (advance j f n got)
@@ -41,14 +42,14 @@ advance-counts a judgement.end f n got c = tt
 
 more-counts : (a : ℕ) (r : Reader) → Counts a r → Counts (suc a) r
 more-counts a (going n got) c = (c .0, omega (arith, c .1))
-more-counts a (ended got) c = tt
+more-counts a (finished got) c = tt
 more-counts a (stopped m) c = tt
 
 look-counts : (told : Told) (a : ℕ) (v : Option (List ℕ)) (r : Reader) → Counts a r → Counts (suc a) (look told v r)
 unfolding look
 look-counts told a none r c = more-counts a r c
 look-counts told a (some f) (going n got) c = advance-counts a (judgeFrame told (record { 0 = n }) f) f n got c
-look-counts told a (some f) (ended got) c = tt
+look-counts told a (some f) (finished got) c = tt
 look-counts told a (some f) (stopped m) c = tt
 
 pub fold-counts : (told : Told) (t : Tape) (a : ℕ) → Counts a (foldOf told t a)
@@ -62,7 +63,7 @@ fold-counts told t (suc a) =
 
 abbrev pub Fits : List Element → Reader → Type 0
 Fits xs (going n got) = (got ≡ take n xs) × (n ≤ length xs)
-Fits xs (ended got) = got ≡ xs
+Fits xs (finished got) = got ≡ xs
 Fits xs (stopped m) = ⊥
 
 -- the first of a list with one more
@@ -89,7 +90,7 @@ look-back : (told : Told) (xs : List Element) (a : ℕ) (v : Option (List ℕ)) 
 unfolding look
 look-back told xs a none r c h = h
 look-back told xs a (some f) (going n got) c h = advance-back xs a (judgeFrame told (record { 0 = n }) f) f n got c h
-look-back told xs a (some f) (ended got) c h = h
+look-back told xs a (some f) (finished got) c h = h
 look-back told xs a (some f) (stopped m) c h = absurd h
 
 step-back : (told : Told) (t : Tape) (xs : List Element) (a : ℕ) → Fits xs (foldOf told t (suc a)) → Fits xs (foldOf told t a)
@@ -109,8 +110,8 @@ pub record ReadTape (told : Told) (t : Tape) : Type 0 where
   pub small : told .last .0 + 65 < 4294967296
   pub cartridge : Cartridge (told .last .0) t
 
-pub going-ended : {A : Type 0} {n : ℕ} {got xs : List Element} → going n got ≡ ended xs → A
-going-ended e = never (cc)
+pub going-finished : {A : Type 0} {n : ℕ} {got xs : List Element} → going n got ≡ finished xs → A
+going-finished e = never (cc)
 
 module _ {told : Told} {t : Tape} (k : ReadTape told t) where
   -- nothing of the user's is below 10, from 2,990 to 2,999 or above LAST
@@ -148,7 +149,7 @@ module _ {told : Told} {t : Tape} (k : ReadTape told t) where
 
   -- ---- where the fold over the whole tape ends
 
-  module _ {xs : List Element} (ends : wholeOf told t ≡ ended xs) where
+  module _ {xs : List Element} (ends : wholeOf told t ≡ finished xs) where
     pub fits : (a : ℕ) → a ≤ told .last .0 + 1 → Fits xs (foldOf told t a)
     fits a l =
         let e : told .last .0 + 1 ≡ told .last .0 + 1 - a + a = omega arith in
@@ -160,8 +161,8 @@ module _ {told : Told} {t : Tape} (k : ReadTape told t) where
       where
         go : Dec (a ≤ told .last .0) → a ≤ told .last .0
         go (yes h) = h
-        go (no h) = going-ended (sym e ∙ fold-above a (omega arith) ∙ ends)
+        go (no h) = going-finished (sym e ∙ fold-above a (omega arith) ∙ ends)
 
     -- and finds something to read
     pub not-blank : {a n : ℕ} {got : List Element} → foldOf told t a ≡ going n got → ((b : ℕ) → a ≤ b → t b ≡ none) → ⊥
-    not-blank {a} e blank = going-ended (sym e ∙ sym (fold-blank a (not-past e) blank) ∙ ends)
+    not-blank {a} e blank = going-finished (sym e ∙ sym (fold-blank a (not-past e) blank) ∙ ends)

@@ -9,6 +9,7 @@ use borrow.Author.Tests.{lt-ltb, le-ltb, ne-eqb, eq-eqb}
 use lib.Dec.{eqb}
 use Rattle.geometry.proofs.PickLaws.{pick-t, pick-f, pick-by}
 use Rattle.geometry.proofs.TestLaws.{neither, either-right}
+use Rattle.geometry.proofs.UserFrames.{user-ranges, Stand}
 use Rattle.drive.specs.Command.{commandCode}
 use Rattle.drive.specs.declared.command.Command.{Command}
 use Rattle.drive.specs.declared.command.Command.the-variants.{Read, Write, Locate, ReadPosition}
@@ -24,7 +25,6 @@ use Rattle.archive.specs.Readings as readings
 use Rattle.archive.specs.Readings.{World, Flight, fetchNumber, afterFetching, afterFetch}
 use Rattle.archive.specs.Demand.{GivesCommand}
 use Rattle.archive.proofs.tape.Basics.{no-effect}
-use Rattle.archive.proofs.tape.UserPlaces.{user-ranges, Stand}
 use Rattle.archive.proofs.reading.Facts.{ReadTape, fold-above}
 use Rattle.archive.proofs.reading.Invariant.{Under, Ordered, locates, crosses, reads, Stood, Agreed, to-seek, to-read, again, under-way, served, finds-no-end, ReadInv, under, halted}
 

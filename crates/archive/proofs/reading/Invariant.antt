@@ -7,6 +7,7 @@ use mathlib.Core.Logic.{_⊎_}
 use mathlib.Core.Option.{Option, none, some}
 use Rattle.geometry.specs.Cartridge.{isUser}
 use Rattle.geometry.specs.declared.address.Address.{Address}
+use Rattle.geometry.proofs.UserFrames.{Stand}
 use Rattle.drive.specs.Listed.{Means}
 use Rattle.drive.specs.Senses.{good, busy, recovered, unreadable, endOfData, endOfMedium}
 use Rattle.drive.specs.declared.command.Command.{Command}
@@ -19,8 +20,7 @@ use Rattle.archive.specs.Recordings.{Element}
 use Rattle.archive.specs.Readings as readings
 use Rattle.archive.specs.Readings.{Notes, World, Flight}
 use Rattle.archive.specs.Demand.{replyBound}
-use Rattle.archive.specs.Fold.{going, ended, stopped, foldOf, wholeOf}
-use Rattle.archive.proofs.tape.UserPlaces.{Stand}
+use Rattle.archive.specs.Fold.{going, finished, stopped, foldOf, wholeOf}
 use Rattle.archive.proofs.reading.Bound.{Spent}
 
 -- what was delivered is what the fold has at the next address
@@ -79,5 +79,5 @@ pub data ReadInv (told : Told) (t : Tape) (w : World) : Type 0 where
   under : w .notes .refused ≡ 0 → w .notes .end ≡ false → Under told t (w .session) (w .notes .deliveries)
       → Agreed (told .last .0) t (w .session) (w .at) (w .notes .replies) (w .flight) → ReadInv told t w
   over : w .notes .refused ≡ 0 → w .notes .end ≡ true → w .session .finished ≡ true → w .session .ended ≡ false → w .session .exchange .awaiting ≡ false → w .session .exchange .again ≡ false
-      → w .flight ≡ readings.no-command → wholeOf told t ≡ ended (w .notes .deliveries) → w .notes .replies ≤ replyBound (told .last .0) → ReadInv told t w
+      → w .flight ≡ readings.no-command → wholeOf told t ≡ finished (w .notes .deliveries) → w .notes .replies ≤ replyBound (told .last .0) → ReadInv told t w
   halted : w .notes .end ≡ false → w .session .ended ≡ true → w .flight ≡ readings.no-command → Halted told t (w .session .expected .0) (w .notes) → ReadInv told t w

@@ -24,9 +24,9 @@ use Rattle.archive.specs.Recordings.{Element}
 use Rattle.archive.specs.Readings as readings
 use Rattle.archive.specs.Readings.{World, Flight, LentWith, fetchNumber, replyNumber}
 use Rattle.archive.specs.Demand.{Faithful, replyBound}
-use Rattle.archive.specs.Fold.{going, ended, stopped, advance, wholeOf, Outcome, goes-on, at-end, stops, finds-no-end, IsFold}
+use Rattle.archive.specs.Fold.{going, finished, stopped, advance, wholeOf, Standing, goes-on, at-end, stops, finds-no-end, IsFold}
 use Rattle.archive.proofs.reading.Bound.{Spent, few-ended}
-use Rattle.archive.proofs.reading.Facts.{Fits, ReadTape, going-ended, fits, not-past, not-blank}
+use Rattle.archive.proofs.reading.Facts.{Fits, ReadTape, going-finished, fits, not-past, not-blank}
 use Rattle.archive.proofs.reading.Serves.{none-answered}
 use Rattle.archive.proofs.reading.Fetches.{fetch-awaited, command-given}
 use Rattle.archive.proofs.reading.Replies.{lent-same, answers, frame-read, replied-frame}
@@ -36,21 +36,21 @@ use Rattle.archive.proofs.reading.Invariant.{Under, Ordered, locates, c
 -- ---- how far it has come
 
 module _ {told : Told} {t : Tape} {w : World} where
-  outcome : ReadInv told t w → Outcome told t w
-  outcome (under n m u a) = goes-on n m (u .so-far)
-  outcome (over n m f e a g q d b) = at-end n m d
-  outcome (halted m e q (invariant.stops n d)) = stops n m d
-  outcome (halted m e q (invariant.finds-no-end n d)) = finds-no-end n m d
+  standing : ReadInv told t w → Standing told t w
+  standing (under n m u a) = goes-on n m (u .so-far)
+  standing (over n m f e a g q d b) = at-end n m d
+  standing (halted m e q (invariant.stops n d)) = stops n m d
+  standing (halted m e q (invariant.finds-no-end n d)) = finds-no-end n m d
 
 -- ---- where the fold ends
 
-stopped-ended : {A : Type 0} {n : ℕ} {xs : List Element} → stopped n ≡ ended xs → A
-stopped-ended e = never (cc)
+stopped-finished : {A : Type 0} {n : ℕ} {xs : List Element} → stopped n ≡ finished xs → A
+stopped-finished e = never (cc)
 
-ended-same : {got xs : List Element} → ended got ≡ ended xs → got ≡ xs
-ended-same e = cc
+finished-same : {got xs : List Element} → finished got ≡ finished xs → got ≡ xs
+finished-same e = cc
 
-module _ {told : Told} {t : Tape} {xs : List Element} (k : ReadTape told t) (all : wholeOf told t ≡ ended xs) where
+module _ {told : Told} {t : Tape} {xs : List Element} (k : ReadTape told t) (all : wholeOf told t ≡ finished xs) where
   -- ---- a reply is taken in
 
   module _ (w : World) (u : Under told t (w .session) (w .notes .deliveries)) (r : Reply) (frame : List ℕ) (a : w .session .exchange .awaiting ≡ true) (long : length frame ≡ 33280) where
@@ -150,7 +150,7 @@ module _ {told : Told} {t : Tape} {xs : List Element} (k : ReadTape told t) (all
         says-again = λ g. clash g m;
       }
   faithful w (over n m f e a g q d b) =
-      let same = ended-same (sym d ∙ all) in
+      let same = finished-same (sym d ∙ all) in
       record {
         count = length xs;
         in-order = same ∙ sym (take-length xs);
@@ -163,8 +163,8 @@ module _ {told : Told} {t : Tape} {xs : List Element} (k : ReadTape told t) (all
         complete = λ _. same;
         says-again = λ _. ap (λ (x : fetch.FetchedSaid). x .said) (end-again (w .session) e a g f);
       }
-  faithful w (halted m e q (invariant.stops n d)) = stopped-ended (sym d ∙ all)
-  faithful w (halted m e q (invariant.finds-no-end n d)) = going-ended (sym d ∙ all)
+  faithful w (halted m e q (invariant.stops n d)) = stopped-finished (sym d ∙ all)
+  faithful w (halted m e q (invariant.finds-no-end n d)) = going-finished (sym d ∙ all)
 
 pub is-fold : {told : Told} {t : Tape} → ReadTape told t → (w : World) → ReadInv told t w → IsFold told t w
-is-fold k w i = record { outcome = outcome i; faithful = λ xs all. faithful k all w i }
+is-fold k w i = record { standing = standing i; faithful = λ xs all. faithful k all w i }

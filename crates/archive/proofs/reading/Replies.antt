@@ -29,12 +29,13 @@ use Rattle.reading_state.specs.State.{withExpected}
 use Rattle.reading_state.specs.declared.state.State.{State as Reading}
 use Rattle.reading_state.proofs.ReplyView.{Taken, taken-so}
 use Rattle.geometry.proofs.PastReserved.{past-reserved-least}
+use Rattle.geometry.proofs.UserFrames.{User, user-ranges, ranges-user, Stand, user-next}
+use Rattle.geometry.proofs.Landing.{Landing, before, across, behind, landing, past-user}
 use Rattle.archive.specs.Tape.{Tape}
 use Rattle.archive.specs.Readings as readings
 use Rattle.archive.specs.Readings.{World, LentWith, replyNumber, delivered, endAfter, refusedAfter, repliesAfter, afterTaking, afterReply}
-use Rattle.archive.specs.Fold.{Reader, going, ended, stopped, advance, look, foldOf, wholeOf}
-use Rattle.archive.proofs.tape.ScanLaws.{fold-user, Final, fold-final}
-use Rattle.archive.proofs.tape.UserPlaces.{User, Landing, before, across, behind, user-ranges, ranges-user, Stand, user-next, landing, past-user}
+use Rattle.archive.specs.Fold.{Reader, going, finished, stopped, advance, look, foldOf, wholeOf}
+use Rattle.archive.proofs.tape.FoldLaws.{fold-user, Final, fold-final}
 use Rattle.archive.proofs.reading.Bound.{Spent, few-further, few-crossed, few-jumped, few-ended}
 use Rattle.archive.proofs.reading.Facts.{Counts, fold-counts, ReadTape, fold-crosses, fold-blank, fold-jump}
 use Rattle.archive.proofs.reading.Fetches.{stands-within}
@@ -156,13 +157,13 @@ module _ {told : Told} {t : Tape} (k : ReadTape told t) (w : World) (u : Under t
       whole-is : {x : Reader} → Final x → foldOf told t (w .session .next .0 + 1) ≡ x → wholeOf told t ≡ x
       whole-is final so-far = fold-final told t (w .session .next .0 + 1) (told .last .0 + 1) (omega (arith, next-low)) final so-far
 
-      ends : {i : ℕ} → Means r i → (i ≡ busy → ⊥) → foldOf told t (w .session .next .0 + 1) ≡ ended (w .notes .deliveries)
+      ends : {i : ℕ} → Means r i → (i ≡ busy → ⊥) → foldOf told t (w .session .next .0 + 1) ≡ finished (w .notes .deliveries)
           → reply.replyOf (w .session) r frame ≡ reply.finishedOf (w .session)
           → ReadInv told t (afterReply w r frame)
       ends means b so-far replied =
           taken-as replied
           (over (unrefused reply.end refl) refl refl (u .going-on) refl g refl
-          (whole-is tt so-far ∙ ap ended (sym nothing-more))
+          (whole-is tt so-far ∙ ap finished (sym nothing-more))
           (omega (arith, one-more means b, few-ended (k .large) next-low few)))
 
       stopped-by : (i : ℕ) → (i ≡ 10) ⊎ (i ≡ 11) → foldOf told t (w .session .next .0 + 1) ≡ stopped i → reply.replyOf (w .session) r frame ≡ reply.ending (w .session) i → ReadInv told t (afterReply w r frame)

@@ -6,6 +6,7 @@ use mathlib.Core.Logic.{inl}
 use mathlib.Core.Option.{Option}
 use native.Mathlib.Omega.{arith}
 use Rattle.geometry.proofs.Impossible.{never}
+use Rattle.geometry.proofs.UserFrames.{ranges-user}
 use Rattle.drive.specs.declared.command.Command.{Command}
 use Rattle.drive.specs.declared.command.Command.the-variants.{Locate}
 use Rattle.drive.specs.declared.reply.Reply.{Reply}
@@ -17,7 +18,6 @@ use Rattle.archive.specs.Conduct as conduct
 use Rattle.archive.specs.Conduct.{Serves}
 use Rattle.archive.specs.Readings as readings
 use Rattle.archive.specs.Readings.{World, Flight, Moves}
-use Rattle.archive.proofs.tape.UserPlaces.{ranges-user}
 use Rattle.archive.proofs.reading.Bound.{front}
 use Rattle.archive.proofs.reading.Facts.{ReadTape, fold-begins}
 use Rattle.archive.proofs.reading.Invariant.{Ordered, Stood, Served, located, brought, missed, blank, no-more, waits, Agreed, to-seek, under-way, served, ReadInv, under, over, halted}

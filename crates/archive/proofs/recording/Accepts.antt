@@ -1,15 +1,15 @@
 -- Accepting and close keep the invariant. Assumes nothing.
-use Prim.Native.Nat.{ℕ, suc, _+_, _-_, _*_, _/_, _%_, _^_, _≤_, _<_}
+use Prim.Native.Nat.{ℕ, suc, _+_, _*_, _/_, _%_, _^_, _≤_, _<_}
 use mathlib.Core.Path.{_≡_, refl, sym, ap, subst, _∙_}
 use mathlib.Core.Bool.{Bool, true, false, _&&_}
 use mathlib.Core.List.{List, [], _∷_, _++_}
-use mathlib.Core.Logic.{_⊎_, inl, inr}
+use mathlib.Core.Logic.{_⊎_, inl, inr, ⊎-elim}
 use native.Mathlib.Decide.{decLe}
 use native.Mathlib.Nat.{eq-or-lt-of-le, div-add-mod', mul-le-mul-right, mod-eq-of-lt}
 use native.Mathlib.Omega.{arith}
 use borrow.Author.Tests.{ltb-true, ltb-false, eqb-true}
 use lib.Dec.{eqb, ltb}
-use lib.ListN.{length, set, length-append, length-set}
+use lib.ListN.{length, length-append, length-set}
 use lib.Seq.{getD-at}
 use Rattle.geometry.proofs.PickLaws.{pick-by}
 use Rattle.geometry.proofs.TestLaws.{or-false, and-true}
@@ -19,7 +19,6 @@ use Rattle.buffer.proofs.Agreement.{agree-is}
 use Rattle.drive.specs.Listed.{Listed}
 use Rattle.drive.specs.Senses.{meaningOf}
 use Rattle.elements.specs.Elements as elements
-use Rattle.elements.specs.declared.elements.Elements.{Elements}
 use Rattle.elements.proofs.AcceptLaws.{mark-kept, accepted-new}
 use Rattle.recording_state.specs.Accept.{acceptsNone, isFull, withElement, filemarkOf, placeOf, StoredSaid, blockOf, closeOf}
 use Rattle.recording_state.specs.State.{closedOf, OutcomeSaid, windowOf, windowLength, accepting, eodDue, closingStarted, settledBy, settledOf}
@@ -31,15 +30,15 @@ use Rattle.recording_state.proofs.BlockPlace.{place-inside}
 use Rattle.recording_state.proofs.Stages.{HeaderStage, ElementStage}
 use Rattle.archive.specs.Recordings.{World, Element, block, filemark, TakesEffect, afterBlock, afterFilemark, acceptedAfter}
 use Rattle.archive.proofs.tape.Basics.{no-effect}
-use Rattle.archive.proofs.tape.WindowLaws.{put-same-block, put-other-block}
-use Rattle.archive.proofs.tape.Scan.{Seen}
+use Rattle.recording_state.proofs.WindowLaws.{put-same-block, put-other-block}
+use Rattle.archive.proofs.tape.Seen.{Seen}
 use Rattle.archive.proofs.tape.SeenLaws.{seen-accept}
 use Rattle.archive.proofs.tape.Stands.{Item, element, eod, itemAt, Stands, Queue, StoredAs}
 use Rattle.archive.proofs.tape.StandsLaws.{item-in, item-more}
 use Rattle.archive.proofs.recording.ElementsLink.{Writing}
 use Rattle.archive.proofs.recording.KeptAgreement.{agree-as, writing-as, writing-numbers, sent-due}
 use Rattle.archive.proofs.recording.Invariant as inv
-use Rattle.archive.proofs.recording.Invariant.{totalOf, Counted, Course, Content, Live, Rejecting, Inv, live, rejecting, over}
+use Rattle.archive.proofs.recording.Invariant.{totalOf, Counted, Course, Outgoing, Content, Live, Rejecting, Inv, live, rejecting, over}
 use Rattle.archive.proofs.recording.Setting.{Setting}
 
 -- ---- calls that take effect
@@ -52,7 +51,7 @@ pub record Accepting (s : State) : Type 0 where
 accepting-so : (s : State) → acceptsNone s ≡ false → isFull s ≡ false → Accepting s
 accepting-so s a b = let x = or-false (s .ended) (s .closed) a in record { going = x .0; unclosed = x .1; room = ltb-false (s .setup .highest) (s .elements .pending) b }
 
-pub filemark-view : (s : State) → TakesEffect (filemarkOf s .number) → (filemarkOf s ≡ accepting (withElement s true)) × Accepting s
+filemark-view : (s : State) → TakesEffect (filemarkOf s .number) → (filemarkOf s ≡ accepting (withElement s true)) × Accepting s
 unfolding filemarkOf
 filemark-view s =
     pick-by (λ (r : OutcomeSaid). TakesEffect (r .number) → (r ≡ accepting (withElement s true)) × Accepting s) (acceptsNone s) (λ _ te. no-effect (omega arith) (omega arith) te)
@@ -65,7 +64,7 @@ pub record Storing (s : State) (b window : List ℕ) (r : StoredSaid) : Type 0 w
   pub full : length b ≡ 32768
   pub long : length window ≡ windowLength s
 
-pub block-view : (s : State) (b window : List ℕ) → TakesEffect (blockOf s b window .result .number) → Storing s b window (blockOf s b window)
+block-view : (s : State) (b window : List ℕ) → TakesEffect (blockOf s b window .result .number) → Storing s b window (blockOf s b window)
 unfolding blockOf
 block-view s b window =
     pick-by (λ (r : StoredSaid). TakesEffect (r .result .number) → Storing s b window r) (acceptsNone s) (λ _ te. no-effect (omega arith) (omega arith) te)
@@ -121,7 +120,7 @@ queue-grow last pass xs ys k [] l q = tt
 queue-grow last pass xs ys k (f ∷ fs) l q =
     (subst (λ (x : Item). Stands last pass x k f) (sym (item-more xs ys k (omega arith))) (q .0), queue-grow last pass xs ys (k + 1) fs (omega arith) (q .1))
 
-module _ {last pass : ℕ} {premises : Type 0} (w : World) (set : Setting last pass) (l : Live last pass premises w) (mark : Bool) (x : Element) (acc : Accepting (w .session)) where
+module _ {last pass : ℕ} {on-newest none-bears : Type 0} (w : World) (set : Setting last pass) (l : Live last pass on-newest none-bears w) (mark : Bool) (x : Element) (acc : Accepting (w .session)) where
   -- the stages in which elements are accepted
   data Early (k edge : ℕ) : Type 0 where
     opening : w .session .stage ≡ S.OpeningHeaders → w .session .elements .eod ≡ false → Early k edge
@@ -184,10 +183,26 @@ module _ {last pass : ℕ} {premises : Type 0} (w : World) (set : Setting last p
   first-small (inv.closing st v c a b g) = clash c (acc .unclosed)
   first-small (inv.finished st v c a b f g h r y) = clash c (acc .unclosed)
 
-  module _ (window : List ℕ) (c : Content last pass w (l .k) (l .edge)) (g : Gains (w .session) (w .window) window x (elements.acceptedOf (w .session .elements) mark .marks)) where
-    count-is : w .session .elements .first .0 + w .session .elements .pending ≡ length (w .notes .accepted)
-    count-is = l .counted .numbered ∙ total-plain (length (w .notes .accepted)) (early (l .course))
+  count-is : w .session .elements .first .0 + w .session .elements .pending ≡ length (w .notes .accepted)
+  count-is = l .counted .numbered ∙ total-plain (length (w .notes .accepted)) (early (l .course))
 
+  writing-of : ElementStage (w .session) → Writing last (w .session) (w .drive) (l .k) (l .edge) (w .flight)
+  writing-of st = go st (early (l .course))
+    where
+      go : ElementStage (w .session) → Early (l .k) (l .edge) → Writing last (w .session) (w .drive) (l .k) (l .edge) (w .flight)
+      go q (opening o _) = never (cc)
+      go q (writing o _ a) = a
+
+  -- the frames stand for what they stood for
+  outgoing-more : (window : List ℕ) (unaltered : Bool) → Outgoing last pass w (l .k) → Outgoing last pass (acceptedWorld w (withElement (w .session) mark) window unaltered x) (l .k)
+  outgoing-more window unaltered f = record {
+    queue = λ st free. queue-grow last pass (w .notes .accepted) (x ∷ []) (l .k) (w .drive .buffer) (omega (arith, writing-numbers (l .counted .held) (writing-of st) .fits free, count-is)) (f .queue st free);
+    sent = λ a g st q.
+        let due = sent-due (subst (Writing last (w .session) (w .drive) (l .k) (l .edge)) q (writing-of st)) in
+        subst (λ (y : Item). Stands last pass y (w .session .elements .first .0 + w .session .elements .outstanding) g) (sym (item-more (w .notes .accepted) (x ∷ []) (w .session .elements .first .0 + w .session .elements .outstanding) (omega (arith, count-is)))) (f .sent a g st q);
+  }
+
+  module _ (window : List ℕ) (c : Content last pass w (l .k) (l .edge)) (g : Gains (w .session) (w .window) window x (elements.acceptedOf (w .session .elements) mark .marks)) where
     -- an item that was pending stays as it was stored
     stays : (y : Item) (i : ℕ) → i < w .session .elements .pending → StoredAs y (w .window) (w .session .elements .marks) (windowOf (w .session)) (w .session .elements .first .0 + i)
         → StoredAs y window (elements.acceptedOf (w .session .elements) mark .marks) (windowOf (w .session)) (w .session .elements .first .0 + i)
@@ -217,13 +232,6 @@ module _ {last pass : ℕ} {premises : Type 0} (w : World) (set : Setting last p
             subst (λ (y : Item). StoredAs y window (elements.acceptedOf (w .session .elements) mark .marks) (windowOf (w .session)) (w .session .elements .first .0 + i)) (sym (item-more (w .notes .accepted) (x ∷ []) (w .session .elements .first .0 + i) (omega (arith, count-is))))
             (stays (itemAt (w .notes .accepted) (w .session .elements .first .0 + i)) i low (c .stored i low))
 
-    writing-of : ElementStage (w .session) → Writing last (w .session) (w .drive) (l .k) (l .edge) (w .flight)
-    writing-of st = go st (early (l .course))
-      where
-        go : ElementStage (w .session) → Early (l .k) (l .edge) → Writing last (w .session) (w .drive) (l .k) (l .edge) (w .flight)
-        go q (opening o _) = never (cc)
-        go q (writing o _ a) = a
-
     content-more : (unaltered : Bool) → Content last pass (acceptedWorld w (withElement (w .session) mark) window unaltered x) (l .k) (l .edge)
     content-more unaltered =
         let y = early (l .course) in
@@ -231,18 +239,11 @@ module _ {last pass : ℕ} {premises : Type 0} (w : World) (set : Setting last p
           tape = c .tape;
           seen = subst (λ (n : ℕ). Seen last pass (w .notes .accepted ++ x ∷ []) n (l .k) (l .edge) (w .drive .tape)) (sym (total-plain (length (w .notes .accepted ++ x ∷ [])) y))
               (seen-accept x (subst (λ (n : ℕ). Seen last pass (w .notes .accepted) n (l .k) (l .edge) (w .drive .tape)) (total-plain (length (w .notes .accepted)) y) (c .seen)));
-          below = c .below;
           stored = stored-more;
-          queue = λ st free. queue-grow last pass (w .notes .accepted) (x ∷ []) (l .k) (w .drive .buffer) (omega (arith, writing-numbers (l .counted .held) (writing-of st) .fits free, count-is)) (c .queue st free);
-          sent = λ a f st q.
-              let due = sent-due (subst (Writing last (w .session) (w .drive) (l .k) (l .edge)) q (writing-of st)) in
-              subst (λ (y : Item). Stands last pass y (w .session .elements .first .0 + w .session .elements .outstanding) f) (sym (item-more (w .notes .accepted) (x ∷ []) (w .session .elements .first .0 + w .session .elements .outstanding) (omega (arith, count-is)))) (c .sent a f st q);
-          eod-written = λ _ b _. clash b (early-unended y);
-          eod-named = λ q. early-unclosed y q;
         }
 
   live-more : (window : List ℕ) (unaltered : Bool) → (unaltered ≡ true → (w .notes .unaltered ≡ true) × Gains (w .session) (w .window) window x (elements.acceptedOf (w .session .elements) mark .marks))
-      → Live last pass premises (acceptedWorld w (withElement (w .session) mark) window unaltered x)
+      → Live last pass on-newest none-bears (acceptedWorld w (withElement (w .session) mark) window unaltered x)
   live-more window unaltered gain = record {
     k = l .k;
     edge = l .edge;
@@ -251,6 +252,9 @@ module _ {last pass : ℕ} {premises : Type 0} (w : World) (set : Setting last p
     carried = l .carried;
     course = course-more window unaltered (l .course);
     reported = l .reported;
+    outgoing = λ n. outgoing-more window unaltered (l .outgoing (⊎-elim (λ y. inl (y .0, gain (y .1) .0)) inr n));
+    eod-place = let y = early (l .course) in record { written = λ _ b _. clash b (early-unended y); named = λ q. early-unclosed y q };
+    below = l .below;
     content = λ p u. let y = gain u in content-more window (l .content p (y .0)) (y .1) unaltered;
   }
 
@@ -268,24 +272,24 @@ rejecting-more w s window unaltered x d ended awaiting command stage = record {
   unreported = d .unreported;
 }
 
-pub keeps-filemark : {last pass : ℕ} {premises : Type 0} (w : World) → Setting last pass → Inv last pass premises w → TakesEffect (filemarkOf (w .session) .number) → Inv last pass premises (afterFilemark w)
-keeps-filemark {last} {pass} {premises} w set i te =
+pub keeps-filemark : {last pass : ℕ} {on-newest none-bears : Type 0} (w : World) → Setting last pass → Inv last pass on-newest none-bears w → TakesEffect (filemarkOf (w .session) .number) → Inv last pass on-newest none-bears (afterFilemark w)
+keeps-filemark {last} {pass} {on-newest} {none-bears} w set i te =
     let v = filemark-view (w .session) te in
-    subst (λ (r : OutcomeSaid). Inv last pass premises (withAccepted w (r .session) (w .window) (w .notes .unaltered) (acceptedAfter (r .number) (w .notes .accepted) filemark))) (sym (v .0)) (go (v .1) i)
+    subst (λ (r : OutcomeSaid). Inv last pass on-newest none-bears (withAccepted w (r .session) (w .window) (w .notes .unaltered) (acceptedAfter (r .number) (w .notes .accepted) filemark))) (sym (v .0)) (go (v .1) i)
   where
-    go : Accepting (w .session) → Inv last pass premises w → Inv last pass premises (acceptedWorld w (withElement (w .session) true) (w .window) (w .notes .unaltered) filemark)
+    go : Accepting (w .session) → Inv last pass on-newest none-bears w → Inv last pass on-newest none-bears (acceptedWorld w (withElement (w .session) true) (w .window) (w .notes .unaltered) filemark)
     go acc (live wr l) =
         live wr (live-more w set l true filemark acc (w .window) (w .notes .unaltered) (λ u. (u, record { keeps = λ _ _. refl; gains = accepted-new (w .session .elements) true (l .counted .marks) })))
     go acc (rejecting wr d) = rejecting wr (rejecting-more w (withElement (w .session) true) (w .window) (w .notes .unaltered) filemark d refl refl refl refl)
     go acc (over wr o) = clash (o .ended) (acc .going)
 
-pub keeps-block : {last pass : ℕ} {premises : Type 0} (w : World) (b lent : List ℕ) → Setting last pass → Inv last pass premises w → TakesEffect (blockOf (w .session) b lent .result .number) → Inv last pass premises (afterBlock w b lent)
-keeps-block {last} {pass} {premises} w b lent set i te =
+pub keeps-block : {last pass : ℕ} {on-newest none-bears : Type 0} (w : World) (b lent : List ℕ) → Setting last pass → Inv last pass on-newest none-bears w → TakesEffect (blockOf (w .session) b lent .result .number) → Inv last pass on-newest none-bears (afterBlock w b lent)
+keeps-block {last} {pass} {on-newest} {none-bears} w b lent set i te =
     let v = block-view (w .session) b lent te in
-    subst (λ (r : StoredSaid). Inv last pass premises (withAccepted w (r .result .session) (r .window) (w .notes .unaltered && agree lent (w .window)) (acceptedAfter (r .result .number) (w .notes .accepted) (block b)))) (sym (v .is)) (go v i)
+    subst (λ (r : StoredSaid). Inv last pass on-newest none-bears (withAccepted w (r .result .session) (r .window) (w .notes .unaltered && agree lent (w .window)) (acceptedAfter (r .result .number) (w .notes .accepted) (block b)))) (sym (v .is)) (go v i)
   where
-    go : Storing (w .session) b lent (blockOf (w .session) b lent) → Inv last pass premises w
-        → Inv last pass premises (acceptedWorld w (withElement (w .session) false) (putBlock lent (placeOf (w .session)) b) (w .notes .unaltered && agree lent (w .window)) (block b))
+    go : Storing (w .session) b lent (blockOf (w .session) b lent) → Inv last pass on-newest none-bears w
+        → Inv last pass on-newest none-bears (acceptedWorld w (withElement (w .session) false) (putBlock lent (placeOf (w .session)) b) (w .notes .unaltered && agree lent (w .window)) (block b))
     go v (live wr l) =
         let acc = v .accepting-it in
         let first = w .session .elements .first .0 in

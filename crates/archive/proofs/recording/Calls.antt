@@ -30,7 +30,7 @@ use Rattle.archive.proofs.Refusals.{refused-calls}
 
 -- ---- a reply that is not listed
 
-rejecting-reply : {last pass : ℕ} {premises : Type 0} (w : World) (r : Reply) → Within last (w .drive .written) → (d : Rejecting last w) → d .reply ≡ r → Inv last pass premises (afterReply w r)
+rejecting-reply : {last pass : ℕ} {on-newest none-bears : Type 0} (w : World) (r : Reply) → Within last (w .drive .written) → (d : Rejecting last w) → d .reply ≡ r → Inv last pass on-newest none-bears (afterReply w r)
 rejecting-reply w r written d same =
     let s = w .session in
     let refused : replyOf s (d .reply) .number ≡ 8 = unlisted-refused s (d .reply) (d .going) (d .awaits) (d .off-headers) (d .unlisted) in
@@ -39,13 +39,13 @@ rejecting-reply w r written d same =
 
 -- ---- a reply
 
-live-reply : {last pass : ℕ} {premises : Type 0} (w : World) (r : Reply) → Setting last pass → Within last (w .drive .written) → (l : Live last pass premises w) → w .flight ≡ recordings.answered r → Course last w (l .k) (l .edge) → Inv last pass premises (afterReply w r)
+live-reply : {last pass : ℕ} {on-newest none-bears : Type 0} (w : World) (r : Reply) → Setting last pass → Within last (w .drive .written) → (l : Live last pass on-newest none-bears w) → w .flight ≡ recordings.answered r → Course last w (l .k) (l .edge) → Inv last pass on-newest none-bears (afterReply w r)
 live-reply w r set wr l q (inv.opening s v t a) = opening-replies w r set wr l s v t a (subst (Copying (w .session) (w .drive)) q (a .copying))
 live-reply {last} w r set wr l q (inv.writing s v a) = elements-reply w r set wr l s v (subst (Writing last (w .session) (w .drive) (l .k) (l .edge)) q a)
 live-reply w r set wr l q (inv.closing s v c k e a) = closing-replies w r set wr l s v c k e a (subst (Copying (w .session) (w .drive)) q (a .copying))
 live-reply w r set wr l q (inv.finished s v c k e f a g rests y) = none-answered (sym f ∙ q)
 
-keeps-reply : {last pass : ℕ} {premises : Type 0} (w : World) (r : Reply) → Setting last pass → Inv last pass premises w → w .flight ≡ recordings.answered r → TakesEffect (replyOf (w .session) r .number) → Inv last pass premises (afterReply w r)
+keeps-reply : {last pass : ℕ} {on-newest none-bears : Type 0} (w : World) (r : Reply) → Setting last pass → Inv last pass on-newest none-bears w → w .flight ≡ recordings.answered r → TakesEffect (replyOf (w .session) r .number) → Inv last pass on-newest none-bears (afterReply w r)
 keeps-reply w r set (live wr l) q te = live-reply w r set wr l q (l .course)
 keeps-reply w r set (rejecting wr d) q te = rejecting-reply w r wr d (answered-same (sym (d .replied) ∙ q))
 keeps-reply w r set (over wr o) q te = none-answered (sym (o .none) ∙ q)
@@ -64,10 +64,10 @@ same-window w (recordings.reply r) l = refl
 abbrev withWindow : World → State → List ℕ → World
 withWindow w s window = record { session = s; window = window; drive = w .drive; flight = w .flight; notes = w .notes }
 
-pub keeps-call : {last pass : ℕ} {premises : Type 0} (w v : World) (c : recordings.Call) → Setting last pass → Inv last pass premises w → recordings.Calls w c v → Inv last pass premises v
-keeps-call {last} {pass} {premises} w v c set i (recordings.refuses _ l h) =
-    subst (λ (s : State). Inv last pass premises (withWindow w s (recordings.windowAfter w c))) (sym (refused-calls .recording (w .session) c .unchanged l h))
-    (subst (λ (x : List ℕ). Inv last pass premises (withWindow w (w .session) x)) (sym (same-window w c l)) i)
+pub keeps-call : {last pass : ℕ} {on-newest none-bears : Type 0} (w v : World) (c : recordings.Call) → Setting last pass → Inv last pass on-newest none-bears w → recordings.Calls w c v → Inv last pass on-newest none-bears v
+keeps-call {last} {pass} {on-newest} {none-bears} w v c set i (recordings.refuses _ l h) =
+    subst (λ (s : State). Inv last pass on-newest none-bears (withWindow w s (recordings.windowAfter w c))) (sym (refused-calls .recording (w .session) c .unchanged l h))
+    (subst (λ (x : List ℕ). Inv last pass on-newest none-bears (withWindow w (w .session) x)) (sym (same-window w c l)) i)
 keeps-call w v c set i (recordings.accepts-block b lent te) = keeps-block w b lent set i te
 keeps-call w v c set i (recordings.accepts-filemark te) = keeps-filemark w set i te
 keeps-call w v c set i (recordings.closes te) = keeps-close w i te

@@ -1,4 +1,4 @@
--- What the drive's own writes and failures leave of tape and window. Assumes nothing.
+-- What the drive's own writes and failures leave of the frames that it holds, of EOD, and of tape and window. Assumes nothing.
 use Prim.Native.Nat.{ℕ, _+_, _-_, _≤_, _<_}
 use mathlib.Core.Path.{_≡_, refl, sym, ap, subst, _∙_}
 use mathlib.Core.Bool.{Bool, true, false, true≢false}
@@ -7,12 +7,10 @@ use mathlib.Core.Logic.{_⊎_, inl, inr, ⊎-elim}
 use mathlib.Core.Option.{Option, some}
 use native.Mathlib.Decide.{ℕ-discrete}
 use native.Mathlib.Omega.{arith}
-use borrow.Author.Tests.{leb-true}
-use lib.Dec.{leb}
 use lib.ListN.{length}
 use Rattle.geometry.specs.Cartridge.{isHeader, isUser}
-use Rattle.geometry.proofs.TestLaws.{and-true, or-true}
 use Rattle.geometry.proofs.Impossible.{never}
+use Rattle.geometry.proofs.UserFrames.{ranges, user-ranges, header-not-user}
 use Rattle.frame.specs.Header.{headerFrame}
 use Rattle.frame.specs.Sent.{ReadsAs}
 use Rattle.frame.specs.declared.header.Header.{Header}
@@ -21,23 +19,22 @@ use Rattle.header.specs.Valid.{updateOf}
 use Rattle.archive.specs.Conduct as conduct
 use Rattle.archive.specs.Conduct.{Drive, Written, Left, as-before, as-new, not-at-all, wrote, failing}
 use Rattle.archive.specs.Tape.{Tape, Cartridge, put}
+use Rattle.recording_state.specs.declared.state.State.{State}
 use Rattle.recording_state.specs.declared.state.Stage.the-variants as S
 use Rattle.recording_state.proofs.Stages.{ElementStage}
 use Rattle.archive.specs.Recordings.{World, Element, withDrive}
 use Rattle.archive.proofs.tape.Basics.{none-some, some-same}
-use Rattle.archive.proofs.tape.Places.{header-not-user}
-use Rattle.archive.proofs.tape.Scan.{Seen}
-use Rattle.archive.proofs.tape.ScanLaws.{put-same, put-other}
+use Rattle.archive.proofs.tape.Seen.{Seen}
+use Rattle.archive.proofs.tape.FoldLaws.{put-same, put-other}
 use Rattle.archive.proofs.tape.SeenLaws.{cartridge-put, seen-elsewhere, seen-writes, seen-fails}
 use Rattle.archive.proofs.tape.Stands.{Item, eod, itemAt, Stands, Queue}
 use Rattle.archive.proofs.tape.StandsLaws.{item-past, stands-read, stands-long}
-use Rattle.archive.proofs.tape.UserPlaces.{user-ranges}
 use Rattle.archive.proofs.recording.HeaderCopies.{Below}
 use Rattle.archive.proofs.recording.Setting.{EodAt}
-use Rattle.archive.proofs.recording.Invariant.{totalOf, Content}
+use Rattle.archive.proofs.recording.Invariant.{totalOf, Outgoing, EodPlace, Content}
 
 -- what a tried address reads as
-pub left-reads : {before : Option (List ℕ)} {sent f : List ℕ} {v : Option (List ℕ)} → Left before sent v → v ≡ some f → (before ≡ some f) ⊎ ReadsAs sent f
+left-reads : {before : Option (List ℕ)} {sent f : List ℕ} {v : Option (List ℕ)} → Left before sent v → v ≡ some f → (before ≡ some f) ⊎ ReadsAs sent f
 left-reads as-before e = inl e
 left-reads {sent = sent} (as-new _ (conduct.reads read r)) e = inr (subst (λ (x : List ℕ). ReadsAs sent x) (some-same e) r)
 left-reads not-at-all e = none-some e
@@ -58,63 +55,74 @@ below-put last h t a v left below b f at = go (ℕ-discrete b a)
         ⊎-elim (λ q. again (ap t e ∙ q)) inr (left f (sym (put-same t a v) ∙ ap (put t a v) (sym e) ∙ at .reads))
     go (no n) = again (sym (put-other t a v b n) ∙ at .reads)
 
-module _ {last pass k edge : ℕ} (w : World) (large : 3000 ≤ last) (c : Content last pass w k edge) where
-  pub header-content : (e : Drive) (v : Option (List ℕ)) → e .tape ≡ put (w .drive .tape) (w .drive .at) v → isHeader (w .drive .at) ≡ true → (ElementStage (w .session) → ⊥)
-      → Left (w .drive .tape (w .drive .at)) (headerFrame (w .session .copies .header)) v → Content last pass (withDrive w e (w .flight)) k edge
-  header-content e v q at no-elements left =
+pub header-below : {last : ℕ} (w : World) (v : Option (List ℕ)) → Left (w .drive .tape (w .drive .at)) (headerFrame (w .session .copies .header)) v → Below last (w .session .copies .header) (w .drive .tape)
+    → Below last (w .session .copies .header) (put (w .drive .tape) (w .drive .at) v)
+header-below {last} w v left = below-put last (w .session .copies .header) (w .drive .tape) (w .drive .at) v (λ f x. left-reads left x)
+
+-- where an element is written no header is
+pub element-below : {last : ℕ} (w : World) → isUser last (w .drive .at) ≡ true → (v : Option (List ℕ)) → Below last (w .session .copies .header) (w .drive .tape) → Below last (w .session .copies .header) (put (w .drive .tape) (w .drive .at) v)
+element-below {last} w here v below a g at =
+    below a g (record { group = at .group; reads = sym (put-other (w .drive .tape) (w .drive .at) v a (λ e. header-not-user last a (at .group) (ap (isUser last) e ∙ here))) ∙ at .reads; valid = at .valid })
+
+header-low : (last a : ℕ) → 3000 ≤ last → isHeader a ≡ true → a ≤ last
+header-low last a large h = ⊎-elim (λ x. let y = x .1 in omega arith) (λ x. let y = x .1 in omega arith) (ranges 5 9 2990 2994 a h)
+
+not-user : (last a : ℕ) → isHeader a ≡ true → (b : Bool) → isUser last a ≡ b → isUser last a ≡ false
+not-user last a h true u = absurd (header-not-user last a h u)
+not-user last a h false u = u
+
+module _ {last pass k : ℕ} (w : World) (e : Drive) (v : Option (List ℕ)) (q : e .tape ≡ put (w .drive .tape) (w .drive .at) v) (at : isHeader (w .drive .at) ≡ true) where
+  pub header-content : {edge : ℕ} → 3000 ≤ last → Left (w .drive .tape (w .drive .at)) (headerFrame (w .session .copies .header)) v → Content last pass w k edge → Content last pass (withDrive w e (w .flight)) k edge
+  header-content {edge} large left c =
       let a = w .drive .at in
       let t = w .drive .tape in
       record {
-        tape = subst (Cartridge last) (sym q) (cartridge-put last t a v (header-low a at) (λ f x. ⊎-elim (λ y. c .tape .long a f y) (λ r. r .long ∙ header-length (w .session .copies .header)) (left-reads left x)) (c .tape));
-        seen = subst (λ x. Seen last pass (w .notes .accepted) (totalOf (w .session .elements .eod) (length (w .notes .accepted))) k edge x) (sym q) (seen-elsewhere a v (not-user a at (isUser last a) refl) (c .seen));
-        below = subst (Below last (w .session .copies .header)) (sym q) (below-put last (w .session .copies .header) t a v (λ f x. left-reads left x) (c .below));
+        tape = subst (Cartridge last) (sym q) (cartridge-put last t a v (header-low last a large at) (λ f x. ⊎-elim (λ y. c .tape .long a f y) (λ r. r .long ∙ header-length (w .session .copies .header)) (left-reads left x)) (c .tape));
+        seen = subst (λ x. Seen last pass (w .notes .accepted) (totalOf (w .session .elements .eod) (length (w .notes .accepted))) k edge x) (sym q) (seen-elsewhere a v (not-user last a at (isUser last a) refl) (c .seen));
         stored = c .stored;
-        queue = λ st _. absurd (no-elements st);
-        sent = λ _ _ st _. absurd (no-elements st);
-        eod-written = λ st _ _. absurd (no-elements st);
-        eod-named = λ s. let y = c .eod-named s in
-            record {
-              frame = y .frame;
-              user = y .user;
-              reads = ap (λ (u : Tape). u (w .session .copies .header .eod .0)) q ∙ put-other t a v (w .session .copies .header .eod .0) (λ z. header-not-user last a at (sym (ap (isUser last) z) ∙ y .user)) ∙ y .reads;
-              stands = y .stands;
-            };
       }
-    where
-      header-low : (a : ℕ) → isHeader a ≡ true → a ≤ last
-      header-low a h = ⊎-elim (λ x. let y = leb-true a 9 (and-true (leb 5 a) (leb a 9) x .1) in omega arith) (λ x. let y = leb-true a 2994 (and-true (leb 2990 a) (leb a 2994) x .1) in omega arith) (or-true _ _ h)
 
-      not-user : (a : ℕ) → isHeader a ≡ true → (b : Bool) → isUser last a ≡ b → isUser last a ≡ false
-      not-user a h true e = absurd (header-not-user last a h e)
-      not-user a h false e = e
+  -- EOD stays where it is
+  pub header-eod-place : (ElementStage (w .session) → ⊥) → EodPlace last pass w k → EodPlace last pass (withDrive w e (w .flight)) k
+  header-eod-place no-elements x = record {
+    written = λ st _ _. absurd (no-elements st);
+    named = λ s.
+        let y = x .named s in
+        let a = w .session .copies .header .eod .0 in
+        record {
+          frame = y .frame;
+          user = y .user;
+          reads = ap (λ (u : Tape). u a) q ∙ put-other (w .drive .tape) (w .drive .at) v a (λ z. header-not-user last (w .drive .at) at (sym (ap (isUser last) z) ∙ y .user)) ∙ y .reads;
+          stands = y .stands;
+        };
+  }
 
-  -- ---- elements
+-- ---- elements
 
-  module _ (f : List ℕ) (rest : List (List ℕ)) (b : w .drive .buffer ≡ f ∷ rest) (free : w .drive .failed ≡ false) (st : ElementStage (w .session))
-      (here : isUser last (w .drive .at) ≡ true) (edge-here : edge ≡ w .drive .at) (room : k + 1 ≤ totalOf (w .session .elements .eod) (length (w .notes .accepted))) where
-    most : (b : Bool) (n : ℕ) → totalOf b n ≤ n + 1
-    most false n = omega arith
-    most true n = omega arith
+unclosed : {X : Type 0} (s : State) → ElementStage s → (s .stage ≡ S.ClosingHeaders) ⊎ (s .stage ≡ S.Done) → X
+unclosed s st (inl z) = never (cc)
+unclosed s st (inr z) = never (cc)
 
-    queued : Stands last pass (itemAt (w .notes .accepted) k) k f × Queue last pass (w .notes .accepted) (k + 1) rest
-    unfolding Queue
-    queued = subst (Queue last pass (w .notes .accepted) k) b (c .queue st free)
+most : (b : Bool) (n : ℕ) → totalOf b n ≤ n + 1
+most false n = omega arith
+most true n = omega arith
 
-    seen-here : Seen last pass (w .notes .accepted) (totalOf (w .session .elements .eod) (length (w .notes .accepted))) k (w .drive .at) (w .drive .tape)
-    seen-here = subst (λ (x : ℕ). Seen last pass (w .notes .accepted) (totalOf (w .session .elements .eod) (length (w .notes .accepted))) k x (w .drive .tape)) edge-here (c .seen)
+module _ {last pass k : ℕ} (w : World) (f : List ℕ) (rest : List (List ℕ)) (b : w .drive .buffer ≡ f ∷ rest) (free : w .drive .failed ≡ false) (st : ElementStage (w .session)) where
+  -- the frames that the drive holds
 
-    -- no header is there
-    below-user : (v : Option (List ℕ)) → Below last (w .session .copies .header) (put (w .drive .tape) (w .drive .at) v)
-    below-user v x g at =
-        c .below x g (record { group = at .group; reads = sym (put-other (w .drive .tape) (w .drive .at) v x (λ e. header-not-user last x (at .group) (ap (isUser last) e ∙ here))) ∙ at .reads; valid = at .valid })
+  queued : Outgoing last pass w k → Stands last pass (itemAt (w .notes .accepted) k) k f × Queue last pass (w .notes .accepted) (k + 1) rest
+  unfolding Queue
+  queued x = subst (Queue last pass (w .notes .accepted) k) b (x .queue st free)
 
-    long-left : {v : Option (List ℕ)} → Left (w .drive .tape (w .drive .at)) f v → (g : List ℕ) → v ≡ some g → length g ≡ 33280
-    long-left left g e = ⊎-elim (λ y. c .tape .long (w .drive .at) g y) (λ r. r .long ∙ stands-long (queued .0)) (left-reads left e)
+  pub outgoing-written : (v : Option (List ℕ)) → Outgoing last pass w k → Outgoing last pass (withDrive w (wrote (w .drive) rest v) (w .flight)) (k + 1)
+  outgoing-written v x = record { queue = λ _ _. queued x .1; sent = x .sent }
 
-    cartridge-left : {v : Option (List ℕ)} → Left (w .drive .tape (w .drive .at)) f v → Cartridge last (put (w .drive .tape) (w .drive .at) v)
-    cartridge-left {v} left = cartridge-put last (w .drive .tape) (w .drive .at) v (user-low last (w .drive .at) large here) (long-left left) (c .tape)
+  pub outgoing-failed : (v : Option (List ℕ)) → Outgoing last pass w k → Outgoing last pass (withDrive w (failing (w .drive) v) (w .flight)) k
+  outgoing-failed v x = record { queue = λ _ z. absurd (true≢false z); sent = x .sent }
 
-    -- the frame was EOD's
+  module _ (here : isUser last (w .drive .at) ≡ true) (room : k + 1 ≤ totalOf (w .session .elements .eod) (length (w .notes .accepted))) where
+    -- EOD
+
     eod-stood : (read : List ℕ) → Stands last pass (itemAt (w .notes .accepted) k) k read → k ≡ length (w .notes .accepted) → EodAt last pass (length (w .notes .accepted)) (put (w .drive .tape) (w .drive .at) (some read)) (w .drive .at + 1 - 1)
     eod-stood read s all =
         let back : w .drive .at ≡ w .drive .at + 1 - 1 = omega arith in
@@ -126,33 +134,37 @@ module _ {last pass k edge : ℕ} (w : World) (large : 3000 ≤ last) (c : Conte
           stands = subst (λ (n : ℕ). Stands last pass eod n read) all (subst (λ (x : Item). Stands last pass x k read) item s);
         })
 
-    unclosed : {X : Type 0} → (w .session .stage ≡ S.ClosingHeaders) ⊎ (w .session .stage ≡ S.Done) → X
-    unclosed (inl z) = never (cc)
-    unclosed (inr z) = never (cc)
+    pub eod-written : (v : Option (List ℕ)) → Written f v → (w .session .elements .eod ≡ true → Outgoing last pass w k) → EodPlace last pass (withDrive w (wrote (w .drive) rest v) (w .flight)) (k + 1)
+    eod-written v (conduct.reads read r) x = record { written = λ _ e all. eod-stood read (stands-read (queued (x e) .0) r) (omega arith); named = unclosed (w .session) st }
 
-    pub element-writes : (v : Option (List ℕ)) → Written f v → Content last pass (withDrive w (wrote (w .drive) rest v) (w .flight)) (k + 1) (w .drive .at + 1)
-    element-writes v (conduct.reads read r) = record {
-      tape = cartridge-left (as-new (some read) (conduct.reads read r));
-      seen = seen-writes (c .tape) (w .drive .at) here seen-here room (most (w .session .elements .eod) (length (w .notes .accepted))) read (stands-read (queued .0) r);
-      below = below-user (some read);
-      stored = c .stored;
-      queue = λ _ _. queued .1;
-      sent = c .sent;
-      eod-written = λ _ _ all. eod-stood read (stands-read (queued .0) r) (omega arith);
-      eod-named = unclosed;
-    }
+    pub eod-failed : (v : Option (List ℕ)) → EodPlace last pass (withDrive w (failing (w .drive) v) (w .flight)) k
+    eod-failed v = record { written = λ _ _ all. absurd (omega (arith, most (w .session .elements .eod) (length (w .notes .accepted)))); named = unclosed (w .session) st }
 
-    pub element-fails : (v : Option (List ℕ)) → Left (w .drive .tape (w .drive .at)) f v → Content last pass (withDrive w (failing (w .drive) v) (w .flight)) k (w .drive .at + 1)
-    element-fails v left = record {
-      tape = cartridge-left left;
-      seen = seen-fails (c .tape) (w .drive .at) here seen-here room (most (w .session .elements .eod) (length (w .notes .accepted))) f v (queued .0) left;
-      below = below-user v;
-      stored = c .stored;
-      queue = λ _ x. absurd (true≢false x);
-      sent = c .sent;
-      eod-written = λ _ _ all. absurd (omega (arith, most (w .session .elements .eod) (length (w .notes .accepted))));
-      eod-named = unclosed;
-    }
+    -- tape and window
+
+    module _ {edge : ℕ} (large : 3000 ≤ last) (c : Content last pass w k edge) (x : Outgoing last pass w k) (edge-here : edge ≡ w .drive .at) where
+      seen-here : Seen last pass (w .notes .accepted) (totalOf (w .session .elements .eod) (length (w .notes .accepted))) k (w .drive .at) (w .drive .tape)
+      seen-here = subst (λ (a : ℕ). Seen last pass (w .notes .accepted) (totalOf (w .session .elements .eod) (length (w .notes .accepted))) k a (w .drive .tape)) edge-here (c .seen)
+
+      long-left : {v : Option (List ℕ)} → Left (w .drive .tape (w .drive .at)) f v → (g : List ℕ) → v ≡ some g → length g ≡ 33280
+      long-left left g e = ⊎-elim (λ y. c .tape .long (w .drive .at) g y) (λ r. r .long ∙ stands-long (queued x .0)) (left-reads left e)
+
+      cartridge-left : {v : Option (List ℕ)} → Left (w .drive .tape (w .drive .at)) f v → Cartridge last (put (w .drive .tape) (w .drive .at) v)
+      cartridge-left {v} left = cartridge-put last (w .drive .tape) (w .drive .at) v (user-low last (w .drive .at) large here) (long-left left) (c .tape)
+
+      pub content-written : (v : Option (List ℕ)) → Written f v → Content last pass (withDrive w (wrote (w .drive) rest v) (w .flight)) (k + 1) (w .drive .at + 1)
+      content-written v (conduct.reads read r) = record {
+        tape = cartridge-left (as-new (some read) (conduct.reads read r));
+        seen = seen-writes (c .tape) (w .drive .at) here seen-here room (most (w .session .elements .eod) (length (w .notes .accepted))) read (stands-read (queued x .0) r);
+        stored = c .stored;
+      }
+
+      pub content-failed : (v : Option (List ℕ)) → Left (w .drive .tape (w .drive .at)) f v → Content last pass (withDrive w (failing (w .drive) v) (w .flight)) k (w .drive .at + 1)
+      content-failed v left = record {
+        tape = cartridge-left left;
+        seen = seen-fails (c .tape) (w .drive .at) here seen-here room (most (w .session .elements .eod) (length (w .notes .accepted))) f v (queued x .0) left;
+        stored = c .stored;
+      }
 
 -- one frame more
 pub queue-more : (last pass : ℕ) (xs : List Element) (k : ℕ) (fs : List (List ℕ)) (f : List ℕ) → Queue last pass xs k fs → Stands last pass (itemAt xs (k + length fs)) (k + length fs) f → Queue last pass xs k (fs ++ f ∷ [])

@@ -3,7 +3,7 @@ use Prim.Native.Nat.{ℕ, suc, _+_, _-_, _≤_, _<_}
 use mathlib.Core.Path.{_≡_, refl, sym, ap, subst, _∙_}
 use mathlib.Core.Bool.{true, false}
 use mathlib.Core.List.{List, [], _∷_, _++_, nil≢cons, head-eq-of-cons-eq, tail-eq-of-cons-eq}
-use mathlib.Core.Logic.{_⊎_, inl, inr, ⊎-elim}
+use mathlib.Core.Logic.{inl, inr, ⊎-elim}
 use mathlib.Core.Option.{Option, some}
 use native.Mathlib.Nat.{le-refl}
 use native.Mathlib.Omega.{arith}
@@ -15,7 +15,7 @@ use Rattle.frame.specs.Header.{headerFrame}
 use Rattle.frame.specs.Sent.{ReadsAs}
 use Rattle.frame.specs.declared.header.Header.{Header}
 use Rattle.archive.specs.Conduct as conduct
-use Rattle.archive.specs.Conduct.{Drive, Written, wrote, failing, taking, moved, AtRest, empty, stopped}
+use Rattle.archive.specs.Conduct.{Drive, Written, wrote, failing, taking, AtRest, empty, stopped}
 use Rattle.drive.specs.Senses.{meaningOf}
 use Rattle.archive.specs.Tape.{Tape, put}
 use Rattle.drive.specs.declared.command.Command.{Command}
@@ -25,11 +25,11 @@ use Rattle.drive.specs.Listed.{Listed}
 use Rattle.copies.specs.Copies.{nextAddress}
 use Rattle.copies.specs.declared.copies.Copies.{Copies}
 use Rattle.copies.proofs.Counts.{CountsOf}
-use Rattle.copies.proofs.HeaderPlaces.{is-header, header-from-first}
+use Rattle.geometry.proofs.HeaderPlaces.{is-header, header-from-first}
 use Rattle.recording_state.specs.declared.state.State.{State}
 use Rattle.archive.specs.Recordings.{Flight}
 use Rattle.archive.proofs.recording.HeaderCopies.{Copy}
-use Rattle.archive.proofs.tape.ScanLaws.{put-same, put-other}
+use Rattle.archive.proofs.tape.FoldLaws.{put-same, put-other}
 use Rattle.archive.proofs.recording.CopiesLink.{CopyLink, CopyAsks, writes, asks, seeks, CopyAnswered, taken, counted, failed-write, failed-position, waits, HeaderSent, Copying, at-place, to-seek, again, under-way, replied}
 use Rattle.archive.proofs.recording.CopiesLink as link
 use Rattle.archive.proofs.recording.Invariant.{Safe, halted, allowed}
@@ -74,7 +74,7 @@ module _ (c : Copies) (counts : CountsOf c) (d : Drive) (f : List ℕ) (rest : L
   size : length (d .buffer) ≡ suc (length rest)
   size = ap length b
 
-  pub link-place : {extra : ℕ} → CopyLink c d extra → isHeader (d .at) ≡ true
+  link-place : {extra : ℕ} → CopyLink c d extra → isHeader (d .at) ≡ true
   link-place {extra} l =
       let q = c .copy + extra - length (d .buffer) in
       let held = counts .held in

@@ -27,7 +27,7 @@ use Rattle.archive.proofs.tape.Stands.{itemAt, Stands, Queue}
 use Rattle.drive.specs.Senses.{meaningOf}
 use Rattle.drive.specs.Listed.{Listed}
 use Rattle.archive.specs.Tape.{Tape, Cartridge}
-use Rattle.archive.proofs.tape.Scan.{Seen}
+use Rattle.archive.proofs.tape.Seen.{Seen}
 use Rattle.archive.proofs.recording.HeaderCopies.{Below}
 use Rattle.archive.proofs.recording.CopiesLink as copies
 use Rattle.archive.proofs.recording.CopiesLink.{Copying, CopiesAgree}
@@ -36,10 +36,10 @@ use Rattle.archive.proofs.recording.CopiesMoves.{rests-still, CopyGoes,
 use Rattle.archive.proofs.recording.ElementsLink as elements
 use Rattle.archive.proofs.recording.ElementsLink.{Asks, Answered, Writing}
 use Rattle.archive.proofs.recording.ElementsMoves as writing
-use Rattle.archive.proofs.recording.ElementsMoves.{Goes, writing-goes, Outcome, elements-answer, asks-off-header}
-use Rattle.archive.proofs.recording.ContentMoves.{header-content, element-writes, element-fails, queue-more}
+use Rattle.archive.proofs.recording.ElementsMoves.{Goes, writing-goes, ElementsOutcome, elements-answer, asks-off-header}
+use Rattle.archive.proofs.recording.ContentMoves.{header-below, element-below, header-content, header-eod-place, outgoing-written, outgoing-failed, eod-written, eod-failed, content-written, content-failed, queue-more}
 use Rattle.archive.proofs.recording.Invariant as inv
-use Rattle.archive.proofs.recording.Invariant.{totalOf, EodDue, Course, Content, Live, Safe, halted, allowed, Inv, live, rejecting, over}
+use Rattle.archive.proofs.recording.Invariant.{totalOf, EodDue, Course, Outgoing, Known, EodPlace, Content, Live, Safe, halted, allowed, Inv, live, rejecting, over}
 use Rattle.archive.proofs.recording.InvariantLaws.{unreported}
 use Rattle.archive.proofs.recording.Setting.{Setting, EodAt}
 
@@ -61,10 +61,11 @@ safe-acts {last} {d} (allowed h) (conduct.fails f rest v b free l) =
 
 -- ---- a live one
 
-module _ {last pass : ℕ} {premises : Type 0} {w : World} (set : Setting last pass) (written : Within last (w .drive .written)) (l : Live last pass premises w) where
+module _ {last pass : ℕ} {on-newest none-bears : Type 0} {w : World} (set : Setting last pass) (written : Within last (w .drive .written)) (l : Live last pass on-newest none-bears w) where
   -- another drive, in the same session
-  relive : (d : Drive) (f : Flight) (k edge : ℕ) → Course last (withDrive w d f) k edge → (premises → w .notes .unaltered ≡ true → Content last pass (withDrive w d f) k edge) → Live last pass premises (withDrive w d f)
-  relive d f k edge course content = record {
+  relive : (d : Drive) (f : Flight) (k edge : ℕ) → Course last (withDrive w d f) k edge → (Known none-bears w → Outgoing last pass (withDrive w d f) k) → EodPlace last pass (withDrive w d f) k
+      → (on-newest → Below last (w .session .copies .header) (d .tape)) → (none-bears → w .notes .unaltered ≡ true → Content last pass (withDrive w d f) k edge) → Live last pass on-newest none-bears (withDrive w d f)
+  relive d f k edge course outgoing eod-place below content = record {
     k = k;
     edge = edge;
     going = l .going;
@@ -72,6 +73,9 @@ module _ {last pass : ℕ} {premises : Type 0} {w : World} (set : Setting last p
     carried = l .carried;
     course = course;
     reported = l .reported;
+    outgoing = outgoing;
+    eod-place = eod-place;
+    below = below;
     content = content;
   }
 
@@ -94,17 +98,25 @@ module _ {last pass : ℕ} {premises : Type 0} {w : World} (set : Setting last p
     as-header : {v : Option (List ℕ)} → Left (w .drive .tape (w .drive .at)) f v → Left (w .drive .tape (w .drive .at)) (headerFrame (w .session .copies .header)) v
     as-header {v} x = subst (λ (y : List ℕ). Left (w .drive .tape (w .drive .at)) y v) (goes .same) x
 
-    header-writes : (v : Option (List ℕ)) → Written f v → Inv last pass premises (withDrive w (wrote (w .drive) rest v) (w .flight))
+    outside : ElementStage (w .session) → ⊥
+    outside el = header-not-element (w .session) st el
+
+    none-out : (e : Drive) → Outgoing last pass (withDrive w e (w .flight)) (l .k)
+    none-out e = record { queue = λ el _. absurd (outside el); sent = λ _ _ el _. absurd (outside el) }
+
+    header-writes : (v : Option (List ℕ)) → Written f v → Inv last pass on-newest none-bears (withDrive w (wrote (w .drive) rest v) (w .flight))
     header-writes v x =
         live (header-written (goes .place))
         (relive (wrote (w .drive) rest v) (w .flight) (l .k) (l .edge) (course (wrote (w .drive) rest v) (agreed (goes .written v x)))
-        (λ p u. header-content w (set .large) (l .content p u) (wrote (w .drive) rest v) v refl (goes .place) (λ el. header-not-element (w .session) st el) (as-header (as-new v x))))
+        (λ _. none-out (wrote (w .drive) rest v)) (header-eod-place w (wrote (w .drive) rest v) v refl (goes .place) outside (l .eod-place))
+        (λ p. header-below w v (as-header (as-new v x)) (l .below p)) (λ p u. header-content w (wrote (w .drive) rest v) v refl (goes .place) (set .large) (as-header (as-new v x)) (l .content p u)))
 
-    header-fails : (v : Option (List ℕ)) → Left (w .drive .tape (w .drive .at)) f v → Inv last pass premises (withDrive w (failing (w .drive) v) (w .flight))
+    header-fails : (v : Option (List ℕ)) → Left (w .drive .tape (w .drive .at)) f v → Inv last pass on-newest none-bears (withDrive w (failing (w .drive) v) (w .flight))
     header-fails v x =
         live (header-written (goes .place))
         (relive (failing (w .drive) v) (w .flight) (l .k) (l .edge) (course (failing (w .drive) v) (agreed (goes .broken v)))
-        (λ p u. header-content w (set .large) (l .content p u) (failing (w .drive) v) v refl (goes .place) (λ el. header-not-element (w .session) st el) (as-header x)))
+        (λ _. none-out (failing (w .drive) v)) (header-eod-place w (failing (w .drive) v) v refl (goes .place) outside (l .eod-place))
+        (λ p. header-below w v (as-header x) (l .below p)) (λ p u. header-content w (failing (w .drive) v) v refl (goes .place) (set .large) (as-header x) (l .content p u)))
 
   -- ---- among the elements
 
@@ -116,19 +128,21 @@ module _ {last pass : ℕ} {premises : Type 0} {w : World} (set : Setting last p
     room : l .k + 1 ≤ totalOf (w .session .elements .eod) (length (w .notes .accepted))
     room = omega (arith, on .room, l .counted .numbered)
 
-    writes : (v : Option (List ℕ)) → Written f v → Inv last pass premises (withDrive w (wrote (w .drive) rest v) (w .flight))
+    writes : (v : Option (List ℕ)) → Written f v → Inv last pass on-newest none-bears (withDrive w (wrote (w .drive) rest v) (w .flight))
     writes v x =
         live (user-written (on .place))
         (relive (wrote (w .drive) rest v) (w .flight) (l .k + 1) (w .drive .at + 1) (course (wrote (w .drive) rest v) (l .k + 1) (w .drive .at + 1) (on .written v))
-        (λ p u. element-writes w (set .large) (l .content p u) f rest b free st (on .place) (on .edge-here) room v x))
+        (λ n. outgoing-written w f rest b free st v (l .outgoing n)) (eod-written w f rest b free st (on .place) room v x (λ e. l .outgoing (inr e)))
+        (λ p. element-below w (on .place) v (l .below p)) (λ p u. content-written w f rest b free st (on .place) room (set .large) (l .content p u) (l .outgoing (inl (p, u))) (on .edge-here) v x))
 
-    fails : (v : Option (List ℕ)) → Left (w .drive .tape (w .drive .at)) f v → Inv last pass premises (withDrive w (failing (w .drive) v) (w .flight))
+    fails : (v : Option (List ℕ)) → Left (w .drive .tape (w .drive .at)) f v → Inv last pass on-newest none-bears (withDrive w (failing (w .drive) v) (w .flight))
     fails v x =
         live (user-written (on .place))
         (relive (failing (w .drive) v) (w .flight) (l .k) (w .drive .at + 1) (course (failing (w .drive) v) (l .k) (w .drive .at + 1) (on .broken v))
-        (λ p u. element-fails w (set .large) (l .content p u) f rest b free st (on .place) (on .edge-here) room v x))
+        (λ n. outgoing-failed w f rest b free st v (l .outgoing n)) (eod-failed w f rest b free st (on .place) room v)
+        (λ p. element-below w (on .place) v (l .below p)) (λ p u. content-failed w f rest b free st (on .place) room (set .large) (l .content p u) (l .outgoing (inl (p, u))) (on .edge-here) v x))
 
-  live-acts : Course last w (l .k) (l .edge) → (d : Drive) → Acts (w .drive) d → Inv last pass premises (withDrive w d (w .flight))
+  live-acts : Course last w (l .k) (l .edge) → (d : Drive) → Acts (w .drive) d → Inv last pass on-newest none-bears (withDrive w d (w .flight))
   live-acts (inv.opening s u t a) d (conduct.writes f rest v b free x) = header-writes f rest b free (inl s) a (λ _ y. inv.opening s u t y) v x
   live-acts (inv.opening s u t a) d (conduct.fails f rest v b free x) = header-fails f rest b free (inl s) a (λ _ y. inv.opening s u t y) v x
   live-acts (inv.writing s u a) d (conduct.writes f rest v b free x) = writes f rest b free s a (λ _ _ _ y. inv.writing s u y) v x
@@ -159,38 +173,47 @@ module _ {last pass : ℕ} {premises : Type 0} {w : World} (set : Setting last p
     within = subst (Within last) (sym (same-tape an .1)) written
 
     lost : (w .session .stage ≡ S.Done → ⊥) → w .session .exchange .awaiting ≡ true → (Listed (w .session .exchange .command) (meaningOf (r .key) (r .asc) (r .ascq)) → ⊥) → OffHeaders (w .session) → Safe last d
-        → Inv last pass premises (withDrive w d (recordings.answered r))
+        → Inv last pass on-newest none-bears (withDrive w d (recordings.answered r))
     lost n a h off safe = rejecting within (record { reply = r; going = l .going; awaits = a; replied = refl; unlisted = h; off-headers = off; safe = safe; unreported = unreported l n })
 
     -- the tape stays
-    same-content : {k edge : ℕ} → Content last pass w k edge → (ElementStage (w .session) → d .failed ≡ false → Queue last pass (w .notes .accepted) k (d .buffer))
-        → (ElementStage (w .session) → w .session .elements .eod ≡ true → k ≡ length (w .notes .accepted) + 1 → d .at ≡ w .drive .at) → Content last pass (withDrive w d (recordings.answered r)) k edge
-    same-content {k} {edge} x queue stays =
+    same-content : {k edge : ℕ} → Content last pass w k edge → Content last pass (withDrive w d (recordings.answered r)) k edge
+    same-content {k} {edge} x =
         let e = sym (same-tape an .0) in
         record {
           tape = subst (Cartridge last) e (x .tape);
           seen = subst (λ t. Seen last pass (w .notes .accepted) (totalOf (w .session .elements .eod) (length (w .notes .accepted))) k edge t) e (x .seen);
-          below = subst (Below last (w .session .copies .header)) e (x .below);
           stored = x .stored;
-          queue = queue;
-          sent = λ _ _ _ z. answered-sent z;
-          eod-written = λ st b all.
-              subst (λ (t : Tape). EodAt last pass (length (w .notes .accepted)) t (d .at - 1)) e
-              (subst (λ (a : ℕ). EodAt last pass (length (w .notes .accepted)) (w .drive .tape) (a - 1)) (sym (stays st b all)) (x .eod-written st b all));
-          eod-named = λ s. subst (λ (t : Tape). EodAt last pass (length (w .notes .accepted)) t (w .session .copies .header .eod .0)) e (x .eod-named s);
         }
+
+    same-below : Below last (w .session .copies .header) (w .drive .tape) → Below last (w .session .copies .header) (d .tape)
+    same-below x = subst (Below last (w .session .copies .header)) (sym (same-tape an .0)) x
+
+    same-eod-place : {k : ℕ} → (ElementStage (w .session) → w .session .elements .eod ≡ true → k ≡ length (w .notes .accepted) + 1 → d .at ≡ w .drive .at) → EodPlace last pass w k → EodPlace last pass (withDrive w d (recordings.answered r)) k
+    same-eod-place {k} stays x =
+        let e = sym (same-tape an .0) in
+        record {
+          written = λ st b all.
+              subst (λ (t : Tape). EodAt last pass (length (w .notes .accepted)) t (d .at - 1)) e
+              (subst (λ (a : ℕ). EodAt last pass (length (w .notes .accepted)) (w .drive .tape) (a - 1)) (sym (stays st b all)) (x .written st b all));
+          named = λ s. subst (λ (t : Tape). EodAt last pass (length (w .notes .accepted)) t (w .session .copies .header .eod .0)) e (x .named s);
+        }
+
+    -- the frame that was on the way is with the drive, or was not taken
+    outgoing-answered : {k : ℕ} → (ElementStage (w .session) → d .failed ≡ false → Queue last pass (w .notes .accepted) k (d .buffer)) → Outgoing last pass (withDrive w d (recordings.answered r)) k
+    outgoing-answered queue = record { queue = queue; sent = λ _ _ _ z. answered-sent z }
 
     module _ (st : HeaderStage (w .session)) (agree : CopiesAgree (w .session) (w .drive) (w .flight))
         (course : (e : Drive) → CopiesAgree (w .session) e (recordings.answered r) → Course last (withDrive w e (recordings.answered r)) (l .k) (l .edge)) where
-      header-answers : Copying (w .session) (w .drive) (recordings.sent c frame) → Inv last pass premises (withDrive w d (recordings.answered r))
+      header-answers : Copying (w .session) (w .drive) (recordings.sent c frame) → Inv last pass on-newest none-bears (withDrive w d (recordings.answered r))
       header-answers (copies.under-way _ _ a g e h x) = go (copies-answer (agree .counts) h x an)
         where
-          go : CopyOutcome last (w .session .copies) d r c → Inv last pass premises (withDrive w d (recordings.answered r))
+          go : CopyOutcome last (w .session .copies) d r c → Inv last pass on-newest none-bears (withDrive w d (recordings.answered r))
           go (copying.goes-on y) =
               live within
               (relive d (recordings.answered r) (l .k) (l .edge)
               (course d (record { counts = agree .counts; placed = agree .placed; copying = copies.replied r a g (subst (λ z. copies.CopyAnswered (w .session .copies) d r z) (sym e) y) }))
-              (λ p u. same-content (l .content p u) (λ el _. header-not-element (w .session) st el) (λ el _ _. header-not-element (w .session) st el)))
+              (λ _. outgoing-answered (λ el _. header-not-element (w .session) st el)) (same-eod-place (λ el _ _. header-not-element (w .session) st el) (l .eod-place)) (λ p. same-below (l .below p)) (λ p u. same-content (l .content p u)))
           go (copying.reject m safe) = lost (header-not-done (w .session) st) a (λ z. m (subst (λ k. Listed k (meaningOf (r .key) (r .asc) (r .ascq))) e z)) (λ el. header-not-element (w .session) st el) safe
 
     module _ (st : ElementStage (w .session)) (due : EodDue (w .session .elements) (w .session .closed)) (agree : Writing last (w .session) (w .drive) (l .k) (l .edge) (w .flight))
@@ -212,7 +235,7 @@ module _ {last pass : ℕ} {premises : Type 0} {w : World} (set : Setting last p
           let t = ap (λ (x : Bool). totalOf x (length (w .notes .accepted))) b in
           absurd (omega (arith, mo .first-is))
 
-      queue-answers : {e : Drive} {k2 : Command} → w .flight ≡ recordings.sent k2 frame → Content last pass w (l .k) (l .edge) → Asks last (heldOf (w .session)) (w .session .elements .pending) (w .drive) (l .k) (l .edge) k2 → Answers (w .drive) frame k2 r e → e .failed ≡ false → Queue last pass (w .notes .accepted) (l .k) (e .buffer)
+      queue-answers : {e : Drive} {k2 : Command} → w .flight ≡ recordings.sent k2 frame → Outgoing last pass w (l .k) → Asks last (heldOf (w .session)) (w .session .elements .pending) (w .drive) (l .k) (l .edge) k2 → Answers (w .drive) frame k2 r e → e .failed ≡ false → Queue last pass (w .notes .accepted) (l .k) (e .buffer)
       unfolding Queue
       queue-answers q2 x (elements.writes a p due off low li) (conduct.takes _ _ m) free =
           let i = w .session .elements .first .0 + w .session .elements .outstanding in
@@ -232,18 +255,18 @@ module _ {last pass : ℕ} {premises : Type 0} {w : World} (set : Setting last p
       queue-answers q2 x (elements.moves a mo) (conduct.rejects _ _ m) free = x .queue st free
       queue-answers q2 x (elements.moves a mo) (conduct.rejects-located _ _ m) free = tt
 
-      element-answers : Writing last (w .session) (w .drive) (l .k) (l .edge) (recordings.sent c frame) → Inv last pass premises (withDrive w d (recordings.answered r))
+      element-answers : Writing last (w .session) (w .drive) (l .k) (l .edge) (recordings.sent c frame) → Inv last pass on-newest none-bears (withDrive w d (recordings.answered r))
       element-answers (elements.under-way _ _ a g e x) = go (elements-answer x an)
         where
-          go : Outcome last (heldOf (w .session)) (w .session .elements .pending) d (l .k) (l .edge) r c → Inv last pass premises (withDrive w d (recordings.answered r))
+          go : ElementsOutcome last (heldOf (w .session)) (w .session .elements .pending) d (l .k) (l .edge) r c → Inv last pass on-newest none-bears (withDrive w d (recordings.answered r))
           go (writing.goes-on y) =
               live within
               (relive d (recordings.answered r) (l .k) (l .edge)
               (course d (elements.replied r a g (subst (λ z. Answered last (heldOf (w .session)) (w .session .elements .pending) d (l .k) (l .edge) r z) (sym e) y)))
-              (λ p u. same-content (l .content p u) (λ el free. queue-answers q (l .content p u) x an free) (λ _ b all. at-answers due b all x an)))
+              (λ n. outgoing-answered (λ el free. queue-answers q (l .outgoing n) x an free)) (same-eod-place (λ _ b all. at-answers due b all x an) (l .eod-place)) (λ p. same-below (l .below p)) (λ p u. same-content (l .content p u)))
           go (writing.reject m safe) = lost (element-not-done (w .session) st) a (λ z. m (subst (λ k. Listed k (meaningOf (r .key) (r .asc) (r .ascq))) e z)) (λ _ b f. asks-off-header (subst (λ k. Asks last (heldOf (w .session)) (w .session .elements .pending) (w .drive) (l .k) (l .edge) k) (sym e ∙ f) x)) safe
 
-    live-answers : Course last w (l .k) (l .edge) → Inv last pass premises (withDrive w d (recordings.answered r))
+    live-answers : Course last w (l .k) (l .edge) → Inv last pass on-newest none-bears (withDrive w d (recordings.answered r))
     live-answers (inv.opening s u t a) = header-answers (inl s) a (λ _ y. inv.opening s u t y) (subst (Copying (w .session) (w .drive)) q (a .copying))
     live-answers (inv.writing s u a) = element-answers s u a (λ _ y. inv.writing s u y) (subst (Writing last (w .session) (w .drive) (l .k) (l .edge)) q a)
     live-answers (inv.closing s u cl k e a) = header-answers (inr s) a (λ _ y. inv.closing s u cl k e y) (subst (Copying (w .session) (w .drive)) q (a .copying))
@@ -251,7 +274,7 @@ module _ {last pass : ℕ} {premises : Type 0} {w : World} (set : Setting last p
 
 -- ---- the whole
 
-pub keeps-move : {last pass : ℕ} {premises : Type 0} (w v : World) → Setting last pass → Inv last pass premises w → Moves w v → Inv last pass premises v
+pub keeps-move : {last pass : ℕ} {on-newest none-bears : Type 0} (w v : World) → Setting last pass → Inv last pass on-newest none-bears w → Moves w v → Inv last pass on-newest none-bears v
 keeps-move w v set (live wr l) (recordings.acts d a) = live-acts set wr l (l .course) d a
 keeps-move w v set (live wr l) (recordings.answers c frame r d q a) = live-answers set wr l c frame r d q a (l .course)
 keeps-move w v set (rejecting wr x) (recordings.acts d a) =

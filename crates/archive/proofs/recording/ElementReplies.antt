@@ -13,6 +13,7 @@ use Rattle.geometry.specs.Place.{asAddress}
 use Rattle.geometry.specs.Cartridge.{isUser}
 use Rattle.geometry.proofs.TestLaws.{either-right}
 use Rattle.geometry.proofs.Impossible.{never, clash}
+use Rattle.geometry.proofs.UserFrames.{User, user-ranges}
 use Rattle.drive.specs.Command.{commandAddress}
 use Rattle.drive.specs.Cases.{locateGood, locateBusy, writeGood, writeBusy, writeFailed, writeOverflow, positionGood, positionBusy, positionFailed}
 use Rattle.drive.specs.Listed.{Means}
@@ -36,11 +37,10 @@ use Rattle.archive.specs.Recordings as recordings
 use Rattle.archive.specs.Recordings.{World, Element}
 use Rattle.archive.specs.Demand.{Within}
 use Rattle.archive.proofs.tape.Basics.{none-sent}
-use Rattle.archive.proofs.tape.Scan.{Seen}
-use Rattle.archive.proofs.tape.ScanLaws.{fold-over}
+use Rattle.archive.proofs.tape.Seen.{Seen}
+use Rattle.archive.proofs.tape.FoldLaws.{fold-over}
 use Rattle.archive.proofs.tape.SeenLaws.{seen-moves}
 use Rattle.archive.proofs.tape.Stands.{itemAt, telling, StoredAs}
-use Rattle.archive.proofs.tape.UserPlaces.{User, user-ranges}
 use Rattle.archive.proofs.recording.HeaderCopies.{Below}
 use Rattle.archive.proofs.recording.Completion.{copy-update}
 use Rattle.archive.proofs.recording.CopiesLink as copies
@@ -73,9 +73,9 @@ seen-top {last} {pass} {edge = edge} {t = t} large cart l h = record {
     above c b (inl x) = let y = x .1 in omega arith
     above c b (inr x) = let y = x .1 in omega arith
 
-module _ {last pass : ℕ} {premises : Type 0} (w : World) (r : Reply) (set : Setting last pass) (wr : Within last (w .drive .written)) (l : Live last pass premises w) (st : ElementStage (w .session)) where
+module _ {last pass : ℕ} {on-newest none-bears : Type 0} (w : World) (r : Reply) (set : Setting last pass) (wr : Within last (w .drive .written)) (l : Live last pass on-newest none-bears w) (st : ElementStage (w .session)) where
   abbrev After : OutcomeSaid → Type 0
-  After x = Inv last pass premises (repliedWorld w (x .session))
+  After x = Inv last pass on-newest none-bears (repliedWorld w (x .session))
 
   -- ---- before the stage is looked at
 
@@ -105,21 +105,16 @@ module _ {last pass : ℕ} {premises : Type 0} (w : World) (r : Reply) (set : Se
         subst (λ (m : List Bool). StoredAs (itemAt (w .notes .accepted) (e .first .0 + i)) (w .window) m (windowOf (w .session)) (e .first .0 + i)) (sym (s .marks-is))
         (subst (λ (j : ℕ). StoredAs (itemAt (w .notes .accepted) j) (w .window) (w .session .elements .marks) (windowOf (w .session)) j) at (c .stored (s .n + i) (omega arith)))
 
-    content-so : premises → w .notes .unaltered ≡ true → Content last pass (repliedWorld w stepped) (l .k) (s .tried)
+    content-so : none-bears → w .notes .unaltered ≡ true → Content last pass (repliedWorld w stepped) (l .k) (s .tried)
     content-so p u =
         let c = l .content p u in
         record {
           tape = c .tape;
           seen = subst (λ (n : ℕ). Seen last pass (w .notes .accepted) n (l .k) (s .tried) (w .drive .tape)) (sym total-so) (seen-moves (c .tape) (s .tried) (s .further) (c .seen));
-          below = c .below;
           stored = stored-so c;
-          queue = c .queue;
-          sent = λ _ _ _ z. none-sent z;
-          eod-written = λ q b n. c .eod-written q (sym (s .eod-is) ∙ b) n;
-          eod-named = λ q. ⊎-elim (λ z. never (cc)) (λ z. never (cc)) q;
         }
 
-    stepped-live : Course last (repliedWorld w stepped) (l .k) (s .tried) → Live last pass premises (repliedWorld w stepped)
+    stepped-live : Course last (repliedWorld w stepped) (l .k) (s .tried) → Live last pass on-newest none-bears (repliedWorld w stepped)
     stepped-live course = record {
       k = l .k;
       edge = s .tried;
@@ -128,6 +123,9 @@ module _ {last pass : ℕ} {premises : Type 0} (w : World) (r : Reply) (set : Se
       carried = l .carried;
       course = course;
       reported = l .reported;
+      outgoing = λ n. record { queue = l .outgoing (⊎-elim inl (λ b. inr (sym (s .eod-is) ∙ b)) n) .queue; sent = λ _ _ _ z. none-sent z };
+      eod-place = record { written = λ q b n. l .eod-place .written q (sym (s .eod-is) ∙ b) n; named = λ q. ⊎-elim (λ z. never (cc)) (λ z. never (cc)) q };
+      below = l .below;
       content = content-so;
     }
 
@@ -160,7 +158,7 @@ module _ {last pass : ℕ} {premises : Type 0} (w : World) (r : Reply) (set : Se
           go (yes h) = seen-moves (c .tape) (last + 1) h here
           go (no h) = seen-top (set .large) (c .tape) (omega arith) here
 
-      closing-live : w .session .exchange .again ≡ false → Live last pass premises (repliedWorld w (closingStarted stepped))
+      closing-live : w .session .exchange .again ≡ false → Live last pass on-newest none-bears (repliedWorld w (closingStarted stepped))
       closing-live again =
           let c = counted-so in
           record {
@@ -180,29 +178,30 @@ module _ {last pass : ℕ} {premises : Type 0} (w : World) (r : Reply) (set : Se
               copying = copies.to-seek refl again (record { due = refl; rests = on-tape .1; kept = inl refl });
             });
             reported = λ x. never (let z = l .reported x in cc);
+            outgoing = λ _. record { queue = λ el _. never (cc); sent = λ _ _ _ z. none-sent z };
+            eod-place = record {
+              written = λ el _ _. never (cc);
+              named = λ _. subst (λ (a : ℕ). EodAt last pass (length (w .notes .accepted)) (w .drive .tape) (a - 1)) (sym (on-tape .3)) (l .eod-place .written st v all-on);
+            };
+            below = λ p. below-so (l .below p);
             content = λ p u.
                 let x = l .content p u in
                 record {
                   tape = x .tape;
                   seen = subst (λ (n : ℕ). Seen last pass (w .notes .accepted) n (l .k) (last + 1) (w .drive .tape)) (sym (total-so ∙ total)) (seen-all x);
-                  below = below-so (x .below);
                   stored = λ i h. absurd (omega arith);
-                  queue = λ el _. never (cc);
-                  sent = λ _ _ _ z. none-sent z;
-                  eod-written = λ el _ _. never (cc);
-                  eod-named = λ _. subst (λ (a : ℕ). EodAt last pass (length (w .notes .accepted)) (w .drive .tape) (a - 1)) (sym (on-tape .3)) (x .eod-written st v all-on);
                 };
           }
 
   -- ---- by stage
 
-  settles : w .session .exchange .again ≡ false → EodDue (w .session .elements) (w .session .closed) → (e : Elements) → Step last (w .session) (w .drive) (l .k) (l .edge) e → Inv last pass premises (repliedWorld w (settledOf (withElements (answeredOf (w .session)) e)))
+  settles : w .session .exchange .again ≡ false → EodDue (w .session .elements) (w .session .closed) → (e : Elements) → Step last (w .session) (w .drive) (l .k) (l .edge) e → Inv last pass on-newest none-bears (repliedWorld w (settledOf (withElements (answeredOf (w .session)) e)))
   settles again (inv.not-yet v) e s =
       let x = stepped-live e s (inv.writing st (inv.not-yet (s .eod-is ∙ v)) (s .writing)) in
-      settled-cases (withElements (answeredOf (w .session)) e) (λ (u : State). Inv last pass premises (repliedWorld w u)) (λ _. live wr x)
+      settled-cases (withElements (answeredOf (w .session)) e) (λ (u : State). Inv last pass on-newest none-bears (repliedWorld w u)) (λ _. live wr x)
       (λ a b c z. live wr (eod-live (repliedWorld w (withElements (answeredOf (w .session)) e)) x a b c z)) (λ _ b _. clash b (s .eod-is ∙ v))
   settles again (inv.alone v c one) e s =
-      settled-cases (withElements (answeredOf (w .session)) e) (λ (u : State). Inv last pass premises (repliedWorld w u)) (λ why. live wr (stepped-live e s (inv.writing st (inv.alone (s .eod-is ∙ v) c (still why)) (s .writing))))
+      settled-cases (withElements (answeredOf (w .session)) e) (λ (u : State). Inv last pass on-newest none-bears (repliedWorld w u)) (λ why. live wr (stepped-live e s (inv.writing st (inv.alone (s .eod-is ∙ v) c (still why)) (s .writing))))
       (λ _ b _ _. clash (s .eod-is ∙ v) b) (λ _ _ none. live wr (closing-live e s v c (omega arith) none again))
     where
       still : (0 < e .pending) ⊎ (HeaderStage (withElements (answeredOf (w .session)) e) ⊎ (w .session .stage ≡ S.Done)) ⊎ ((e .eod ≡ false) × (w .session .closed ≡ false)) → e .pending ≡ 1
@@ -237,7 +236,10 @@ module _ {last pass : ℕ} {premises : Type 0} (w : World) (r : Reply) (set : Se
           carried = l .carried;
           course = inv.writing st which (elements.again refl refl asks);
           reported = l .reported;
-          content = λ p u. let c = l .content p u in record { tape = c .tape; seen = c .seen; below = c .below; stored = c .stored; queue = c .queue; sent = λ _ _ _ z. none-sent z; eod-written = c .eod-written; eod-named = c .eod-named };
+          outgoing = λ n. record { queue = l .outgoing n .queue; sent = λ _ _ _ z. none-sent z };
+          eod-place = record { written = l .eod-place .written; named = l .eod-place .named };
+          below = l .below;
+          content = λ p u. let c = l .content p u in record { tape = c .tape; seen = c .seen; stored = c .stored };
         }))
       where
         asks : Asks last (heldOf (repeatedOf (w .session))) (w .session .elements .pending) (w .drive) (l .k) (l .edge) (w .session .exchange .command)

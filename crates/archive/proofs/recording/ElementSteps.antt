@@ -26,9 +26,10 @@ use Rattle.recording_state.specs.Reply.{answeredOf}
 use Rattle.recording_state.specs.declared.state.State.{State}
 use Rattle.recording_state.proofs.Kept.{heldOf}
 use Rattle.geometry.proofs.PastReserved.{past-reserved-least}
+use Rattle.geometry.proofs.UserFrames.{ranges-user}
+use Rattle.geometry.proofs.Landing.{Landing, before, across, behind, landing}
 use Rattle.archive.specs.Recordings as recordings
 use Rattle.archive.proofs.tape.Basics.{no-frames}
-use Rattle.archive.proofs.tape.UserPlaces.{ranges-user, Landing, before, across, behind, landing}
 use Rattle.archive.proofs.recording.ElementsLink as elements
 use Rattle.archive.proofs.recording.ElementsLink.{edgeOf, Linked, Moving, Writing}
 

@@ -1,9 +1,9 @@
 -- The drive's own moves and its answers keep what the elements know of it. Assumes nothing.
-use Prim.Native.Nat.{ℕ, suc, _+_, _-_, _≤_}
+use Prim.Native.Nat.{ℕ, suc, _+_, _≤_}
 use mathlib.Core.Path.{_≡_, refl, sym, ap, subst, _∙_}
 use mathlib.Core.Bool.{Bool, true, false}
 use mathlib.Core.List.{List, [], _∷_, _++_}
-use mathlib.Core.Logic.{_⊎_, inl, inr, ⊎-elim}
+use mathlib.Core.Logic.{inl, inr, ⊎-elim}
 use mathlib.Core.Option.{Option}
 use native.Mathlib.Omega.{arith}
 use lib.ListN.{length, length-append}
@@ -11,6 +11,7 @@ use Rattle.geometry.specs.Cartridge.{isHeader, isUser}
 use Rattle.geometry.specs.declared.address.Address.{Address}
 use Rattle.geometry.proofs.TestLaws.{either-right}
 use Rattle.geometry.proofs.Impossible.{clash}
+use Rattle.geometry.proofs.UserFrames.{user-not-header, ranges-user}
 use Rattle.archive.specs.Conduct as conduct
 use Rattle.archive.specs.Conduct.{Drive, wrote, failing, taking, moved, empty}
 use Rattle.drive.specs.Senses.{meaningOf}
@@ -21,8 +22,6 @@ use Rattle.drive.specs.Listed.{Listed}
 use Rattle.recording_state.specs.declared.state.State.{State}
 use Rattle.recording_state.proofs.Kept.{Held, heldOf}
 use Rattle.archive.specs.Recordings.{Flight}
-use Rattle.archive.proofs.tape.Places.{user-not-header}
-use Rattle.archive.proofs.tape.UserPlaces.{ranges-user}
 use Rattle.archive.proofs.recording.CopiesMoves.{rests-still, rests-safe}
 use Rattle.archive.proofs.recording.ElementsLink.{edgeOf, Linked, Moving, Asks, writes, asks, moves, Answered, taken, counted, failed-write, failed-position, filled, waits, Writing, at-place, to-locate, again, under-way, replied}
 use Rattle.archive.proofs.recording.ElementsLink as link
@@ -158,11 +157,11 @@ asks-off-header {last} {h} {d = d} {k} (writes a p due off low l) =
     let user : isUser last (h .next .0) ≡ true = ranges-user last (h .next .0) (⊎-elim (λ z. inl (omega arith, omega (arith, off))) (λ z. inr (omega arith, low)) (l .zone)) in
     subst (λ (x : Address). isHeader (x .0) ≡ false) (sym p) (user-not-header last (h .next .0) user)
 
-pub data Outcome (last : ℕ) (h : Held) (pending : ℕ) (d : Drive) (k edge : ℕ) (r : Reply) (c : Command) : Type 0 where
-  goes-on : Answered last h pending d k edge r c → Outcome last h pending d k edge r c
-  reject : (Listed c (meaningOf (r .key) (r .asc) (r .ascq)) → ⊥) → Safe last d → Outcome last h pending d k edge r c
+pub data ElementsOutcome (last : ℕ) (h : Held) (pending : ℕ) (d : Drive) (k edge : ℕ) (r : Reply) (c : Command) : Type 0 where
+  goes-on : Answered last h pending d k edge r c → ElementsOutcome last h pending d k edge r c
+  reject : (Listed c (meaningOf (r .key) (r .asc) (r .ascq)) → ⊥) → Safe last d → ElementsOutcome last h pending d k edge r c
 
-pub elements-answer : {last : ℕ} {h : Held} {pending : ℕ} {d e : Drive} {k edge : ℕ} {frame : List ℕ} {c : Command} {r : Reply} → Asks last h pending d k edge c → conduct.Answers d frame c r e → Outcome last h pending e k edge r c
+pub elements-answer : {last : ℕ} {h : Held} {pending : ℕ} {d e : Drive} {k edge : ℕ} {frame : List ℕ} {c : Command} {r : Reply} → Asks last h pending d k edge c → conduct.Answers d frame c r e → ElementsOutcome last h pending e k edge r c
 elements-answer {frame = frame} (writes a p due off low l) (conduct.takes _ r m) = goes-on (taken a m due (link-takes frame off low l))
 elements-answer {last} (writes a p due off low l) (conduct.overflows _ r off-header m) = goes-on (filled a m (subst (λ (x : Address). x .0 ≤ last) (sym p) low) l)
 elements-answer (writes a p due off low l) (conduct.write-fails _ r m x q) = goes-on (failed-write a m x q l)

@@ -24,7 +24,7 @@ use Rattle.drive.proofs.CaseLaws.{command-by}
 use Rattle.copies.specs.Copies as copying
 use Rattle.copies.proofs.CommandView as command
 use Rattle.copies.proofs.DueAddress.{PlacedOf}
-use Rattle.copies.proofs.HeaderPlaces.{header-from-first}
+use Rattle.geometry.proofs.HeaderPlaces.{header-from-first}
 use Rattle.elements.specs.Due as due
 use Rattle.elements.proofs.DueView as rule
 use Rattle.recording_state.specs.State.{windowOf, windowLength}
@@ -40,7 +40,7 @@ use Rattle.archive.specs.Recordings as recordings
 use Rattle.archive.specs.Recordings.{World, Flight, TakesEffect, fetchNumber, flightAfter, reportedAfter, afterFetch}
 use Rattle.archive.specs.Demand.{Within}
 use Rattle.archive.proofs.tape.Basics.{no-effect, no-frames}
-use Rattle.archive.proofs.tape.Scan.{Seen}
+use Rattle.archive.proofs.tape.Seen.{Seen}
 use Rattle.archive.proofs.tape.SeenLaws.{seen-moves}
 use Rattle.archive.proofs.tape.Stands.{itemAt, Stands, StoredAs}
 use Rattle.archive.proofs.recording.CopiesLink as copies
@@ -52,13 +52,13 @@ use Rattle.archive.proofs.recording.ElementsMoves.{link-safe}
 use Rattle.archive.proofs.recording.KeptAgreement.{Numbers, writing-numbers}
 use Rattle.archive.proofs.recording.SentFrames.{sent-element, sent-eod}
 use Rattle.archive.proofs.recording.Invariant as inv
-use Rattle.archive.proofs.recording.Invariant.{EodDue, totalOf, Course, Content, Live, Safe, Inv, live, rejecting, over}
+use Rattle.archive.proofs.recording.Invariant.{EodDue, totalOf, Course, Known, Content, Live, Safe, Inv, live, rejecting, over}
 use Rattle.archive.proofs.recording.InvariantLaws.{unreported}
 use Rattle.archive.proofs.recording.Setting.{Setting}
 
 -- ---- the same elements, by another command
 
-pub relink : {last : ℕ} {d : Drive} {k edge extra : ℕ} (h v : Held) → v .first ≡ h .first → v .outstanding ≡ h .outstanding → v .next ≡ h .next → v .locate ≡ h .locate → Linked last h d k edge extra → Linked last v d k edge extra
+relink : {last : ℕ} {d : Drive} {k edge extra : ℕ} (h v : Held) → v .first ≡ h .first → v .outstanding ≡ h .outstanding → v .next ≡ h .next → v .locate ≡ h .locate → Linked last h d k edge extra → Linked last v d k edge extra
 relink h v a b c e l =
     let a0 = ap (λ (x : Seq). x .0) a in
     let c0 = ap (λ (x : Address). x .0) c in
@@ -77,7 +77,7 @@ relink h v a b c e l =
       edge-is = l .edge-is;
     }
 
-pub remove : {last : ℕ} {d : Drive} {k edge target : ℕ} (h v : Held) → v .first ≡ h .first → v .outstanding ≡ h .outstanding → Moving last h d k edge target → Moving last v d k edge target
+remove : {last : ℕ} {d : Drive} {k edge target : ℕ} (h v : Held) → v .first ≡ h .first → v .outstanding ≡ h .outstanding → Moving last h d k edge target → Moving last v d k edge target
 remove h v a b m =
     let a0 = ap (λ (x : Seq). x .0) a in
     record { none-out = b ∙ m .none-out; first-is = a0 ∙ m .first-is; rests = m .rests; roof = m .roof; zone = m .zone; spread = m .spread; edge-is = m .edge-is }
@@ -103,10 +103,17 @@ fetchedWorld w lent x = record {
 abbrev lentWorld : World → List ℕ → State → Flight → Bool → World
 lentWorld w lent s f reported = record { session = s; window = lent; drive = w .drive; flight = f; notes = record { accepted = w .notes .accepted; unaltered = w .notes .unaltered && agree lent (w .window); reported = reported } }
 
-module _ {last pass : ℕ} {premises : Type 0} (w : World) (lent frame : List ℕ) (set : Setting last pass) (wr : Within last (w .drive .written)) (l : Live last pass premises w) where
+module _ {last pass : ℕ} {on-newest none-bears : Type 0} (w : World) (lent frame : List ℕ) (set : Setting last pass) (wr : Within last (w .drive .written)) (l : Live last pass on-newest none-bears w) where
   -- lent as last left
   as-left : (w .notes .unaltered && agree lent (w .window)) ≡ true → (w .notes .unaltered ≡ true) × (lent ≡ w .window)
   as-left u = let b = and-true (w .notes .unaltered) (agree lent (w .window)) u in (b .0, agree-is lent (w .window) (b .1))
+
+  -- what is known after the window was lent
+  abbrev KnownLent : Type 0
+  KnownLent = (none-bears × ((w .notes .unaltered && agree lent (w .window)) ≡ true)) ⊎ (w .session .elements .eod ≡ true)
+
+  known-left : KnownLent → Known none-bears w
+  known-left n = ⊎-elim (λ y. inl (y .0, as-left (y .1) .0)) inr n
 
   stored-lent : lent ≡ w .window → Content last pass w (l .k) (l .edge) → (i : ℕ) → i < w .session .elements .pending
       → StoredAs (itemAt (w .notes .accepted) (w .session .elements .first .0 + i)) lent (w .session .elements .marks) (windowOf (w .session)) (w .session .elements .first .0 + i)
@@ -114,7 +121,7 @@ module _ {last pass : ℕ} {premises : Type 0} (w : World) (lent frame : List �
 
   -- ---- nothing goes out: idle, or done
 
-  quiet : (reported : Bool) → (reported ≡ true → w .session .stage ≡ S.Done) → Live last pass premises (lentWorld w lent (w .session) (w .flight) reported)
+  quiet : (reported : Bool) → (reported ≡ true → w .session .stage ≡ S.Done) → Live last pass on-newest none-bears (lentWorld w lent (w .session) (w .flight) reported)
   quiet reported done = record {
     k = l .k;
     edge = l .edge;
@@ -123,10 +130,13 @@ module _ {last pass : ℕ} {premises : Type 0} (w : World) (lent frame : List �
     carried = l .carried;
     course = course (l .course);
     reported = done;
+    outgoing = λ n. let f = l .outgoing (known-left n) in record { queue = f .queue; sent = f .sent };
+    eod-place = record { written = l .eod-place .written; named = l .eod-place .named };
+    below = l .below;
     content = λ p u.
         let b = as-left u in
         let c = l .content p (b .0) in
-        record { tape = c .tape; seen = c .seen; below = c .below; stored = stored-lent (b .1) c; queue = c .queue; sent = c .sent; eod-written = c .eod-written; eod-named = c .eod-named };
+        record { tape = c .tape; seen = c .seen; stored = stored-lent (b .1) c };
   }
     where
       course : Course last w (l .k) (l .edge) → Course last (lentWorld w lent (w .session) (w .flight) reported) (l .k) (l .edge)
@@ -141,8 +151,12 @@ module _ {last pass : ℕ} {premises : Type 0} (w : World) (lent frame : List �
     abbrev sentWorld : World
     sentWorld = lentWorld w lent (awaits (w .session) c) (recordings.sent c (frameFor c (w .session) lent frame)) (w .notes .reported)
 
-    goes-out : (edge : ℕ) → Course last sentWorld (l .k) edge → (premises → w .notes .unaltered ≡ true → lent ≡ w .window → Content last pass sentWorld (l .k) edge) → Live last pass premises sentWorld
-    goes-out edge course content = record {
+    goes-out : (edge : ℕ) → Course last sentWorld (l .k) edge
+        → ((a : Address) (f : List ℕ) → Known none-bears sentWorld → ElementStage (w .session) → recordings.sent c (frameFor c (w .session) lent frame) ≡ recordings.sent (Write a) f
+        → Stands last pass (itemAt (w .notes .accepted) (w .session .elements .first .0 + w .session .elements .outstanding)) (w .session .elements .first .0 + w .session .elements .outstanding) f)
+        → (Content last pass w (l .k) (l .edge) → Seen last pass (w .notes .accepted) (totalOf (w .session .elements .eod) (length (w .notes .accepted))) (l .k) edge (w .drive .tape))
+        → Live last pass on-newest none-bears sentWorld
+    goes-out edge course sent seen = record {
       k = l .k;
       edge = edge;
       going = l .going;
@@ -150,18 +164,14 @@ module _ {last pass : ℕ} {premises : Type 0} (w : World) (lent frame : List �
       carried = l .carried;
       course = course;
       reported = l .reported;
-      content = λ p u. let b = as-left u in content p (b .0) (b .1);
+      outgoing = λ n. record { queue = l .outgoing (known-left n) .queue; sent = λ a f. sent a f n };
+      eod-place = record { written = l .eod-place .written; named = l .eod-place .named };
+      below = l .below;
+      content = λ p u.
+          let b = as-left u in
+          let x = l .content p (b .0) in
+          record { tape = x .tape; seen = seen x; stored = stored-lent (b .1) x };
     }
-
-    -- what is known of the frame, by the command
-    content-out : {edge : ℕ} → premises → w .notes .unaltered ≡ true → lent ≡ w .window
-        → Seen last pass (w .notes .accepted) (totalOf (w .session .elements .eod) (length (w .notes .accepted))) (l .k) edge (w .drive .tape)
-        → ((a : Address) (f : List ℕ) → ElementStage (w .session) → recordings.sent c (frameFor c (w .session) lent frame) ≡ recordings.sent (Write a) f
-        → Stands last pass (itemAt (w .notes .accepted) (w .session .elements .first .0 + w .session .elements .outstanding)) (w .session .elements .first .0 + w .session .elements .outstanding) f)
-        → Content last pass sentWorld (l .k) edge
-    content-out p u same seen sent =
-        let x = l .content p u in
-        record { tape = x .tape; seen = seen; below = x .below; stored = stored-lent same x; queue = x .queue; sent = sent; eod-written = x .eod-written; eod-named = x .eod-named }
 
   -- ---- from a header stage
 
@@ -177,11 +187,11 @@ module _ {last pass : ℕ} {premises : Type 0} (w : World) (lent frame : List �
     header-sent ReadPosition = tt
 
     header-out : (c : Command) (agree : CopiesAgree (w .session) (w .drive) (w .flight)) → CopyAsks (w .session .copies) (w .drive) c
-        → (CopiesAgree (awaits (w .session) c) (w .drive) (recordings.sent c (frameFor c (w .session) lent frame)) → Course last (sentWorld c) (l .k) (l .edge)) → Inv last pass premises (sentWorld c)
+        → (CopiesAgree (awaits (w .session) c) (w .drive) (recordings.sent c (frameFor c (w .session) lent frame)) → Course last (sentWorld c) (l .k) (l .edge)) → Inv last pass on-newest none-bears (sentWorld c)
     header-out c agree asked course =
         live wr
         (goes-out c (l .edge) (course (record { counts = agree .counts; placed = agree .placed; copying = copies.under-way c (frameFor c (w .session) lent frame) refl refl refl (header-sent c) asked }))
-        (λ p u same. content-out c p u same (l .content p u .seen) (λ _ _ el _. header-not-element (w .session) st el)))
+        (λ _ _ _ el _. header-not-element (w .session) st el) (λ x. x .seen))
 
     asks-header : {x : CommandSaid} → PlacedOf (w .session .copies) → command.CommandView (w .session .setup .depth) (w .session .copies) x → w .session .exchange .again ≡ false → Copying (w .session) (w .drive) recordings.no-command → CopyAsks (w .session .copies) (w .drive) (commandFor x)
     asks-header pl (command.locating t) ag (copies.at-place a g x) = clash t (x .placed)
@@ -261,33 +271,35 @@ module _ {last pass : ℕ} {premises : Type 0} (w : World) (lent frame : List �
   -- the frame of a WRITE
   module _ (long : length lent ≡ windowLength (w .session)) (numbers : Numbers last (w .session .elements .first .0) (w .session .elements .outstanding) (w .session .elements .pending) (l .k) (w .drive))
       (phase : EodDue (w .session .elements) (w .session .closed)) where
-    stands-sent : premises → w .notes .unaltered ≡ true → lent ≡ w .window → ElementStage (w .session) → w .session .elements .outstanding < w .session .elements .pending
+    stands-sent : KnownLent → ElementStage (w .session) → w .session .elements .outstanding < w .session .elements .pending
         → Stands last pass (itemAt (w .notes .accepted) (w .session .elements .first .0 + w .session .elements .outstanding)) (w .session .elements .first .0 + w .session .elements .outstanding) (writtenFrame (w .session) lent)
-    stands-sent p u same st d = go phase
+    stands-sent known st d = go phase known
       where
-        go : EodDue (w .session .elements) (w .session .closed) → Stands last pass (itemAt (w .notes .accepted) (w .session .elements .first .0 + w .session .elements .outstanding)) (w .session .elements .first .0 + w .session .elements .outstanding) (writtenFrame (w .session) lent)
-        go (inv.not-yet v) =
+        go : EodDue (w .session .elements) (w .session .closed) → KnownLent → Stands last pass (itemAt (w .notes .accepted) (w .session .elements .first .0 + w .session .elements .outstanding)) (w .session .elements .first .0 + w .session .elements .outstanding) (writtenFrame (w .session) lent)
+        go (inv.not-yet v) (inr e) = clash e v
+        go (inv.not-yet v) (inl y) =
+            let b = as-left (y .1) in
             let n = l .counted .numbered in
             let t = ap (λ (x : Bool). totalOf x (length (w .notes .accepted))) v in
             sent-element last pass (w .session) lent (w .notes .accepted) (l .carried .last-is) (l .carried .pass-is) (set .low) long (omega (arith, numbers .low, l .counted .windowed, l .counted .wide, set .small)) st v (omega arith)
-            (stored-lent same (l .content p u) (w .session .elements .outstanding) d)
-        go (inv.alone v closed one) =
+            (stored-lent (b .1) (l .content (y .0) (b .0)) (w .session .elements .outstanding) d)
+        go (inv.alone v closed one) _ =
             let n = l .counted .numbered in
             let t = ap (λ (x : Bool). totalOf x (length (w .notes .accepted))) v in
             sent-eod last pass (w .session) lent (w .notes .accepted) (l .carried .last-is) (l .carried .pass-is) (set .low) long (omega (arith, numbers .low, l .counted .windowed, l .counted .wide, set .small)) st v (omega arith)
 
     element-out : (c : Command) → Out c → ElementStage (w .session) → ((edge : ℕ) → Writing last (awaits (w .session) c) (w .drive) (l .k) edge (recordings.sent c (frameFor c (w .session) lent frame)) → Course last (sentWorld c) (l .k) edge)
-        → Inv last pass premises (sentWorld c)
+        → Inv last pass on-newest none-bears (sentWorld c)
     element-out c o st course =
         live wr
         (goes-out c (o .edge) (course (o .edge) (elements.under-way c (frameFor c (w .session) lent frame) refl refl refl (reask (heldOf (w .session)) (heldOf (awaits (w .session) c)) refl refl refl refl (o .asks))))
-        (λ p u same. content-out c p u same (seen-moves (l .content p u .tape) (o .edge) (o .further) (l .content p u .seen))
-        (λ a f el q.
+        (λ a f known el q.
         let command-is : c ≡ Write a = cc in
         let frame-is : frameFor c (w .session) lent frame ≡ f = cc in
         subst (λ (y : List ℕ). Stands last pass (itemAt (w .notes .accepted) (w .session .elements .first .0 + w .session .elements .outstanding)) (w .session .elements .first .0 + w .session .elements .outstanding) y)
         (sym (ap (λ (y : Command). frameFor y (w .session) lent frame) command-is) ∙ frame-is)
-        (stands-sent p u same el (due-of (subst (λ (y : Command). Asks last (heldOf (w .session)) (w .session .elements .pending) (w .drive) (l .k) (o .edge) y) command-is (o .asks)))))))
+        (stands-sent known el (due-of (subst (λ (y : Command). Asks last (heldOf (w .session)) (w .session .elements .pending) (w .drive) (l .k) (o .edge) y) command-is (o .asks)))))
+        (λ x. seen-moves (x .tape) (o .edge) (o .further) (x .seen)))
 
 -- ---- no reply is awaited, so no command is in flight
 
@@ -310,15 +322,15 @@ writing-safe ag (elements.at-place b g x) = link-safe x
 writing-safe ag (elements.to-locate b g r x) = rests-safe (x .rests)
 writing-safe ag (elements.again b g x) = clash g ag
 
-module _ {last pass : ℕ} {premises : Type 0} (w : World) (lent frame : List ℕ) (set : Setting last pass) (wr : Within last (w .drive .written)) (l : Live last pass premises w) where
+module _ {last pass : ℕ} {on-newest none-bears : Type 0} (w : World) (lent frame : List ℕ) (set : Setting last pass) (wr : Within last (w .drive .written)) (l : Live last pass on-newest none-bears w) where
   abbrev After : FetchedSaid → Type 0
-  After x = Inv last pass premises (fetchedWorld w lent x)
+  After x = Inv last pass on-newest none-bears (fetchedWorld w lent x)
 
   -- the command goes to the drive as the fetch names it
-  as-named : (c : Command) → Inv last pass premises (sentWorld w lent frame set wr l c) → After (sending (w .session) c lent frame)
+  as-named : (c : Command) → Inv last pass on-newest none-bears (sentWorld w lent frame set wr l c) → After (sending (w .session) c lent frame)
   unfolding sending
   as-named c i =
-      subst (λ (x : Command). Inv last pass premises (lentWorld w lent (awaits (w .session) c) (recordings.sent x (frameFor c (w .session) lent frame)) (w .notes .reported))) (sym (command-by c)) i
+      subst (λ (x : Command). Inv last pass on-newest none-bears (lentWorld w lent (awaits (w .session) c) (recordings.sent x (frameFor c (w .session) lent frame)) (w .notes .reported))) (sym (command-by c)) i
 
   -- in a header stage
   module _ (st : HeaderStage (w .session)) (agree : CopiesAgree (w .session) (w .drive) (w .flight))
@@ -377,7 +389,7 @@ wrong-phase : {X : Type 0} (s : State) (lent frame : List ℕ) → s .ended || s
 unfolding fetchOf
 wrong-phase s lent frame e te = no-effect (omega arith) (omega arith) (subst (λ (x : FetchedSaid). TakesEffect (fetchNumber (x .said))) (pick-t _ e) te)
 
-pub keeps-fetch : {last pass : ℕ} {premises : Type 0} (w : World) (lent frame : List ℕ) → Setting last pass → Inv last pass premises w → TakesEffect (fetchNumber (fetchOf (w .session) lent frame .said)) → Inv last pass premises (afterFetch w lent frame)
+pub keeps-fetch : {last pass : ℕ} {on-newest none-bears : Type 0} (w : World) (lent frame : List ℕ) → Setting last pass → Inv last pass on-newest none-bears w → TakesEffect (fetchNumber (fetchOf (w .session) lent frame .said)) → Inv last pass on-newest none-bears (afterFetch w lent frame)
 keeps-fetch w lent frame set (live wr l) te = live-fetch w lent frame set wr l (l .course) (fetch-view (w .session) lent frame) te
 keeps-fetch w lent frame set (rejecting wr d) te = wrong-phase (w .session) lent frame (either-right (w .session .ended) (w .session .exchange .awaiting) (d .awaits)) te
 keeps-fetch w lent frame set (over wr o) te = wrong-phase (w .session) lent frame (either-left (w .session .ended) (w .session .exchange .awaiting) (o .ended)) te

@@ -28,7 +28,7 @@ use Rattle.archive.specs.Recordings as recordings
 use Rattle.archive.specs.Recordings.{World}
 use Rattle.archive.specs.Demand.{Within}
 use Rattle.archive.proofs.tape.Basics.{none-sent}
-use Rattle.archive.proofs.tape.Scan.{Seen}
+use Rattle.archive.proofs.tape.Seen.{Seen}
 use Rattle.archive.proofs.tape.Stands.{itemAt, Queue, StoredAs}
 use Rattle.archive.proofs.recording.HeaderCopies.{Carried, Copy, Below}
 use Rattle.archive.proofs.recording.CopiesLink as copies
@@ -61,9 +61,9 @@ record Sized : Type 0 where
   top : ℕ
   els : Elements
 
-module _ {last pass : ℕ} {premises : Type 0} (w : World) (r : Reply) (set : Setting last pass) (wr : Within last (w .drive .written)) (l : Live last pass premises w) where
+module _ {last pass : ℕ} {on-newest none-bears : Type 0} (w : World) (r : Reply) (set : Setting last pass) (wr : Within last (w .drive .written)) (l : Live last pass on-newest none-bears w) where
   abbrev After : OutcomeSaid → Type 0
-  After x = Inv last pass premises (repliedWorld w (x .session))
+  After x = Inv last pass on-newest none-bears (repliedWorld w (x .session))
 
   pub ends-so : (s : State) (n : ℕ) → (w .session .stage ≡ S.Done → ⊥) → Safe last (w .drive) → After (ending s n)
   ends-so s n d safe = over wr (record { ended = refl; none = refl; safe = safe; unreported = unreported l d })
@@ -74,7 +74,7 @@ module _ {last pass : ℕ} {premises : Type 0} (w : World) (r : Reply) (set : Se
 
     -- the same headers, other copies or another command
     more-live : (v : State) → v .ended ≡ false → v .stage ≡ w .session .stage → v .setup .highest ≡ w .session .setup .highest → v .elements ≡ w .session .elements → v .copies .header ≡ w .session .copies .header
-        → Course last (repliedWorld w v) (l .k) (l .edge) → Live last pass premises (repliedWorld w v)
+        → Course last (repliedWorld w v) (l .k) (l .edge) → Live last pass on-newest none-bears (repliedWorld w v)
     more-live v going stage high els head course = record {
       k = l .k;
       edge = l .edge;
@@ -96,17 +96,18 @@ module _ {last pass : ℕ} {premises : Type 0} (w : World) (r : Reply) (set : Se
       carried = subst (λ (n : ℕ). Carried last pass n (v .copies .header)) (ap spareOf (sym stage)) (subst (λ (x : Header). Carried last pass (spareOf (w .session .stage)) x) (sym head) (l .carried));
       course = course;
       reported = λ e. stage ∙ l .reported e;
+      outgoing = λ _. record { queue = λ el _. header-not-element (w .session) st (sym stage ∙ el); sent = λ _ _ _ z. none-sent z };
+      eod-place = record {
+        written = λ el _ _. header-not-element (w .session) st (sym stage ∙ el);
+        named = λ q. subst (λ (x : Header). EodAt last pass (length (w .notes .accepted)) (w .drive .tape) (x .eod .0)) (sym head) (l .eod-place .named (⊎-elim (λ z. inl (sym stage ∙ z)) (λ z. inr (sym stage ∙ z)) q));
+      };
+      below = λ p. subst (λ (x : Header). Below last x (w .drive .tape)) (sym head) (l .below p);
       content = λ p u.
           let c = l .content p u in
           record {
             tape = c .tape;
             seen = subst (λ (x : Elements). Seen last pass (w .notes .accepted) (totalOf (x .eod) (length (w .notes .accepted))) (l .k) (l .edge) (w .drive .tape)) (sym els) (c .seen);
-            below = subst (λ (x : Header). Below last x (w .drive .tape)) (sym head) (c .below);
             stored = subst (λ (p : Sized). (i : ℕ) → i < p .els .pending → StoredAs (itemAt (w .notes .accepted) (p .els .first .0 + i)) (w .window) (p .els .marks) (p .top + 1) (p .els .first .0 + i)) (sym (sized-same v high els)) (c .stored);
-            queue = λ el _. header-not-element (w .session) st (sym stage ∙ el);
-            sent = λ _ _ _ z. none-sent z;
-            eod-written = λ el _ _. header-not-element (w .session) st (sym stage ∙ el);
-            eod-named = λ q. subst (λ (x : Header). EodAt last pass (length (w .notes .accepted)) (w .drive .tape) (x .eod .0)) (sym head) (c .eod-named (⊎-elim (λ z. inl (sym stage ∙ z)) (λ z. inr (sym stage ∙ z)) q));
           };
     }
 
@@ -116,7 +117,7 @@ module _ {last pass : ℕ} {premises : Type 0} (w : World) (r : Reply) (set : Se
     onward = withStage (answeredOf (w .session)) to
 
     staged-live : Course last (repliedWorld w onward) (l .k) (l .edge) → (w .notes .reported ≡ true → to ≡ S.Done) → (to ≡ S.Elements → w .drive .failed ≡ false → Queue last pass (w .notes .accepted) (l .k) (w .drive .buffer))
-        → (to ≡ S.Elements → w .session .elements .eod ≡ true → ⊥) → ((to ≡ S.ClosingHeaders) ⊎ (to ≡ S.Done) → w .session .stage ≡ S.ClosingHeaders) → Live last pass premises (repliedWorld w onward)
+        → (to ≡ S.Elements → w .session .elements .eod ≡ true → ⊥) → ((to ≡ S.ClosingHeaders) ⊎ (to ≡ S.Done) → w .session .stage ≡ S.ClosingHeaders) → Live last pass on-newest none-bears (repliedWorld w onward)
     staged-live course reported queue unended named =
         let c = l .counted in
         record {
@@ -127,18 +128,10 @@ module _ {last pass : ℕ} {premises : Type 0} (w : World) (r : Reply) (set : Se
           carried = subst (λ (n : ℕ). Carried last pass n (w .session .copies .header)) spare (l .carried);
           course = course;
           reported = reported;
-          content = λ p u.
-              let x = l .content p u in
-              record {
-                tape = x .tape;
-                seen = x .seen;
-                below = x .below;
-                stored = x .stored;
-                queue = queue;
-                sent = λ _ _ _ z. none-sent z;
-                eod-written = λ el b _. absurd (unended el b);
-                eod-named = λ q. x .eod-named (inl (named q));
-              };
+          outgoing = λ _. record { queue = queue; sent = λ _ _ _ z. none-sent z };
+          eod-place = record { written = λ el b _. absurd (unended el b); named = λ q. l .eod-place .named (inl (named q)) };
+          below = l .below;
+          content = λ p u. let x = l .content p u in record { tape = x .tape; seen = x .seen; stored = x .stored };
         }
 
   -- ---- the opening headers
@@ -152,7 +145,7 @@ module _ {last pass : ℕ} {premises : Type 0} (w : World) (r : Reply) (set : Se
     nothing-queued (stopped e) free = clash e free
     nothing-queued (empty e) free = subst (Queue last pass (w .notes .accepted) (l .k)) (sym e) tt
 
-    opened-live : AtRest (w .drive) → Live last pass premises (repliedWorld w opened)
+    opened-live : AtRest (w .drive) → Live last pass on-newest none-bears (repliedWorld w opened)
     opened-live rests =
         let target = t .target-is in
         staged-live S.Elements (ap spareOf q)
@@ -173,8 +166,8 @@ module _ {last pass : ℕ} {premises : Type 0} (w : World) (r : Reply) (set : Se
     opening-next (next.to-seek c e n p x) safe =
         live wr (more-live (inl q) again asked (withCopies (answeredOf (w .session)) c) (l .going) refl refl refl e (inv.opening q v t (record { counts = n; placed = p; copying = copies.to-seek refl again x })))
     opening-next (next.through rests copy) safe =
-        subst (λ (x : Stage). Inv last pass premises (repliedWorld w (settledOf (withStage (answeredOf (w .session)) (followingOf x))))) (sym q)
-        (settled-cases opened (λ (v : State). Inv last pass premises (repliedWorld w v)) (λ _. live wr (opened-live rests)) (λ a b c z. live wr (eod-live (repliedWorld w opened) (opened-live rests) a b c z)) (λ _ b _. clash b v))
+        subst (λ (x : Stage). Inv last pass on-newest none-bears (repliedWorld w (settledOf (withStage (answeredOf (w .session)) (followingOf x))))) (sym q)
+        (settled-cases opened (λ (v : State). Inv last pass on-newest none-bears (repliedWorld w v)) (λ _. live wr (opened-live rests)) (λ a b c z. live wr (eod-live (repliedWorld w opened) (opened-live rests) a b c z)) (λ _ b _. clash b v))
     opening-next (next.ends n) safe = ends-so (w .session) n (λ z. never (cc)) safe
 
   -- ---- the closing headers
@@ -183,7 +176,7 @@ module _ {last pass : ℕ} {premises : Type 0} (w : World) (r : Reply) (set : Se
     abbrev done : State
     done = withStage (answeredOf (w .session)) S.Done
 
-    done-live : AtRest (w .drive) → Copy (w .session .copies .header) (w .drive .tape) 2995 → Live last pass premises (repliedWorld w done)
+    done-live : AtRest (w .drive) → Copy (w .session .copies .header) (w .drive .tape) 2995 → Live last pass on-newest none-bears (repliedWorld w done)
     done-live rests copy =
         staged-live S.Done (ap spareOf q) (inv.finished refl v closed k0 e0 refl refl again rests (copy-higher (omega (arith, set .large)) copy)) (λ _. refl) (λ el _. never (cc)) (λ el _. never (cc)) (λ _. q)
 
@@ -193,8 +186,8 @@ module _ {last pass : ℕ} {premises : Type 0} (w : World) (r : Reply) (set : Se
     closing-next (next.to-seek c e n p x) safe =
         live wr (more-live (inr q) again asked (withCopies (answeredOf (w .session)) c) (l .going) refl refl refl e (inv.closing q v closed k0 e0 (record { counts = n; placed = p; copying = copies.to-seek refl again x })))
     closing-next (next.through rests copy) safe =
-        subst (λ (x : Stage). Inv last pass premises (repliedWorld w (settledOf (withStage (answeredOf (w .session)) (followingOf x))))) (sym q)
-        (settled-cases done (λ (v : State). Inv last pass premises (repliedWorld w v)) (λ _. live wr (done-live rests copy)) (λ a _ _ _. never (cc)) (λ a _ _. never (cc)))
+        subst (λ (x : Stage). Inv last pass on-newest none-bears (repliedWorld w (settledOf (withStage (answeredOf (w .session)) (followingOf x))))) (sym q)
+        (settled-cases done (λ (v : State). Inv last pass on-newest none-bears (repliedWorld w v)) (λ _. live wr (done-live rests copy)) (λ a _ _ _. never (cc)) (λ a _ _. never (cc)))
     closing-next (next.ends n) safe = ends-so (w .session) n (λ z. never (cc)) safe
 
   -- ---- by what the drive gave

@@ -23,7 +23,7 @@ use Rattle.recording_state.proofs.Stages.{ElementStage}
 use Rattle.archive.specs.Recordings as recordings
 use Rattle.archive.specs.Recordings.{World}
 use Rattle.archive.specs.Demand.{Within}
-use Rattle.archive.proofs.tape.Scan.{Seen}
+use Rattle.archive.proofs.tape.Seen.{Seen}
 use Rattle.archive.proofs.tape.Stands.{itemAt, Stands, Queue, StoredAs}
 use Rattle.archive.proofs.recording.HeaderCopies.{Carried, Copy, Below}
 use Rattle.archive.proofs.recording.CopiesLink.{CopiesAgree}
@@ -82,25 +82,35 @@ pub data Course (last : ℕ) (w : World) (k edge : ℕ) : Type 0 where
       → w .flight ≡ recordings.no-command → w .session .exchange .awaiting ≡ false → w .session .exchange .again ≡ false → AtRest (w .drive)
       → Copy (w .session .copies .header) (w .drive .tape) (last + 1) → Course last w k edge
 
--- ---- tape and window, under the premises
+-- ---- the frames of elements and EOD
+
+-- on their way to the tape: those that the drive holds, and one that goes to it
+pub record Outgoing (last pass : ℕ) (w : World) (k : ℕ) : Type 0 where
+  -- behind a failed one none is ever written
+  pub queue : ElementStage (w .session) → w .drive .failed ≡ false → Queue last pass (w .notes .accepted) k (w .drive .buffer)
+  pub sent : (a : Address) (f : List ℕ) → ElementStage (w .session) → w .flight ≡ recordings.sent (Write a) f
+      → Stands last pass (itemAt (w .notes .accepted) (w .session .elements .first .0 + w .session .elements .outstanding)) (w .session .elements .first .0 + w .session .elements .outstanding) f
+
+-- when they are known: while the window is unaltered, and once EOD alone is due, since its frame has nothing from the window
+abbrev pub Known : Type 0 → World → Type 0
+Known none-bears w = (none-bears × (w .notes .unaltered ≡ true)) ⊎ (w .session .elements .eod ≡ true)
+
+-- EOD, once it is on tape, stands behind the drive's place, and then where the closing headers say
+pub record EodPlace (last pass : ℕ) (w : World) (k : ℕ) : Type 0 where
+  pub written : ElementStage (w .session) → w .session .elements .eod ≡ true → k ≡ length (w .notes .accepted) + 1 → EodAt last pass (length (w .notes .accepted)) (w .drive .tape) (w .drive .at - 1)
+  pub named : (w .session .stage ≡ S.ClosingHeaders) ⊎ (w .session .stage ≡ S.Done) → EodAt last pass (length (w .notes .accepted)) (w .drive .tape) (w .session .copies .header .eod .0)
+
+-- ---- tape and window, where no user frame bore the pass and the window is unaltered
 
 pub record Content (last pass : ℕ) (w : World) (k edge : ℕ) : Type 0 where
   pub tape : Cartridge last (w .drive .tape)
   pub seen : Seen last pass (w .notes .accepted) (totalOf (w .session .elements .eod) (length (w .notes .accepted))) k edge (w .drive .tape)
-  pub below : Below last (w .session .copies .header) (w .drive .tape)
   pub stored : (i : ℕ) → i < w .session .elements .pending
       → StoredAs (itemAt (w .notes .accepted) (w .session .elements .first .0 + i)) (w .window) (w .session .elements .marks) (windowOf (w .session)) (w .session .elements .first .0 + i)
-  -- frames behind a failed one are never written
-  pub queue : ElementStage (w .session) → w .drive .failed ≡ false → Queue last pass (w .notes .accepted) k (w .drive .buffer)
-  pub sent : (a : Address) (f : List ℕ) → ElementStage (w .session) → w .flight ≡ recordings.sent (Write a) f
-      → Stands last pass (itemAt (w .notes .accepted) (w .session .elements .first .0 + w .session .elements .outstanding)) (w .session .elements .first .0 + w .session .elements .outstanding) f
-  -- EOD, once it is on tape, stands behind the drive's place, and then where the closing headers say
-  pub eod-written : ElementStage (w .session) → w .session .elements .eod ≡ true → k ≡ length (w .notes .accepted) + 1 → EodAt last pass (length (w .notes .accepted)) (w .drive .tape) (w .drive .at - 1)
-  pub eod-named : (w .session .stage ≡ S.ClosingHeaders) ⊎ (w .session .stage ≡ S.Done) → EodAt last pass (length (w .notes .accepted)) (w .drive .tape) (w .session .copies .header .eod .0)
 
--- ---- the whole
+-- ---- the whole, with what may be assumed of the opening: that it was on the newest header or rightly on none, and that no user frame bore the pass
 
-pub record Live (last pass : ℕ) (premises : Type 0) (w : World) : Type 0 where
+pub record Live (last pass : ℕ) (on-newest none-bears : Type 0) (w : World) : Type 0 where
   pub k : ℕ
   pub edge : ℕ
   pub going : w .session .ended ≡ false
@@ -108,7 +118,10 @@ pub record Live (last pass : ℕ) (premises : Type 0) (w : World) : Type 0 where
   pub carried : Carried last pass (spareOf (w .session .stage)) (w .session .copies .header)
   pub course : Course last w k edge
   pub reported : w .notes .reported ≡ true → w .session .stage ≡ S.Done
-  pub content : premises → w .notes .unaltered ≡ true → Content last pass w k edge
+  pub outgoing : Known none-bears w → Outgoing last pass w k
+  pub eod-place : EodPlace last pass w k
+  pub below : on-newest → Below last (w .session .copies .header) (w .drive .tape)
+  pub content : none-bears → w .notes .unaltered ≡ true → Content last pass w k edge
 
 -- all that the drive may still write goes to addresses that are allowed
 pub data Safe (last : ℕ) (d : Drive) : Type 0 where
@@ -133,7 +146,7 @@ pub record Over (last : ℕ) (w : World) : Type 0 where
   pub safe : Safe last (w .drive)
   pub unreported : w .notes .reported ≡ false
 
-pub data Inv (last pass : ℕ) (premises : Type 0) (w : World) : Type 0 where
-  live : Within last (w .drive .written) → Live last pass premises w → Inv last pass premises w
-  rejecting : Within last (w .drive .written) → Rejecting last w → Inv last pass premises w
-  over : Within last (w .drive .written) → Over last w → Inv last pass premises w
+pub data Inv (last pass : ℕ) (on-newest none-bears : Type 0) (w : World) : Type 0 where
+  live : Within last (w .drive .written) → Live last pass on-newest none-bears w → Inv last pass on-newest none-bears w
+  rejecting : Within last (w .drive .written) → Rejecting last w → Inv last pass on-newest none-bears w
+  over : Within last (w .drive .written) → Over last w → Inv last pass on-newest none-bears w

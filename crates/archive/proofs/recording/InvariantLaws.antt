@@ -18,7 +18,7 @@ use Rattle.archive.proofs.recording.ElementsLink.{Writing}
 use Rattle.archive.proofs.recording.Invariant as invariant
 use Rattle.archive.proofs.recording.Invariant.{Course, Live, Inv, live, rejecting, over}
 
-pub unreported : {last pass : ℕ} {premises : Type 0} {w : World} → Live last pass premises w → (w .session .stage ≡ S.Done → ⊥) → w .notes .reported ≡ false
+pub unreported : {last pass : ℕ} {on-newest none-bears : Type 0} {w : World} → Live last pass on-newest none-bears w → (w .session .stage ≡ S.Done → ⊥) → w .notes .reported ≡ false
 unreported {w = w} l n = go (w .notes .reported) refl
   where
     go : (b : Bool) → w .notes .reported ≡ b → w .notes .reported ≡ false
@@ -47,7 +47,7 @@ course-awaits (invariant.writing _ _ a) h = writing-awaits a h
 course-awaits (invariant.closing _ _ _ _ _ a) h = copying-awaits (a .copying) h
 course-awaits (invariant.finished _ _ _ _ _ none _ _ _ _) h = absurd (h none)
 
-pub flight-awaits : {last pass : ℕ} {premises : Type 0} {w : World} → Inv last pass premises w → (w .flight ≡ recordings.no-command → ⊥) → w .session .exchange .awaiting ≡ true
+pub flight-awaits : {last pass : ℕ} {on-newest none-bears : Type 0} {w : World} → Inv last pass on-newest none-bears w → (w .flight ≡ recordings.no-command → ⊥) → w .session .exchange .awaiting ≡ true
 flight-awaits (live _ l) h = course-awaits (l .course) h
 flight-awaits (rejecting _ d) h = d .awaits
 flight-awaits (over _ o) h = absurd (h (o .none))

@@ -89,6 +89,8 @@ module _ (last : ℕ) (s v : State) (d : Drive) (k edge : ℕ) (h : heldOf v ≡
 
 pub record Numbers (last first outstanding pending k : ℕ) (d : Drive) : Type 0 where
   pub low : first + 10 ≤ last + 1
+  pub least : first ≤ k
+  pub most : k ≤ first + pending
   pub fits : d .failed ≡ false → k + length (d .buffer) ≤ first + pending
 
 link-numbers : {last : ℕ} {h : Held} {d : Drive} {k edge extra : ℕ} (pending : ℕ) → h .outstanding + extra ≤ pending → Linked last h d k edge extra → Numbers last (h .first .0) (h .outstanding) pending k d
@@ -98,14 +100,14 @@ link-numbers pending b l =
     let known = l .known in
     let roof = l .roof in
     let spread = l .spread in
-    record { low = omega arith; fits = λ _. omega arith }
+    record { low = omega arith; least = omega arith; most = omega arith; fits = λ _. omega arith }
 
 move-numbers : {last : ℕ} {h : Held} {d : Drive} {k edge target : ℕ} (pending : ℕ) → Moving last h d k edge target → Numbers last (h .first .0) (h .outstanding) pending k d
 move-numbers {last} {h} {d} {k} pending m =
     let roof = m .roof in
     let spread = m .spread in
     let first-is = m .first-is in
-    record { low = omega arith; fits = λ free. go free (m .rests) }
+    record { low = omega arith; least = omega arith; most = omega arith; fits = λ free. go free (m .rests) }
   where
     go : d .failed ≡ false → AtRest d → k + length (d .buffer) ≤ h .first .0 + pending
     go free (stopped e) = clash e free

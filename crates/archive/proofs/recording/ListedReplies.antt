@@ -79,19 +79,19 @@ module _ (w : World) (c : Command) (f : List ℕ) where
     off-headers = λ _ a e. asks-off-header (subst (λ (x : Command). Asks last (heldOf (w .session)) (w .session .elements .pending) (w .drive) k edge x) (sym is ∙ e) asked);
   }
 
-module _ {last pass : ℕ} {premises : Type 0} (w : World) (c : Command) (f : List ℕ) (q : w .flight ≡ recordings.sent c f) where
-  live-issued : (l : Live last pass premises w) → Course last w (l .k) (l .edge) → Issued (w .session) c
+module _ {last pass : ℕ} {on-newest none-bears : Type 0} (w : World) (c : Command) (f : List ℕ) (q : w .flight ≡ recordings.sent c f) where
+  live-issued : (l : Live last pass on-newest none-bears w) → Course last w (l .k) (l .edge) → Issued (w .session) c
   live-issued l (invariant.opening st _ _ agree) = header-issued w c f (l .going) (inl st) (subst (Copying (w .session) (w .drive)) q (agree .copying))
   live-issued l (invariant.writing st _ a) = element-issued w c f (l .going) st (subst (Writing last (w .session) (w .drive) (l .k) (l .edge)) q a)
   live-issued l (invariant.closing st _ _ _ _ agree) = header-issued w c f (l .going) (inr st) (subst (Copying (w .session) (w .drive)) q (agree .copying))
   live-issued l (invariant.finished _ _ _ _ _ none _ _ _ _) = none-sent (sym none ∙ q)
 
-  pub issued : Inv last pass premises w → Issued (w .session) c
+  issued : Inv last pass on-newest none-bears w → Issued (w .session) c
   issued (live _ l) = live-issued l (l .course)
   issued (rejecting _ d) = answered-sent (sym (d .replied) ∙ q)
   issued (over _ o) = none-sent (sym (o .none) ∙ q)
 
-  module _ (i : Inv last pass premises w) (r : Reply) where
+  module _ (i : Inv last pass on-newest none-bears w) (r : Reply) where
     abbrev Meant : Type 0
     Meant = Listed c (meaningOf (r .key) (r .asc) (r .ascq))
 

@@ -27,9 +27,6 @@ use Rattle.archive.proofs.tape.StandsLaws.{item-in, item-past}
 
 module _ (last pass : ℕ) (s : State) (window : List ℕ) (xs : List Element) (last-is : s .copies .header .last .0 ≡ last) (pass-is : s .copies .header .pass ≡ pass) (low : pass ≤ 65534)
     (long : length window ≡ windowLength s) (small : s .elements .first .0 + s .elements .outstanding < 2 ^ 32) where
-  abbrev number : ℕ
-  number = s .elements .first .0 + s .elements .outstanding
-
   exact : elements.numberOf (s .elements) (s .elements .outstanding) .0 ≡ s .elements .first .0 + s .elements .outstanding
   exact = mod-eq-of-lt small
 

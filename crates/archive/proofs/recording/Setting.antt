@@ -10,8 +10,7 @@ use Rattle.header.specs.Valid.{headerOf}
 use Rattle.archive.specs.Tape.{Tape, Cartridge}
 use Rattle.archive.specs.Headers.{Newest}
 use Rattle.archive.specs.Recordings.{Element}
-use Rattle.archive.specs.Demand.{Opening, OnNewest, NoneBears}
-use Rattle.archive.proofs.tape.Scan.{Recorded}
+use Rattle.archive.proofs.tape.Seen.{Recorded}
 use Rattle.archive.proofs.tape.Stands.{eod, Stands}
 
 -- the numbers that the geometry and the opening fix
@@ -20,10 +19,6 @@ pub record Setting (last pass : ℕ) : Type 0 where
   pub small : last + 65 < 2 ^ 32
   pub low : pass ≤ 65534
 
--- opened on the newest header or on none, over user frames of which none bears the pass
-abbrev pub Premises : ℕ → ℕ → Tape → Opening → Type 0
-Premises last pass t o = OnNewest last t o × NoneBears last t pass
-
 -- an address at which the tape reads as EOD with this number
 pub record EodAt (last pass n : ℕ) (t : Tape) (a : ℕ) : Type 0 where
   pub frame : List ℕ
@@ -31,11 +26,15 @@ pub record EodAt (last pass n : ℕ) (t : Tape) (a : ℕ) : Type 0 where
   pub reads : t a ≡ some frame
   pub stands : Stands last pass eod n frame
 
--- what a recording that reported done leaves
-pub record Leaves (last pass : ℕ) (t : Tape) (xs : List Element) : Type 0 where
-  pub cartridge : Cartridge last t
-  pub recorded : Recorded last pass t xs
+-- the newest headers that a recording leaves which reported done
+pub record HeadersLeft (last pass n : ℕ) (t : Tape) : Type 0 where
   pub header : List ℕ
   pub newest : Newest last t header
   pub passes : (h : List ℕ) → Newest last t h → headerOf h .pass ≡ pass
-  pub ends : (h : List ℕ) → Newest last t h → EodAt last pass (length xs) t (headerOf h .eod .0)
+  pub ends : (h : List ℕ) → Newest last t h → EodAt last pass n t (headerOf h .eod .0)
+
+-- and all that it leaves
+pub record Leaves (last pass : ℕ) (t : Tape) (xs : List Element) : Type 0 where
+  pub cartridge : Cartridge last t
+  pub recorded : Recorded last pass t xs
+  pub headers : HeadersLeft last pass (length xs) t

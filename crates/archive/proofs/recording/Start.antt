@@ -3,19 +3,20 @@ use Prim.Native.Nat.{ℕ, _+_, _-_, _%_, _^_, _≤_, _<_}
 use mathlib.Core.Path.{_≡_, refl, sym, ap, subst, _∙_}
 use mathlib.Core.Bool.{Bool, true, false, _||_, true≢false}
 use mathlib.Core.List.{List, []}
-use mathlib.Core.Logic.{_⊎_, inl, inr, ⊎-elim}
+use mathlib.Core.Logic.{inl, inr, ⊎-elim}
 use native.Mathlib.Nat.{le-refl, mod-eq-of-lt}
 use native.Mathlib.Omega.{arith}
 use borrow.Author.Tests.{ltb-false, leb-false}
 use lib.Dec.{eqb, ltb, leb}
 use lib.ListN.{length-replicate}
-use Rattle.geometry.specs.Place.{asAddress, PlaceSaid, address, refused}
+use Rattle.geometry.specs.Place.{asAddress, PlaceSaid, address}
 use Rattle.geometry.specs.Cartridge.{lastOf, isUser}
 use Rattle.geometry.specs.declared.cartridge.Geometry.{Geometry}
 use Rattle.geometry.proofs.PickLaws.{pick-by}
 use Rattle.geometry.proofs.Last.{frames-of, last-small}
 use Rattle.geometry.proofs.TestLaws.{or-false}
 use Rattle.geometry.proofs.Impossible.{never}
+use Rattle.geometry.proofs.UserFrames.{User, user-ranges}
 use Rattle.frame.specs.declared.header.Header.{Header}
 use Rattle.header.specs.Valid.{validHeader, headerOf}
 use Rattle.header.specs.Read as checked
@@ -36,14 +37,13 @@ use Rattle.archive.specs.Demand as demand
 use Rattle.archive.specs.Demand.{newPass, Opening, on-header, on-none, opened, OnNewest, NoneBears}
 use Rattle.archive.specs.Fold.{foldOf}
 use Rattle.archive.proofs.tape.Stands.{telling}
-use Rattle.archive.proofs.tape.Scan.{Seen}
-use Rattle.archive.proofs.tape.ScanLaws.{seen-part, fold-over}
-use Rattle.archive.proofs.tape.UserPlaces.{User, user-ranges}
+use Rattle.archive.proofs.tape.Seen.{Seen}
+use Rattle.archive.proofs.tape.FoldLaws.{seen-part, fold-over}
 use Rattle.archive.proofs.recording.HeaderCopies.{Carried, Below}
 use Rattle.archive.proofs.recording.CopiesLink.{to-seek}
 use Rattle.archive.proofs.recording.Invariant as inv
 use Rattle.archive.proofs.recording.Invariant.{Inv, live}
-use Rattle.archive.proofs.recording.Setting.{Setting, Premises}
+use Rattle.archive.proofs.recording.Setting.{Setting}
 
 -- ---- an opening that was accepted
 
@@ -129,7 +129,7 @@ module _ (g : Geometry) (last depth blocks : ℕ) (s : State) (e : lastOf g ≡ 
         count-fits = omega arith;
       }
 
-  pub started-as : (o : Opening) → opened g depth blocks o ≡ accepting s → Started last s
+  started-as : (o : Opening) → opened g depth blocks o ≡ accepting s → Started last s
   started-as (on-header h) q = started-header h (on-header-view h q)
   started-as on-none q = started-none q
 
@@ -141,7 +141,7 @@ module _ (g : Geometry) (last depth blocks : ℕ) (s : State) (e : lastOf g ≡ 
   pass-is on-none q = sym (ap (λ (r : State). r .copies .header .pass) (blank-with q .0))
 
   -- every valid header that the cartridge holds counts less
-  pub starts-below : (t : Tape) (o : Opening) → opened g depth blocks o ≡ accepting s → OnNewest last t o → Below last (s .copies .header) t
+  starts-below : (t : Tape) (o : Opening) → opened g depth blocks o ≡ accepting s → OnNewest last t o → Below last (s .copies .header) t
   starts-below t (on-header h) q n a f at =
       let o = on-header-view h q in
       let x = fresh-counts h o in
@@ -178,9 +178,9 @@ nothing-seen last pass t cart none = record {
     low c u (inl h) = let x = h .0 in omega arith
     low c u (inr h) = let x = h .0 in omega arith
 
-begins-fresh : (last : ℕ) (d : Drive) (window : List ℕ) (s : State) (x : Started last s) (premises : Type 0) → Setting last (s .copies .header .pass) → d .written ≡ [] → AtRest d
-    → (premises → Cartridge last (d .tape) × NoneBears last (d .tape) (s .copies .header .pass) × Below last (s .copies .header) (d .tape)) → Inv last (s .copies .header .pass) premises (recordings.started s window d)
-begins-fresh last d window s x premises set unwritten rest pre =
+begins-fresh : (last : ℕ) (d : Drive) (window : List ℕ) (s : State) (x : Started last s) (on-newest none-bears : Type 0) → Setting last (s .copies .header .pass) → d .written ≡ [] → AtRest d
+    → Cartridge last (d .tape) → (on-newest → Below last (s .copies .header) (d .tape)) → (none-bears → NoneBears last (d .tape) (s .copies .header .pass)) → Inv last (s .copies .header .pass) on-newest none-bears (recordings.started s window d)
+begins-fresh last d window s x on-newest none-bears set unwritten rest cart below none =
     live (subst (demand.Within last) (sym unwritten) demand.nothing-written) (record {
       k = 0;
       edge = 10;
@@ -206,17 +206,14 @@ begins-fresh last d window s x premises set unwritten rest pre =
             copying = to-seek refl refl (record { due = refl; rests = rest; kept = inl refl });
           }));
       reported = λ e. absurd (true≢false (sym e));
+      outgoing = λ _. record { queue = λ st _. absurd (opening-stage st); sent = λ _ _ st _. absurd (opening-stage st) };
+      eod-place = record { written = λ st _ _. absurd (opening-stage st); named = λ st. absurd (⊎-elim closing-stage done-stage st) };
+      below = below;
       content = λ p _.
-          let c = pre p in
           record {
-            tape = c .0;
-            seen = subst (λ (n : ℕ). Seen last (s .copies .header .pass) [] n 0 10 (d .tape)) (ap (λ (r : State). inv.totalOf (r .elements .eod) 0) (x .is)) (nothing-seen last (s .copies .header .pass) (d .tape) (c .0) (c .1));
-            below = c .2;
+            tape = cart;
+            seen = subst (λ (n : ℕ). Seen last (s .copies .header .pass) [] n 0 10 (d .tape)) (ap (λ (r : State). inv.totalOf (r .elements .eod) 0) (x .is)) (nothing-seen last (s .copies .header .pass) (d .tape) cart (none p));
             stored = λ i h. absurd (none-pending i h);
-            queue = λ st _. absurd (opening-stage st);
-            sent = λ _ _ st _. absurd (opening-stage st);
-            eod-written = λ st _ _. absurd (opening-stage st);
-            eod-named = λ st. absurd (⊎-elim closing-stage done-stage st);
           };
     })
   where
@@ -240,7 +237,7 @@ begins-fresh last d window s x premises set unwritten rest pre =
 
 pub begins : (g : Geometry) (last depth blocks : ℕ) (d : Drive) (o : Opening) (s : State) (window : List ℕ) → lastOf g ≡ address last
     → Setting last (s .copies .header .pass) → Cartridge last (d .tape) → d .written ≡ [] → AtRest d → opened g depth blocks o ≡ accepting s
-    → Inv last (s .copies .header .pass) (Premises last (s .copies .header .pass) (d .tape) o) (recordings.started s window d)
+    → Inv last (s .copies .header .pass) (OnNewest last (d .tape) o) (NoneBears last (d .tape) (s .copies .header .pass)) (recordings.started s window d)
 begins g last depth blocks d o s window e set cart unwritten rest q =
-    begins-fresh last d window s (started-as g last depth blocks s e o q) (Premises last (s .copies .header .pass) (d .tape) o) set unwritten rest
-    (λ p. (cart, p .1, starts-below g last depth blocks s e (d .tape) o q (p .0)))
+    begins-fresh last d window s (started-as g last depth blocks s e o q) (OnNewest last (d .tape) o) (NoneBears last (d .tape) (s .copies .header .pass)) set unwritten rest cart
+    (starts-below g last depth blocks s e (d .tape) o q) (λ p. p)

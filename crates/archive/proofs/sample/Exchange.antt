@@ -35,7 +35,7 @@ pub record Step (s : State) (c : Command) (r : Reply) (next : State) : Type 0 wh
   pub replied : replyOf (awaits s c) r ≡ accepting next
 
 module _ (window : List ℕ) (accepted : List Element) where
-  abbrev pub world : State → Drive → Flight → World
+  abbrev world : State → Drive → Flight → World
   world s d f = record { session = s; window = window; drive = d; flight = f; notes = record { accepted = accepted; unaltered = true; reported = false } }
 
   -- between two commands

@@ -23,7 +23,7 @@ use Rattle.archive.specs.Readings.{World, Runs, started}
 use Rattle.archive.specs.Demand.{Faithful}
 use Rattle.archive.specs.Sample.{geometry, older, stopped, firstOpening, firstElements, firstBlock, firstFilemark, firstEod, firstClosing, firstReading}
 use Rattle.archive.proofs.tape.Basics.{reads-itself}
-use Rattle.archive.proofs.tape.ScanLaws.{put-other}
+use Rattle.archive.proofs.tape.FoldLaws.{put-other}
 use Rattle.archive.proofs.tape.Stands.{telling}
 use Rattle.archive.proofs.tape.WrittenFrames.{block-fits}
 use Rattle.archive.proofs.sample.Tapes.{empty, same-reads, headers-elsewhere}

@@ -36,16 +36,17 @@ use Rattle.recording_state.specs.declared.state.State.{State}
 use Rattle.archive.specs.Headers.{Newest, NoHeader}
 use Rattle.archive.specs.Recordings.{block, World, Call, accept-block, accept-filemark, close, fetch, reply, Runs, started}
 use Rattle.archive.specs.Demand.{NoneBears, newPass, on-none, Promised, Readable, Demand3}
-use Rattle.archive.specs.EndOfData.{EndsAt, EndNamed}
+use Rattle.archive.specs.EndNamed.{EndsAt, EndNamed}
 use Rattle.archive.specs.Sample.{geometry, depth, blocks, good, busy, older, tape, stopped, firstOpening, window, frame, firstElements, windowWith, firstError, firstBlock, firstFilemark, firstEod, firstClosing, exchanges, firstCalls}
 use Rattle.archive.proofs.sample.Exchange.{Step, between, reported, exchange, block-accepted, filemark-accepted, close-accepted, filemark-refused, close-refused}
 use Rattle.archive.proofs.sample.Flush.{buffered}
-use Rattle.archive.proofs.tape.WindowLaws.{put-length, put-same-block}
+use Rattle.recording_state.proofs.WindowLaws.{put-length, put-same-block}
 use Rattle.archive.proofs.sample.Headers.{writing, ending, closing, finished, headersWritten, opening-written, closing-written}
 use Rattle.archive.proofs.tape.WrittenFrames.{block-fits}
 use Rattle.archive.proofs.sample.Tapes.{empty, empty-cartridge, empty-bears-none, frame-on-none, frame-cartridge, frame-bears-none, headers-newest}
 use Rattle.archive.proofs.sample.Elements.{noneAccepted, element-written, element-failed}
-use Rattle.archive.proofs.Demand.{demand-3, end-named}
+use Rattle.archive.proofs.Demand.{demand-3}
+use Rattle.archive.proofs.EndNamed.{end-named}
 
 -- ---- the opening
 
@@ -175,7 +176,7 @@ afterBlock b t = put (afterFailure t) 44 (some (elementFrame firstBlock b))
 abbrev pub afterFilemark : List ℕ → Tape → Tape
 afterFilemark b t = put (afterBlock b t) 45 (some (elementFrame firstFilemark blank))
 
-abbrev pub afterEod : List ℕ → Tape → Tape
+abbrev afterEod : List ℕ → Tape → Tape
 afterEod b t = put (afterFilemark b t) 46 (some (elementFrame firstEod blank))
 
 -- the drive after the opening headers, after EOD, and at the end
@@ -302,4 +303,4 @@ pub first-ends : (b : List ℕ) → length b ≡ 32768 → EndsAt (headerOf (hea
 unfolding EndNamed
 first-ends b full =
     end-named geometry 11999 depth blocks stopped on-none (fresh depth 0 firstOpening) window (firstCalls b) (firstEnd b) (lit< tt) (lit< tt) refl first-cartridge refl (conduct.stopped refl) first-opened (first-runs b full)
-    first-on-none first-bears-none refl .newest refl (headerFrame firstClosing) (first-newest b)
+    .newest first-on-none refl (headerFrame firstClosing) (first-newest b)

@@ -50,7 +50,7 @@ pub record Step (s : Reading) (c : Command) (r : Reply) (lent : List ℕ) (said 
 
 module _ (place : ℕ) (deliveries : List Element) (n : ℕ) where
   -- the end was answered where the session has finished
-  abbrev pub world : Reading → Flight → World
+  abbrev world : Reading → Flight → World
   world s f = record { session = s; at = place; flight = f; notes = record { deliveries = deliveries; replies = n; refused = 0; end = s .finished } }
 
   -- between two commands
@@ -78,7 +78,7 @@ module _ (t : Tape) (deliveries : List Element) (n : ℕ) {cs : List Call} {u : 
       call (subst (λ (x : World). Calls v (replying r lent) x) (p ∙ q) (replies r given lent refl given-is (inl (ap (λ (x : reply.TakenSaid). replyNumber (x .said)) replied ∙ small)))) rest
 
   -- with a frame of another length the reply is refused with 1, and is brought again
-  pub reply-refused : {place : ℕ} {r : Reply} {given : Option (List ℕ)} {lent : List ℕ} (s : Reading) → reply.replyOf s r lent ≡ reply.refusing s 1
+  reply-refused : {place : ℕ} {r : Reply} {given : Option (List ℕ)} {lent : List ℕ} (s : Reading) → reply.replyOf s r lent ≡ reply.refusing s 1
       → Runs t (world place deliveries n s (answered r given)) cs u
       → Runs t (world place deliveries n s (answered r given)) (replying r lent ∷ cs) u
   reply-refused {place} {r} {given} {lent} s refused rest =
@@ -108,7 +108,7 @@ before pass c next locate expected finished = record {
 }
 
 -- a frame comes with good, or with 01/17/01
-abbrev pub bringing : Bool → Reply
+abbrev bringing : Bool → Reply
 bringing true = good
 bringing false = recovered
 
@@ -215,7 +215,7 @@ module _ (t : Tape) (pass : ℕ) (deliveries : List Element) (n : ℕ) (c : Comm
 
 -- the end, said again at each fetch
 module _ (t : Tape) (place : ℕ) (deliveries : List Element) (n : ℕ) (pass : ℕ) (c : Command) (next expected : ℕ) where
-  abbrev pub ended : Reading
+  abbrev ended : Reading
   ended = before pass c next false expected true
 
   end-fetched : fetch.fetchOf ended ≡ record { session = ended; said = fetch.end }

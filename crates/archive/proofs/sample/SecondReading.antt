@@ -22,7 +22,7 @@ use Rattle.archive.specs.Readings.{World, Runs, started}
 use Rattle.archive.specs.Demand.{Faithful}
 use Rattle.archive.specs.Sample.{geometry, firstBlock, secondOpening, secondElements, secondFilemark, secondEod, secondClosing, secondReading}
 use Rattle.archive.proofs.tape.Basics.{reads-itself}
-use Rattle.archive.proofs.tape.ScanLaws.{put-other}
+use Rattle.archive.proofs.tape.FoldLaws.{put-other}
 use Rattle.archive.proofs.tape.Stands.{telling}
 use Rattle.archive.proofs.tape.WrittenFrames.{block-fits}
 use Rattle.archive.proofs.sample.Tapes.{same-reads, headers-elsewhere}

@@ -11,6 +11,7 @@ use native.Mathlib.Omega.{arith}
 use lib.ListN.{length, drop, replicate}
 use Rattle.geometry.specs.Place.{asAddress}
 use Rattle.geometry.specs.Cartridge.{isHeader}
+use Rattle.geometry.proofs.UserFrames.{ranges, User, user-ranges}
 use Rattle.buffer.specs.Bytes.{get16}
 use Rattle.frame.specs.Aux.{elementAux}
 use Rattle.frame.specs.Frame.{elementFrame, elementFits}
@@ -24,10 +25,8 @@ use Rattle.archive.specs.Conduct.{Drive}
 use Rattle.archive.specs.Tape.{Tape, put, Cartridge}
 use Rattle.archive.specs.Headers.{Newest, NoHeader}
 use Rattle.archive.specs.Demand.{NoneBears}
-use Rattle.archive.proofs.tape.Places.{ranges}
-use Rattle.archive.proofs.tape.ScanLaws.{put-same, put-other}
+use Rattle.archive.proofs.tape.FoldLaws.{put-same, put-other}
 use Rattle.archive.proofs.tape.SeenLaws.{cartridge-put}
-use Rattle.archive.proofs.tape.UserPlaces.{User, user-ranges}
 use Rattle.archive.proofs.sample.Flush.{flushed}
 use Rattle.archive.proofs.sample.Headers.{groupWritten, headersWritten}
 
@@ -73,7 +72,7 @@ module _ (h : Header) (d : Drive) where
   firstGroup = groupWritten h 0 d
 
   -- a copy at each address of the groups
-  pub headers-read : (a : ℕ) → isHeader a ≡ true → headersWritten h d .tape a ≡ some (headerFrame h)
+  headers-read : (a : ℕ) → isHeader a ≡ true → headersWritten h d .tape a ≡ some (headerFrame h)
   headers-read a group = go (ranges 5 9 2990 2994 a group)
     where
       go : ((5 ≤ a) × (a ≤ 9)) ⊎ ((2990 ≤ a) × (a ≤ 2994)) → headersWritten h d .tape a ≡ some (headerFrame h)

@@ -15,10 +15,10 @@ use Rattle.archive.specs.Tape.{Tape, Cartridge, put, Bears}
 use Rattle.archive.specs.Fold.{look}
 use Rattle.archive.specs.Recordings.{Element}
 use Rattle.archive.proofs.tape.Basics.{none-some}
-use Rattle.archive.proofs.tape.Scan.{seenAs, Seen, Recorded}
+use Rattle.archive.proofs.tape.Seen.{seenAs, Seen, Recorded}
 use Rattle.archive.proofs.tape.Stands.{itemAt, telling, Stands}
 use Rattle.archive.proofs.tape.StandsLaws.{stands-read}
-use Rattle.archive.proofs.tape.ScanLaws.{put-same, put-other, seen-all, seen-more, look-skip, look-next, look-again, fold-put-other, fold-put-at, fold-over}
+use Rattle.archive.proofs.tape.FoldLaws.{put-same, put-other, seen-all, seen-more, look-skip, look-next, look-again, fold-put-other, fold-put-at, fold-over}
 
 -- ---- one element more, and EOD
 

@@ -12,7 +12,7 @@ use Rattle.judgement.proofs.JudgeView.{JudgeView, judge-view, found-known}
 use Rattle.judgement.proofs.JudgeLaws.{below-so}
 use Rattle.judgement.proofs.Unread.{judged-as-sent}
 use Rattle.archive.specs.Recordings.{Element, block, filemark}
-use Rattle.archive.specs.Fold.{Reader, going, ended, advance}
+use Rattle.archive.specs.Fold.{Reader, going, finished, advance}
 use Rattle.archive.proofs.tape.Stands.{Item, element, eod, itemAt, kindFor, Carries, telling, Stands}
 
 -- ---- items
@@ -46,7 +46,7 @@ carries-read eod r c = tt
 pub stands-read : {last pass i : ℕ} {x : Item} {sent read : List ℕ} → Stands last pass x i sent → ReadsAs sent read → Stands last pass x i read
 stands-read {last} {pass} {i} {x} s r = record { found = judged-as-sent r (telling last pass) (record { 0 = i }) ∙ s .found; carries = carries-read x r (s .carries) }
 
-pub stands-found : {last pass i : ℕ} {x : Item} {f : List ℕ} → Stands last pass x i f → FoundAs (telling last pass) (record { 0 = i }) (kindFor x) f
+stands-found : {last pass i : ℕ} {x : Item} {f : List ℕ} → Stands last pass x i f → FoundAs (telling last pass) (record { 0 = i }) (kindFor x) f
 stands-found {last} {pass} {i} {x} {f} s = found-known (kindFor x) (subst (λ (j : JudgementSaid). JudgeView (telling last pass) (record { 0 = i }) f j) (s .found) (judge-view (telling last pass) (record { 0 = i }) f))
 
 pub stands-long : {last pass i : ℕ} {x : Item} {f : List ℕ} → Stands last pass x i f → length f ≡ 33280
@@ -60,7 +60,7 @@ stands-below {last} {pass} {i} {x} {f} n s h =
 -- what it brings
 abbrev pub given : Item → ℕ → List Element → Reader
 given (element x) n got = going (n + 1) (got ++ x ∷ [])
-given eod n got = ended got
+given eod n got = finished got
 
 pub advance-found : (x : Item) (f : List ℕ) (n : ℕ) (got : List Element) → Carries x f → advance (foundSaid (kindFor x)) f n got ≡ given x n got
 advance-found (element (block b)) f n got c = ap (λ (d : List ℕ). going (n + 1) (got ++ block d ∷ [])) c

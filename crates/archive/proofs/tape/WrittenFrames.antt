@@ -11,7 +11,7 @@ use Rattle.frame.specs.Frame.{dataBytes, elementFits}
 use Rattle.frame.specs.Sent.{ReadsAs}
 use Rattle.frame.specs.declared.element.Kind.{Kind}
 use Rattle.frame.specs.declared.element.Kind.the-variants.{Data, Marker, Eod}
-use Rattle.frame.proofs.Frames.{element-length, element-data}
+use Rattle.frame.proofs.Frames.{element-data}
 use Rattle.judgement.specs.Judgement.{judgeFrame, foundSaid}
 use Rattle.judgement.proofs.Written.{judged-written}
 use Rattle.elements.specs.Elements.{numberOf, kindOf}
@@ -39,10 +39,6 @@ module _ (s : State) (window : List ℕ) (long : length window ≡ windowLength 
   unfolding writtenElement elementOf
   written-judged small reads =
       judged-written (elementOf s) small (mod-lt (s .elements .first .0 + s .elements .outstanding) (lit< tt)) (blockAt window (elementPlace s)) fitting reads
-
-  pub written-length : length (writtenElement s window) ≡ 33280
-  unfolding writtenElement elementOf
-  written-length = element-length (elementOf s) (blockAt window (elementPlace s)) fitting
 
   -- the data bytes are the element's own
   pub written-data : take 32768 (writtenElement s window) ≡ dataBytes (kindOf (s .elements)) (blockAt window (elementPlace s))

@@ -6,7 +6,7 @@ use borrow.Author.Tests.{lt-ltb, le-ltb, le-leb, lt-leb}
 use borrow.Author.Needs.{needs}
 use Rattle.geometry.proofs.PickLaws.{pick-t, pick-f}
 use Rattle.copies.specs.Copies.{firstAddress, oldestAddress, nextAddress, onwardOf, failedAt, failedOf}
-use Rattle.copies.proofs.HeaderPlaces.{header-bound}
+use Rattle.geometry.proofs.HeaderPlaces.{header-bound}
 use Rattle.copy_replies.proofs.failed.Statement.{statement}
 use Rattle.copy_replies.proofs.failed.Tie as tie
 

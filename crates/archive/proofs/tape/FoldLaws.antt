@@ -18,8 +18,8 @@ use Rattle.judgement.proofs.JudgeLaws.{other-pass}
 use Rattle.judgement.specs.declared.told.Told.{Told}
 use Rattle.archive.specs.Tape.{Tape, put, Bears}
 use Rattle.archive.specs.Recordings.{Element, filemark}
-use Rattle.archive.specs.Fold.{Reader, going, ended, stopped, advance, look, foldOf}
-use Rattle.archive.proofs.tape.Scan.{seenAs}
+use Rattle.archive.specs.Fold.{Reader, going, finished, stopped, advance, look, foldOf}
+use Rattle.archive.proofs.tape.Seen.{seenAs}
 use Rattle.archive.proofs.tape.Stands.{Item, itemAt, telling, Stands}
 use Rattle.archive.proofs.tape.StandsLaws.{item-in, item-past, stands-below, given, advance-found}
 
@@ -39,7 +39,7 @@ pub seen-part : (xs : List Element) (m : ℕ) → m ≤ length xs → seenAs xs 
 unfolding seenAs
 seen-part xs m h = pick-t _ (le-leb m (length xs) h)
 
-pub seen-all : (xs : List Element) (m : ℕ) → length xs < m → seenAs xs m ≡ ended xs
+pub seen-all : (xs : List Element) (m : ℕ) → length xs < m → seenAs xs m ≡ finished xs
 unfolding seenAs
 seen-all xs m h = pick-f _ (lt-leb m (length xs) h)
 
@@ -56,7 +56,7 @@ pub look-skip : (told : Told) (v : Option (List ℕ)) (r : Reader) → ((f : Lis
 unfolding look
 look-skip told none r long other = refl
 look-skip told (some f) (going n got) long other = ap (λ j. advance j f n got) (other-pass told (record { 0 = n }) f (long f refl) (other f refl))
-look-skip told (some f) (ended got) long other = refl
+look-skip told (some f) (finished got) long other = refl
 look-skip told (some f) (stopped m) long other = refl
 
 module _ (last pass : ℕ) (xs : List Element) (k : ℕ) (f : List ℕ) (s : Stands last pass (itemAt xs k) k f) where
@@ -71,7 +71,7 @@ module _ (last pass : ℕ) (xs : List Element) (k : ℕ) (f : List ℕ) (s : Sta
       go : (b : Bool) → leb (length xs) k ≡ b → given (itemAt xs k) k (take k xs) ≡ seenAs xs (k + 1)
       go true e =
           let past : length xs ≤ k = leb-true (length xs) k e in
-          ap (λ (x : Item). given x k (take k xs)) (item-past xs k past) ∙ ap ended (take-all k xs past) ∙ sym (seen-all xs (k + 1) (omega arith))
+          ap (λ (x : Item). given x k (take k xs)) (item-past xs k past) ∙ ap finished (take-all k xs past) ∙ sym (seen-all xs (k + 1) (omega arith))
       go false e =
           let inside : k < length xs = leb-false (length xs) k e in
           ap (λ (x : Item). given x k (take k xs)) (item-in xs k inside)
@@ -97,21 +97,17 @@ pub fold-user : (told : Told) (t : Tape) (a : ℕ) → isUser (told .last .0) a 
 unfolding foldOf
 fold-user told t a u = ap (foldOf told t) (add-one a) ∙ pick-t _ u
 
-pub fold-other : (told : Told) (t : Tape) (a : ℕ) → isUser (told .last .0) a ≡ false → foldOf told t (a + 1) ≡ foldOf told t a
-unfolding foldOf
-fold-other told t a u = ap (foldOf told t) (add-one a) ∙ pick-f _ u
-
 -- a reading that has ended or was refused stays so
 abbrev pub Final : Reader → Type 0
 Final (going n got) = ⊥
-Final (ended got) = Unit {0}
+Final (finished got) = Unit {0}
 Final (stopped m) = Unit {0}
 
 look-final : (told : Told) (v : Option (List ℕ)) (r : Reader) → Final r → look told v r ≡ r
 unfolding look
 look-final told none r h = refl
 look-final told (some f) (going n got) h = absurd h
-look-final told (some f) (ended got) h = refl
+look-final told (some f) (finished got) h = refl
 look-final told (some f) (stopped m) h = refl
 
 fold-final-by : (told : Told) (t : Tape) (a n : ℕ) {r : Reader} → Final r → foldOf told t a ≡ r → foldOf told t (n + a) ≡ r
@@ -127,7 +123,7 @@ pub fold-final : (told : Told) (t : Tape) (a b : ℕ) {r : Reader} → a ≤ b �
 fold-final told t a b l h e = let z : b ≡ b - a + a = omega arith in ap (foldOf told t) z ∙ fold-final-by told t a (b - a) h e
 
 -- an address above changes nothing
-pub fold-put : (told : Told) (t : Tape) (a : ℕ) (v : Option (List ℕ)) (b : ℕ) → b ≤ a → foldOf told (put t a v) b ≡ foldOf told t b
+fold-put : (told : Told) (t : Tape) (a : ℕ) (v : Option (List ℕ)) (b : ℕ) → b ≤ a → foldOf told (put t a v) b ≡ foldOf told t b
 unfolding foldOf
 fold-put told t a v zero h = refl
 fold-put told t a v (suc b) h = rw (put-other t a v b (λ e. omega arith), fold-put told t a v b (omega arith))
