@@ -2,8 +2,8 @@
 ghost use mathlib.Core.Path.{_≡_};
 ghost use lib.ListN.{length};
 ghost use Rattle.frame.specs.Aux.{accessBytes};
-use buffer::clear;
-use buffer::put_be32;
+use buffer_writing::clear;
+use buffer_writing::put_be32;
 
 // A table with one entry, or with none where entries, size and flags are 0.
 pub(crate) fn build_access_table(table: &mut [u8], entries: u8, size: u32, flags: u8)

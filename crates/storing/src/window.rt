@@ -4,7 +4,7 @@ ghost use Prim.Native.Nat.{_+_, _*_, _≤_, _<_};
 ghost use lib.ListN.{length};
 ghost use Rattle.frame.specs.Lengths.{dataLength};
 ghost use Rattle.recording_state.specs.Window.{putBlock};
-use buffer::copy_all;
+use buffer_writing::copy_all;
 use frame::DATA_LENGTH;
 
 // Stores a block.

@@ -5,8 +5,8 @@ use Prim.Native.Nat.{ℕ, _-_, _≤_}
 use native.Mathlib.Omega.{arith}
 use borrow.Author.Fill.{fill-more}
 use lib.ListN.{length, drop, replicate, set, length-set, drop-of-length-le}
-use Rattle.buffer.proofs.clear.Statement.{statement}
-use Rattle.buffer.proofs.clear.Tie as tie
+use Rattle.buffer_writing.proofs.clear.Statement.{statement}
+use Rattle.buffer_writing.proofs.clear.Tie as tie
 
 abbrev Inv-loop : tie.InvT-loop
 Inv-loop s₀ i₀ s i = (i ≤ length s₀) × (s ≡ replicate i 0 ++ drop i s₀) × (length s ≡ length s₀)

@@ -2,8 +2,8 @@
 use borrow.Author.Needs.{needs}
 use mathlib.Core.Path.{sym}
 use lib.Seq.{set-out}
-use Rattle.buffer.proofs.put_byte.Statement.{statement}
-use Rattle.buffer.proofs.put_byte.Tie as tie
+use Rattle.buffer_writing.proofs.put_byte.Statement.{statement}
+use Rattle.buffer_writing.proofs.put_byte.Tie as tie
 
 slice-write-s : tie.Need-slice-write-s
 slice-write-s c = search needs

@@ -1,8 +1,8 @@
 -- The bytes are stored one after the other. Assumes nothing.
 use borrow.Author.Needs.{needs}
 use mathlib.Core.Path.{_∙_}
-use Rattle.buffer.proofs.put_be16.Statement.{statement}
-use Rattle.buffer.proofs.put_be16.Tie as tie
+use Rattle.buffer_writing.proofs.put_be16.Statement.{statement}
+use Rattle.buffer_writing.proofs.put_be16.Tie as tie
 
 cast-put-byte : tie.Need-cast-put-byte
 cast-put-byte c = search needs

@@ -7,9 +7,9 @@ use native.Mathlib.Omega.{arith}
 use lib.ListN.{length, take, drop, set, getD, length-set, drop-of-length-le}
 use lib.Seq.{take-all}
 use Rattle.geometry.proofs.PickLaws.{pick-t, pick-f}
-use Rattle.buffer.proofs.Copying.{copy-more}
-use Rattle.buffer.proofs.copy_all.Statement.{statement}
-use Rattle.buffer.proofs.copy_all.Tie as tie
+use Rattle.buffer_writing.proofs.Copying.{copy-more}
+use Rattle.buffer_writing.proofs.copy_all.Statement.{statement}
+use Rattle.buffer_writing.proofs.copy_all.Tie as tie
 
 abbrev Inv-loop : tie.InvT-loop
 Inv-loop dst₀ src i₀ dst i = (i ≤ length src) × (dst ≡ take i src ++ drop i dst₀) × (length dst ≡ length dst₀)
