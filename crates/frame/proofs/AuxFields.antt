@@ -54,7 +54,7 @@ module _ (f : Fields) where
   unfolding auxBytes
   aux-block-low h = be32-back (f .seq .0) h
 
-  -- the access table: its mark, its entries, and the size, count and flags of the one
+  -- the access table: 08 00, its entries, and the size, count and flags of the one
   pub aux-table : get16 (auxBytes f) 56 ≡ 0x0800
   unfolding auxBytes accessBytes
   aux-table = refl

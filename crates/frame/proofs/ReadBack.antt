@@ -72,7 +72,7 @@ module _ {sent read : List ℕ} (r : ReadsAs sent read) (f : Fields) (sent-aux :
     marker = long 200 (lit≤ tt) ∙ aux-marker f (fit .marker);
   }
 
-type-fits : (k : Kind) → typeOf k < 2 ^ 16
+pub type-fits : (k : Kind) → typeOf k < 2 ^ 16
 type-fits Data = lit< tt
 type-fits Marker = lit< tt
 type-fits Eod = lit< tt

@@ -16,7 +16,7 @@ use Rattle.frame.specs.declared.element.Element.{Element}
 use Rattle.frame.specs.declared.header.Header.{Header}
 
 -- the AUX bytes of a frame
-abbrev pub auxOf : List ℕ → List ℕ
+abbrev auxOf : List ℕ → List ℕ
 auxOf frame = drop dataLength frame
 
 -- 01, "AUX bytes", the table: what is read at each place of the AUX
@@ -33,7 +33,7 @@ pub record AuxRead (f : Fields) (frame : List ℕ) : Type 0 where
   -- the block address, of eight bytes
   pub block-high : get32 (auxOf frame) 48 ≡ 0
   pub block-low : get32 (auxOf frame) 52 ≡ f .seq .0
-  -- the access table's mark and number of entries; block size, count and flags of the entry
+  -- the access table's 08 00 and number of entries; block size, count and flags of the entry
   pub table : get16 (auxOf frame) 56 ≡ 0x0800
   pub entries : getD (auxOf frame) 58 0 ≡ f .entries
   pub size : get32 (auxOf frame) 60 ≡ f .size

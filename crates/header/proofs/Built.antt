@@ -9,11 +9,11 @@ use lib.Dec.{eqb, lit<}
 use lib.ListN.{getD}
 use Rattle.geometry.specs.Cartridge.{isUser}
 use Rattle.buffer.specs.Bytes.{get16, get32}
-use Rattle.frame.specs.Aux.{auxBytes, headerAux}
+use Rattle.frame.specs.Aux.{headerAux}
 use Rattle.frame.specs.Header.{headerFrame}
 use Rattle.frame.specs.declared.header.Header.{Header}
 use Rattle.frame.proofs.Frames.{aux-at, aux-at16, aux-at32, header-aux}
-use Rattle.frame.proofs.AuxFields.{aux-kind, aux-partition}
+use Rattle.frame.proofs.AuxFields.{aux-zero, aux-kind, aux-partition}
 use Rattle.frame.proofs.HeaderFields.{header-name-front, header-name-back, header-major, header-minor, header-partitions, header-partition, header-version, header-pass, header-first, header-last, header-eod, header-update}
 use Rattle.header.specs.Valid.{isNamed, isPartition, isHeaderAux, validHeader, updateOf, headerOf}
 
@@ -35,13 +35,9 @@ module _ (h : Header) where
         user,
       )
 
-  aux-format : get32 (auxBytes (headerAux (h .update))) 0 ≡ 0
-  unfolding auxBytes
-  aux-format = refl
-
   aux : isHeaderAux (headerFrame h) ≡ true
   aux =
-      let format : get32 (headerFrame h) 32768 ≡ 0 = aux-at32 (headerFrame h) 0 ∙ ap (λ (x : List ℕ). get32 x 0) (header-aux h) ∙ aux-format in
+      let format : get32 (headerFrame h) 32768 ≡ 0 = aux-at32 (headerFrame h) 0 ∙ ap (λ (x : List ℕ). get32 x 0) (header-aux h) ∙ aux-zero (headerAux (h .update)) in
       let kind : get16 (headerFrame h) 32784 ≡ 0x0800 = aux-at16 (headerFrame h) 16 ∙ ap (λ (x : List ℕ). get16 x 16) (header-aux h) ∙ aux-kind (headerAux (h .update)) (lit< tt) in
       let number : getD (headerFrame h) 32788 0 ≡ 0xFF = aux-at (headerFrame h) 20 ∙ ap (λ (x : List ℕ). getD x 20 0) (header-aux h) ∙ aux-partition (headerAux (h .update)) in
       rw (format, kind, number)

@@ -3,16 +3,14 @@ use mathlib.Core.Path.{_≡_, refl, sym, ap, subst, _∙_}
 use mathlib.Core.Bool.{true}
 use mathlib.Core.List.{List}
 use Prim.Native.Nat.{ℕ, _^_, _<_}
-use lib.Dec.{lit<}
 use lib.ListN.{length, getD, drop}
 use Rattle.buffer.specs.Bytes.{get16, get32}
-use Rattle.frame.specs.Aux.{typeOf, accessBytes, auxBytes, elementAux}
+use Rattle.frame.specs.Aux.{accessBytes, auxBytes, elementAux}
 use Rattle.frame.specs.Frame.{elementFrame, elementFits}
 use Rattle.frame.specs.Sent.{ReadsAs}
 use Rattle.frame.specs.declared.element.Element.{Element}
-use Rattle.frame.specs.declared.element.Kind.{Kind}
-use Rattle.frame.specs.declared.element.Kind.the-variants.{Data, Marker, Eod}
-use Rattle.frame.proofs.AuxFields.{aux-kind, aux-partition, aux-pass, aux-seq}
+use Rattle.frame.proofs.AuxFields.{aux-zero, aux-kind, aux-partition, aux-pass, aux-seq}
+use Rattle.frame.proofs.ReadBack.{type-fits}
 use Rattle.frame.proofs.Frames.{element-length, element-aux}
 use Rattle.geometry.specs.declared.address.Seq.{Seq}
 use Rattle.judgement.specs.declared.told.Told.{Told}
@@ -21,20 +19,11 @@ use Rattle.judgement.proofs.Facts.{Typed, Alike}
 use Rattle.judgement.proofs.JudgeLaws.{below-so, above-so, found-so, other-pass}
 use Rattle.judgement.proofs.Unread.{judged-as-sent}
 
-type-small : (k : Kind) → typeOf k < 2 ^ 16
-type-small Data = lit< tt
-type-small Marker = lit< tt
-type-small Eod = lit< tt
-
 -- what the header of the element's recording tells
-abbrev pub toldBy : Element → Told
+abbrev toldBy : Element → Told
 toldBy e = record { last = e .last; pass = e .pass }
 
 module _ (e : Element) where
-  aux-format : get32 (auxBytes (elementAux e)) 0 ≡ 0
-  unfolding auxBytes
-  aux-format = refl
-
   -- the filemarks and the marker are in none of the bytes that are compared
   aux-same : Alike (expectedElement (e .kind) (toldBy e) (e .seq)) (auxBytes (elementAux e))
   unfolding auxBytes accessBytes
@@ -47,8 +36,8 @@ module _ (e : Element) (small-pass : e .pass < 2 ^ 16) (small-seq : e .seq .0 < 
   typed : (told : Told) → e .pass ≡ told .pass → Typed told (e .kind) (elementFrame e b)
   typed told same = record {
     long = element-length e b fits;
-    format = of-aux (λ (x : List ℕ). get32 x 0) (aux-format e);
-    type = of-aux (λ (x : List ℕ). get16 x 16) (aux-kind (elementAux e) (type-small (e .kind)));
+    format = of-aux (λ (x : List ℕ). get32 x 0) (aux-zero (elementAux e));
+    type = of-aux (λ (x : List ℕ). get16 x 16) (aux-kind (elementAux e) (type-fits (e .kind)));
     partition = of-aux (λ (x : List ℕ). getD x 20 0) (aux-partition (elementAux e));
     written = of-aux (λ (x : List ℕ). get16 x 22) (aux-pass (elementAux e) small-pass ∙ same);
   }

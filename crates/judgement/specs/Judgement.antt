@@ -67,7 +67,7 @@ judgeNumber k told expected aux =
 
 -- ---- a frame is passed over unless AUX 0-3 are 0, type is data, marker or EOD, partition 00, pass the header's: one after another
 
-abbrev pub unless : Bool → JudgementSaid → JudgementSaid → JudgementSaid
+abbrev unless : Bool → JudgementSaid → JudgementSaid → JudgementSaid
 unless test over next = pick test next over
 
 -- partition 00, then pass the header's

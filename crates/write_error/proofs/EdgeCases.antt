@@ -25,7 +25,7 @@ same-is (refused a) (address b) t = absurd t
 abbrev none : Case
 none = record { question = lastFor 0 0 Beginning; expected = refused 2 }
 
-abbrev pub caseAt : ℕ → Case
+abbrev caseAt : ℕ → Case
 caseAt k = getD cases k none
 
 right : ℕ → Bool
