@@ -2,4 +2,4 @@ pub mod HeaderPlaces
 pub mod CommandView
 pub mod ReplyView
 pub mod Counts
-pub mod DueAddress
+pub mod Placed

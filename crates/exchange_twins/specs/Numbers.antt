@@ -32,7 +32,7 @@ commandOf c =
     (pick (eqb (c .code) 0x2B) (Locate (asAddress (c .address))) ReadPosition))
 
 abbrev pub commandTwin : Command → AdrCommand
-commandTwin c = record { code = commandCode c; address = commandAddress c }
+commandTwin c = record { code = commandCode c; address = commandAddress c .0 }
 
 -- an exchange: its command, and two flags
 abbrev pub isExchange : AdrExchange → Bool

@@ -2,7 +2,9 @@
 use Prim.Native.Nat.{ℕ}
 use mathlib.Core.Bool.{true, false}
 use mathlib.Core.List.{List}
+use Rattle.geometry.specs.Place.{asAddress}
 use Rattle.geometry.specs.Refused.{verdictNumber}
+use Rattle.geometry.specs.Cartridge.{firstUser}
 use Rattle.geometry.specs.declared.cartridge.Geometry.{Geometry}
 use Rattle.frame.specs.declared.header.Header.{Header}
 use Rattle.header.specs.Read.{CheckedSaid, valid, refused, readHeader}
@@ -28,7 +30,7 @@ toldOf h = record { last = h .last; pass = h .pass }
 abbrev pub fresh : Told → State
 fresh told = record {
   told = told;
-  next = record { 0 = 10 };
+  next = asAddress firstUser;
   locate = true;
   expected = record { 0 = 0 };
   exchange = unsent;
@@ -38,7 +40,7 @@ fresh told = record {
 
 -- a refused opening returns a session that has ended
 abbrev pub openRefused : ℕ → OpenedSaid
-openRefused n = record { session = endedOf (fresh (record { last = record { 0 = 0 }; pass = 0 })); number = n }
+openRefused n = record { session = endedOf (fresh (record { last = asAddress 0; pass = 0 })); number = n }
 
 -- a header that is valid gives its fields; any other is refused with 1, 2 or 3
 abbrev pub openFor : CheckedSaid → OpenedSaid

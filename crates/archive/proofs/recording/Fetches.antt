@@ -23,7 +23,7 @@ use Rattle.drive.specs.declared.command.Command.the-variants.{Read, Write, Loca
 use Rattle.drive.proofs.CaseLaws.{command-by}
 use Rattle.copies.specs.Copies as copying
 use Rattle.copies.proofs.CommandView as command
-use Rattle.copies.proofs.DueAddress.{PlacedOf}
+use Rattle.copies.proofs.Placed.{PlacedOf}
 use Rattle.copies.proofs.HeaderPlaces.{header-from-first}
 use Rattle.elements.specs.Due as due
 use Rattle.elements.proofs.DueView as rule
@@ -185,9 +185,9 @@ module _ {last pass : ℕ} {premises : Type 0} (w : World) (lent frame : List �
 
     asks-header : {x : CommandSaid} → PlacedOf (w .session .copies) → command.CommandView (w .session .setup .depth) (w .session .copies) x → w .session .exchange .again ≡ false → Copying (w .session) (w .drive) recordings.no-command → CopyAsks (w .session .copies) (w .drive) (commandFor x)
     asks-header pl (command.locating t) ag (copies.at-place a g x) = clash t (x .placed)
-    asks-header pl (command.locating t) ag (copies.to-seek a g x) = copies.seeks (asAddress (copying.headerAt (w .session .copies))) (header-from-first (w .session .copies .group) (w .session .copies .copy) (pl .left t)) x
+    asks-header pl (command.locating t) ag (copies.to-seek a g x) = copies.seeks (copying.headerAt (w .session .copies)) (header-from-first (w .session .copies .group) (w .session .copies .copy) (pl .left t)) x
     asks-header pl (command.locating t) ag (copies.again a g x) = clash g ag
-    asks-header pl (command.writing f left room) ag (copies.at-place a g x) = copies.writes (asAddress (copying.headerAt (w .session .copies))) (header-from-first (w .session .copies .group) (w .session .copies .copy) left) left x
+    asks-header pl (command.writing f left room) ag (copies.at-place a g x) = copies.writes (copying.headerAt (w .session .copies)) (header-from-first (w .session .copies .group) (w .session .copies .copy) left) left x
     asks-header pl (command.writing f left room) ag (copies.to-seek a g x) = clash (x .due) f
     asks-header pl (command.writing f left room) ag (copies.again a g x) = clash g ag
     asks-header pl (command.asking f y) ag (copies.at-place a g x) = copies.asks x
