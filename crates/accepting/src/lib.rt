@@ -1,24 +1,20 @@
-// Accepting elements, and close. The public calls are the methods of `recording`.
-mod window;
-
+// Accepting filemarks, and close; `storing` accepts blocks by the same tests. The public calls are the methods of `recording`.
 ghost use mathlib.Core.Path.{_≡_};
 ghost use Rattle.recording_state.specs.State.{outcomeSaid};
-ghost use Rattle.recording_state.specs.Accept.{isFull, acceptsNone, withElement, filemarkOf, storedSaid, blockOf, closeOf};
-use crate::window::put_block;
-use frame::DATA_LENGTH;
+ghost use Rattle.recording_state.specs.Accept.{isFull, acceptsNone, withElement, filemarkOf, closeOf};
 use geometry::Refusal;
 use recording_state::Outcome;
 use recording_state::State;
 
 // The phase is wrong for an accept and for close.
-fn accepts_none(s: State) -> bool
+pub fn accepts_none(s: State) -> bool
     ensures { λ r. ⌜ r ≡ acceptsNone s ⌝ }
 {
     s.ended | s.closed
 }
 
 // W elements are not known to be on tape.
-fn is_full(s: State) -> bool
+pub fn is_full(s: State) -> bool
     ensures { λ r. ⌜ r ≡ isFull s ⌝ }
 {
     let elements = s.elements;
@@ -26,7 +22,7 @@ fn is_full(s: State) -> bool
     (setup.highest as u16) < elements.pending
 }
 
-fn with_element(mut s: State, mark: bool) -> State
+pub fn with_element(mut s: State, mark: bool) -> State
     ensures { λ r. ⌜ r ≡ withElement s mark ⌝ }
 {
     let elements = s.elements;
@@ -45,29 +41,6 @@ pub fn accept_filemark(s: State) -> Outcome
         return s.refuse(Refusal::WindowFull);
     }
     with_element(s, true).accepted()
-}
-
-// Accepts a block and stores it in the window, where it stays until it is known to be on tape.
-pub fn accept_block(s: State, block: &[u8], window: &mut [u8]) -> Outcome
-    ensures { λ r. ⌜ storedSaid r (now (window .exit)) ≡ blockOf s (now (block .entry)) (now (window .entry)) ⌝ }
-{
-    if accepts_none(s) {
-        return s.refuse(Refusal::Phase);
-    }
-    if block.len() != DATA_LENGTH {
-        return s.refuse(Refusal::Length);
-    }
-    let w = s.window();
-    if window.len() != w * DATA_LENGTH {
-        return s.refuse(Refusal::Length);
-    }
-    if is_full(s) {
-        return s.refuse(Refusal::WindowFull);
-    }
-    let elements = s.elements;
-    let number = elements.number(elements.pending);
-    put_block(window, (number.0 as usize) % w, block);
-    with_element(s, false).accepted()
 }
 
 // No element is accepted any more; EOD and the closing headers follow.

@@ -86,7 +86,7 @@ impl Recording {
         ensures { λ r. ⌜ storedSaid r (now (window .exit)) ≡ blockOf (self .state) (now (block .entry)) (now (window .entry)) ⌝ }
     {
         let s = self.state;
-        Outcome::of(accepting::accept_block(s, block, window))
+        Outcome::of(storing::accept_block(s, block, window))
     }
 
     // No element is accepted any more; EOD and the closing headers follow.

@@ -1,4 +1,4 @@
--- `accepting::accept_block` meets its contract: each return is the rule whose tests were passed on the way, and the block's
+-- `storing::accept_block` meets its contract: each return is the rule whose tests were passed on the way, and the block's
 -- place lies in the window. Assumes nothing.
 use Prim.Native.Nat.{ℕ, _*_, _%_}
 use mathlib.Core.Path.{_≡_, _∙_, sym, ap}
@@ -17,8 +17,8 @@ use Rattle.recording_state.specs.State.{windowLength, OutcomeSaid, accepting}
 use Rattle.recording_state.specs.Window.{putBlock}
 use Rattle.recording_state.specs.Accept.{StoredSaid, withElement, blockOf}
 use Rattle.recording_state.proofs.BlockPlace.{place-low, place-inside}
-use Rattle.accepting.proofs.accept_block.Statement.{statement}
-use Rattle.accepting.proofs.accept_block.Tie as tie
+use Rattle.storing.proofs.accept_block.Statement.{statement}
+use Rattle.storing.proofs.accept_block.Tie as tie
 
 abbrev stored : List ℕ → OutcomeSaid → StoredSaid
 stored window r = record { result = r; window = window }

@@ -1,4 +1,4 @@
--- `accepting::window::put_block` meets its contract: the part that is lent is the block's place, and as long as the block. Assumes nothing.
+-- `storing::window::put_block` meets its contract: the part that is lent is the block's place, and as long as the block. Assumes nothing.
 use Prim.Native.Nat.{ℕ, _+_, _-_, _*_, _≤_}
 use mathlib.Core.Path.{_≡_, _∙_, sym}
 use mathlib.Core.List.{List}
@@ -10,8 +10,8 @@ use lib.ListN.{length, take, drop}
 use Rattle.geometry.proofs.PickLaws.{pick-t}
 use Rattle.recording_state.specs.Window.{blockAt, putBlock}
 use Rattle.recording_state.proofs.BlockPlace.{block-length}
-use Rattle.accepting.proofs.window.put_block.Statement.{statement}
-use Rattle.accepting.proofs.window.put_block.Tie as tie
+use Rattle.storing.proofs.window.put_block.Statement.{statement}
+use Rattle.storing.proofs.window.put_block.Tie as tie
 
 lent-length : (w : List ℕ) (i : ℕ) → i * 32768 + 32768 ≤ length w → length (take (i * 32768 + 32768 - i * 32768) (drop (i * 32768) w)) ≡ 32768
 unfolding blockAt
