@@ -1,7 +1,7 @@
 // What a recording knows of its elements.
 ghost use mathlib.Core.Path.{_≡_};
 ghost use Rattle.elements.specs.Elements.{startOf, numberOf, acceptedOf, eodDue, baseOf, isMark, kindOf, limitOf};
-ghost use Rattle.elements.specs.Trail.{trailAfter, trailBefore};
+ghost use Rattle.elements.specs.Trail.{trailAfter};
 use crate::trail::Trail;
 use crate::trail::mark_place;
 use crate::trail::trail_of;
@@ -119,12 +119,5 @@ impl Elements {
         let first = self.first;
         let base = self.base();
         trail_of(start, marks, first, base, n)
-    }
-
-    // The filemarks before the next element to be written.
-    pub fn trail_before(self) -> Trail
-        ensures { λ r. ⌜ r ≡ trailBefore self ⌝ }
-    {
-        self.trail_after(self.outstanding)
     }
 }

@@ -21,7 +21,7 @@ fn element(s: State) -> Element
     let elements = s.elements;
     let header = copies.header;
     let last = header.last;
-    let trail = elements.trail_before();
+    let trail = elements.trail_after(elements.outstanding);
     let marker = trail.marker;
     Element {
         kind: elements.kind(),
