@@ -39,7 +39,7 @@ fn element_place(s: State) -> usize
 {
     let elements = s.elements;
     let number = elements.number(elements.outstanding);
-    (number.0 as usize) % s.window()
+    (number.0 as usize) % s.blocks()
 }
 
 fn fill_element(s: State, window: &[u8], frame: &mut [u8])

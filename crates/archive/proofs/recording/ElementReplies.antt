@@ -24,7 +24,7 @@ use Rattle.copies.proofs.Counts.{start-counts}
 use Rattle.copies.proofs.Placed.{start-placed}
 use Rattle.elements.specs.Reply as reply
 use Rattle.elements.specs.declared.elements.Elements.{Elements}
-use Rattle.recording_state.specs.State.{OutcomeSaid, windowOf, accepting, withElements, closingHeader, closingStarted, settledOf}
+use Rattle.recording_state.specs.State.{OutcomeSaid, blocksOf, accepting, withElements, closingHeader, closingStarted, settledOf}
 use Rattle.recording_state.specs.Reply.{caseOf, repliedOf, repeatedOf, elementReplyBy, replyBy, replyOf}
 use Rattle.recording_state.specs.declared.state.State.{State}
 use Rattle.recording_state.specs.declared.state.Stage.the-variants as S
@@ -96,13 +96,13 @@ module _ {last pass : ℕ} {premises : Type 0} (w : World) (r : Reply) (set : Se
         let first-is = s .first-is in
         record { wide = c .wide; held = s .held; windowed = omega arith; numbered = omega (arith, total-so); marks = ap (λ (x : List Bool). length x) (s .marks-is) ∙ c .marks; room = s .room }
 
-    stored-so : Content last pass w (l .k) (l .edge) → (i : ℕ) → i < e .pending → StoredAs (itemAt (w .notes .accepted) (e .first .0 + i)) (w .window) (e .marks) (windowOf (w .session)) (e .first .0 + i)
+    stored-so : Content last pass w (l .k) (l .edge) → (i : ℕ) → i < e .pending → StoredAs (itemAt (w .notes .accepted) (e .first .0 + i)) (w .window) (e .marks) (blocksOf (w .session)) (e .first .0 + i)
     stored-so c i h =
         let pending-is = s .pending-is in
         let first-is = s .first-is in
         let at : w .session .elements .first .0 + (s .n + i) ≡ e .first .0 + i = omega arith in
-        subst (λ (m : List Bool). StoredAs (itemAt (w .notes .accepted) (e .first .0 + i)) (w .window) m (windowOf (w .session)) (e .first .0 + i)) (sym (s .marks-is))
-        (subst (λ (j : ℕ). StoredAs (itemAt (w .notes .accepted) j) (w .window) (w .session .elements .marks) (windowOf (w .session)) j) at (c .stored (s .n + i) (omega arith)))
+        subst (λ (m : List Bool). StoredAs (itemAt (w .notes .accepted) (e .first .0 + i)) (w .window) m (blocksOf (w .session)) (e .first .0 + i)) (sym (s .marks-is))
+        (subst (λ (j : ℕ). StoredAs (itemAt (w .notes .accepted) j) (w .window) (w .session .elements .marks) (blocksOf (w .session)) j) at (c .stored (s .n + i) (omega arith)))
 
     content-so : premises → w .notes .unaltered ≡ true → Content last pass (repliedWorld w stepped) (l .k) (s .tried)
     content-so p u =

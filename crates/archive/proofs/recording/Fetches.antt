@@ -27,7 +27,7 @@ use Rattle.copies.proofs.Placed.{PlacedOf}
 use Rattle.copies.proofs.HeaderPlaces.{header-from-first}
 use Rattle.elements.specs.Due as due
 use Rattle.elements.proofs.DueView as rule
-use Rattle.recording_state.specs.State.{windowOf, windowLength}
+use Rattle.recording_state.specs.State.{blocksOf, windowLength}
 use Rattle.recording_state.specs.Written.{amongElements, writtenFrame}
 use Rattle.recording_state.specs.Fetch.{FetchedSaid, fetchOf, awaits, frameFor, sending}
 use Rattle.recording_state.specs.declared.state.State.{State}
@@ -109,8 +109,8 @@ module _ {last pass : ℕ} {premises : Type 0} (w : World) (lent frame : List �
   as-left u = let b = and-true (w .notes .unaltered) (agree lent (w .window)) u in (b .0, agree-is lent (w .window) (b .1))
 
   stored-lent : lent ≡ w .window → Content last pass w (l .k) (l .edge) → (i : ℕ) → i < w .session .elements .pending
-      → StoredAs (itemAt (w .notes .accepted) (w .session .elements .first .0 + i)) lent (w .session .elements .marks) (windowOf (w .session)) (w .session .elements .first .0 + i)
-  stored-lent e c i h = subst (λ (x : List ℕ). StoredAs (itemAt (w .notes .accepted) (w .session .elements .first .0 + i)) x (w .session .elements .marks) (windowOf (w .session)) (w .session .elements .first .0 + i)) (sym e) (c .stored i h)
+      → StoredAs (itemAt (w .notes .accepted) (w .session .elements .first .0 + i)) lent (w .session .elements .marks) (blocksOf (w .session)) (w .session .elements .first .0 + i)
+  stored-lent e c i h = subst (λ (x : List ℕ). StoredAs (itemAt (w .notes .accepted) (w .session .elements .first .0 + i)) x (w .session .elements .marks) (blocksOf (w .session)) (w .session .elements .first .0 + i)) (sym e) (c .stored i h)
 
   -- ---- nothing goes out: idle, or done
 
