@@ -7,7 +7,8 @@ use Rattle.geometry.proofs.PickLaws.{pick-t, pick-f}
 use Rattle.recording_state.specs.declared.state.State.{State}
 use Rattle.recording_state.specs.State.{OutcomeSaid}
 use Rattle.recording_state.specs.Accept.{StoredSaid, blockOf}
-use Rattle.recording_state.specs.Fetch.{FetchedSaid, answerSaid, fetchOf}
+use Rattle.recording_state.specs.Answer.{answerSaid}
+use Rattle.recording_state.specs.Fetch.{FetchedSaid, fetchOf}
 use Rattle.recording.specs.declared.recording.Outcome.{Outcome}
 use Rattle.recording.specs.declared.recording.Fetched as recording-fetched
 use Rattle.recording.specs.Recording as recording

@@ -15,8 +15,8 @@ use Rattle.carried_headers.specs.Carried.{openingHeader, isExhausted, renewed}
 use Rattle.drive.specs.declared.reply.Reply.{Reply}
 use Rattle.recording_state.specs.Open.{openWith, openFor, openOf, openBlankFor, openBlankOf}
 use Rattle.recording_state.specs.State as session
-use Rattle.recording_state.specs.Fetch as fetch
-use Rattle.recording_state.specs.Fetch.{FetchedSaid, fetchOf}
+use Rattle.recording_state.specs.Answer as answer
+use Rattle.recording_state.specs.Fetch.{FetchedSaid, sending, fetchOf}
 use Rattle.recording_state.specs.declared.state.State.{State}
 use Rattle.recording_state.proofs.Ended as ended
 use Rattle.recording_state.proofs.FetchView as view
@@ -34,7 +34,7 @@ use Rattle.archive.specs.Refusals.{lentBy, leftBy, endedFromCall, Openin
 -- ---- a recording
 
 frame-left : (s : State) (window frame : List ℕ) {x : FetchedSaid} → view.FetchView s window frame x → 1 ≤ recordings.fetchNumber (x .said) → x .frame ≡ frame
-unfolding fetch.sending
+unfolding sending
 frame-left s window frame (view.wrongPhase _) h = refl
 frame-left s window frame (view.wrongLength _ _ _) h = refl
 frame-left s window frame (view.repeating _ _) h = absurd (omega arith)
@@ -51,11 +51,11 @@ left-as-lent s recordings.close h = refl
 left-as-lent s (recordings.fetch window frame) h = frame-left s window frame (view.fetch-view s window frame) h
 left-as-lent s (recordings.reply r) h = refl
 
-fetch-leaves : (s : State) (window frame : List ℕ) (x : fetch.AnswerSaid) → fetchOf s window frame .said ≡ x → 1 ≤ recordings.fetchNumber x → Leaves (recordings.fetchNumber x) s s (fetchOf s window frame .session)
-fetch-leaves s window frame (fetch.command _ _) e h = absurd (omega arith)
-fetch-leaves s window frame fetch.idle e h = absurd (omega arith)
-fetch-leaves s window frame fetch.done e h = absurd (omega arith)
-fetch-leaves s window frame (fetch.refused n) e h = refused-fetch s n window frame e
+fetch-leaves : (s : State) (window frame : List ℕ) (x : answer.AnswerSaid) → fetchOf s window frame .said ≡ x → 1 ≤ recordings.fetchNumber x → Leaves (recordings.fetchNumber x) s s (fetchOf s window frame .session)
+fetch-leaves s window frame (answer.command _ _) e h = absurd (omega arith)
+fetch-leaves s window frame answer.idle e h = absurd (omega arith)
+fetch-leaves s window frame answer.done e h = absurd (omega arith)
+fetch-leaves s window frame (answer.refused n) e h = refused-fetch s n window frame e
 
 leaves : (s : State) (c : recordings.Call) → 1 ≤ recordings.refusal s c → Leaves (recordings.refusal s c) s (endedFromCall s c) (recordings.returned s c)
 leaves s (recordings.accept-block b window) h = refused-block s b window

@@ -6,6 +6,7 @@ use Rattle.geometry.proofs.Impossible.{never}
 use Rattle.drive.specs.Command.{commandCode, commandAddress, commandBy, commandFor}
 use Rattle.drive.specs.declared.command.Command.{Command}
 use Rattle.drive.proofs.CaseLaws.{command-by}
+use Rattle.recording_state.specs.Answer as answer
 use Rattle.recording_state.specs.Fetch as recording
 use Rattle.recording_state.specs.Fetch.{sending}
 use Rattle.recording_state.specs.declared.state.State.{State}
@@ -20,7 +21,7 @@ use Rattle.archive.specs.Readings as readings
 -- a number and an address name a command
 pub record Names (number address : ℕ) (c : Command) : Type 0 where
   pub number-is : number ≡ commandCode c
-  pub address-is : address ≡ commandAddress c
+  pub address-is : address ≡ commandAddress c .0
 
 named : {number address : ℕ} {c : Command} → Names number address c → commandBy number address ≡ c
 named {number} {address} {c} n = ap (λ (x : ℕ). commandBy x address) (n .number-is) ∙ ap (λ (x : ℕ). commandBy (commandCode c) x) (n .address-is) ∙ command-by c
@@ -28,14 +29,14 @@ named {number} {address} {c} n = ap (λ (x : ℕ). commandBy x address) (n .numb
 -- ---- a recording
 
 module _ (s : State) (lent frame : List ℕ) (n a : ℕ) where
-  sends : (c : Command) → sending s c lent frame .said ≡ recording.command n a → Names n a (sending s c lent frame .session .exchange .command)
+  sends : (c : Command) → sending s c lent frame .said ≡ answer.command n a → Names n a (sending s c lent frame .session .exchange .command)
   unfolding sending
   sends c e = record { number-is = cc; address-is = cc }
 
-  pub answered-command : recording.fetchOf s lent frame .said ≡ recording.command n a → Names n a (recording.fetchOf s lent frame .session .exchange .command)
+  pub answered-command : recording.fetchOf s lent frame .said ≡ answer.command n a → Names n a (recording.fetchOf s lent frame .session .exchange .command)
   answered-command = go (fetch-view s lent frame)
     where
-      go : {f : recording.FetchedSaid} → FetchView s lent frame f → f .said ≡ recording.command n a → Names n a (f .session .exchange .command)
+      go : {f : recording.FetchedSaid} → FetchView s lent frame f → f .said ≡ answer.command n a → Names n a (f .session .exchange .command)
       go (view.wrongPhase _) e = never (cc)
       go (view.wrongLength _ _ _) e = never (cc)
       go (view.repeating _ _) e = sends (s .exchange .command) e
@@ -46,10 +47,10 @@ module _ (s : State) (lent frame : List ℕ) (n a : ℕ) where
       go (view.finished _ _ _) e = never (cc)
 
 -- it goes to the drive with the frame as the fetch left it
-pub sent-command : (w : recordings.World) (lent frame : List ℕ) (n a : ℕ) → recording.fetchOf (w .session) lent frame .said ≡ recording.command n a
+pub sent-command : (w : recordings.World) (lent frame : List ℕ) (n a : ℕ) → recording.fetchOf (w .session) lent frame .said ≡ answer.command n a
     → recordings.afterFetch w lent frame .flight ≡ recordings.sent (recordings.afterFetch w lent frame .session .exchange .command) (recording.fetchOf (w .session) lent frame .frame)
 sent-command w lent frame n a e =
-    ap (λ (x : recording.AnswerSaid). recordings.flightAfter x (w .flight) (recording.fetchOf (w .session) lent frame .frame)) e
+    ap (λ (x : answer.AnswerSaid). recordings.flightAfter x (w .flight) (recording.fetchOf (w .session) lent frame .frame)) e
     ∙ ap (λ (c : Command). recordings.sent c (recording.fetchOf (w .session) lent frame .frame)) (named (answered-command (w .session) lent frame n a e))
 
 -- ---- a reading

@@ -12,7 +12,8 @@ use Rattle.drive.specs.Command.{commandBy}
 use Rattle.drive.specs.declared.command.Command.{Command}
 use Rattle.drive.specs.declared.reply.Reply.{Reply}
 use Rattle.recording_state.specs.Accept.{filemarkOf, blockOf, closeOf}
-use Rattle.recording_state.specs.Fetch.{AnswerSaid, command, idle, done, refused, fetchOf}
+use Rattle.recording_state.specs.Answer.{AnswerSaid, command, idle, done, refused}
+use Rattle.recording_state.specs.Fetch.{fetchOf}
 use Rattle.recording_state.specs.Reply.{replyOf}
 use Rattle.recording_state.specs.declared.state.State.{State}
 

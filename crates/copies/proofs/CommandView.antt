@@ -1,9 +1,8 @@
 -- The command that is due, by cases, each with what is known there. Assumes nothing.
 use Prim.Native.Nat.{ℕ, _≤_, _<_}
-use mathlib.Core.Path.{_≡_, sym, ap}
+use mathlib.Core.Path.{_≡_}
 use mathlib.Core.Bool.{true, false, _&&_, and-eq-true-iff}
 use mathlib.Core.Logic.{_⊎_, ⊎-elim, inl, inr}
-use native.Mathlib.Omega.{arith}
 use lib.Dec.{ltb}
 use borrow.Author.Tests.{ltb-true, ltb-false}
 use Rattle.geometry.proofs.PickLaws.{pick-by}
@@ -13,8 +12,8 @@ use Rattle.copies.specs.Copies.{headerAt, commandOf}
 use Rattle.geometry.proofs.TestLaws.{and-false}
 
 pub data CommandView (depth : ℕ) (c : Copies) : CommandSaid → Type 0 where
-  locating : c .locate ≡ true → CommandView depth c (locate (headerAt c))
-  writing : c .locate ≡ false → c .copy < 5 → c .outstanding < depth → CommandView depth c (write (headerAt c))
+  locating : c .locate ≡ true → CommandView depth c (locate (headerAt c .0))
+  writing : c .locate ≡ false → c .copy < 5 → c .outstanding < depth → CommandView depth c (write (headerAt c .0))
   asking : c .locate ≡ false → (5 ≤ c .copy) ⊎ (depth ≤ c .outstanding) → CommandView depth c readPosition
 
 pub command-view : (depth : ℕ) (c : Copies) → CommandView depth c (commandOf depth c)
@@ -25,18 +24,3 @@ command-view depth c =
     (λ both. let tests = and-eq-true-iff (ltb (c .copy) 5) (ltb (c .outstanding) depth) .0 both in
     writing f (ltb-true _ _ (tests .0)) (ltb-true _ _ (tests .1)))
     (λ fails. asking f (⊎-elim (λ e. inl (ltb-false _ _ e)) (λ e. inr (ltb-false _ _ e)) (and-false (ltb (c .copy) 5) (ltb (c .outstanding) depth) fails))))
-
--- a WRITE is only due where the group has a copy left and the drive has room for it
-pub record WriteDue (depth : ℕ) (c : Copies) (a : ℕ) : Type 0 where
-  pub placed : c .locate ≡ false
-  pub left : c .copy < 5
-  pub room : c .outstanding < depth
-  pub place : a ≡ headerAt c
-
-write-in-view : (depth : ℕ) (c : Copies) (a : ℕ) (k : CommandSaid) → CommandView depth c k → k ≡ write a → WriteDue depth c a
-write-in-view depth c a _ (locating t) e = absurd (omega (arith, ap (λ (x : CommandSaid). x .code) e))
-write-in-view depth c a _ (writing f left room) e = record { placed = f; left = left; room = room; place = ap (λ (x : CommandSaid). x .address) (sym e) }
-write-in-view depth c a _ (asking f w) e = absurd (omega (arith, ap (λ (x : CommandSaid). x .code) e))
-
-pub write-due : (depth : ℕ) (c : Copies) (a : ℕ) → commandOf depth c ≡ write a → WriteDue depth c a
-write-due depth c a e = write-in-view depth c a (commandOf depth c) (command-view depth c) e

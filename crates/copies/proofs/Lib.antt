@@ -1,4 +1,4 @@
 pub mod CommandView
 pub mod ReplyView
 pub mod Counts
-pub mod DueAddress
+pub mod Placed

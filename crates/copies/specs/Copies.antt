@@ -3,9 +3,11 @@
 use Prim.Native.Nat.{ℕ, _+_, _-_, _%_, _^_}
 use mathlib.Core.Bool.{true, false, _&&_, _||_}
 use lib.Dec.{eqb, ltb, leb}
+use Rattle.geometry.specs.Place.{asAddress}
 use Rattle.geometry.specs.Pick.{pick}
 use Rattle.geometry.specs.Refusal.{refusalNumber}
 use Rattle.geometry.specs.Cartridge.{headerAddress}
+use Rattle.geometry.specs.declared.address.Address.{Address}
 use Rattle.frame.specs.declared.header.Header.{Header}
 use Rattle.drive.specs.Command.{CommandSaid, write, locate, readPosition}
 use Rattle.copies.specs.declared.copies.Copies.{Copies}
@@ -17,14 +19,14 @@ abbrev pub startOf : Header → Copies
 startOf h = record { header = h; group = 0; copy = 0; outstanding = 0; confirmed = 0; locate = true }
 
 -- the address of the next copy
-abbrev pub headerAt : Copies → ℕ
-headerAt c = headerAddress (c .group) (c .copy)
+abbrev pub headerAt : Copies → Address
+headerAt c = asAddress (headerAddress (c .group) (c .copy))
 
 -- the command that is due
 unfoldable pub commandOf : ℕ → Copies → CommandSaid
 commandOf depth c =
-    pick (c .locate) (locate (headerAt c))
-    (pick (ltb (c .copy) 5 && ltb (c .outstanding) depth) (write (headerAt c)) readPosition)
+    pick (c .locate) (locate (headerAt c .0))
+    (pick (ltb (c .copy) 5 && ltb (c .outstanding) depth) (write (headerAt c .0)) readPosition)
 
 -- how far the copies are after a reply
 pub data ProgressSaid : Type 0 where
@@ -68,18 +70,18 @@ abbrev pub failedAt : Copies → ℕ → ℕ → Copies
 failedAt c n i = record { header = c .header; group = c .group; copy = i + 1; outstanding = 0; confirmed = (c .confirmed + n) % 2 ^ 8; locate = true }
 
 -- the addresses of the group's first copy, of the oldest outstanding one, and of the next
-abbrev pub firstAddress : Copies → ℕ
-firstAddress c = headerAddress (c .group) 0
+abbrev pub firstAddress : Copies → Address
+firstAddress c = asAddress (headerAddress (c .group) 0)
 
-abbrev pub oldestAddress : Copies → ℕ
-oldestAddress c = firstAddress c + (c .copy - c .outstanding)
+abbrev pub oldestAddress : Copies → Address
+oldestAddress c = asAddress (firstAddress c .0 + (c .copy - c .outstanding))
 
-abbrev pub nextAddress : Copies → ℕ
-nextAddress c = firstAddress c + c .copy
+abbrev pub nextAddress : Copies → Address
+nextAddress c = asAddress (firstAddress c .0 + c .copy)
 
 -- a write error at p, which must be outstanding
-unfoldable pub failedOf : Copies → ℕ → ProgressSaid
+unfoldable pub failedOf : Copies → Address → ProgressSaid
 failedOf c p =
-    pick (ltb p (oldestAddress c)) (refused 8)
-    (pick (leb (nextAddress c) p) (refused 8)
-    (onwardOf (failedAt c (p - oldestAddress c) (p - firstAddress c))))
+    pick (ltb (p .0) (oldestAddress c .0)) (refused 8)
+    (pick (leb (nextAddress c .0) (p .0)) (refused 8)
+    (onwardOf (failedAt c (p .0 - oldestAddress c .0) (p .0 - firstAddress c .0))))

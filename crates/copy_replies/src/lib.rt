@@ -85,7 +85,7 @@ fn failed_at(mut c: Copies, n: u8, i: u8) -> Copies
 
 // A write error at p, which must be outstanding.
 pub fn failed(c: Copies, p: Address) -> Progress
-    ensures { λ r. ⌜ progressSaid r ≡ failedOf c (p .0) ⌝ }
+    ensures { λ r. ⌜ progressSaid r ≡ failedOf c p ⌝ }
 {
     let start = header_address(c.group, 0);
     let oldest = start.0 + (minus(c.copy, c.outstanding) as u32);

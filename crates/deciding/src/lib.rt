@@ -1,6 +1,7 @@
 // What is due, by the session's stage.
 ghost use mathlib.Core.Path.{_≡_};
-ghost use Rattle.recording_state.specs.Due.{decisionSaid, headerDue, elementDue, decisionOf};
+ghost use Rattle.recording_state.specs.Answer.{answerSaid};
+ghost use Rattle.recording_state.specs.Due.{headerDue, elementDue, decisionOf};
 use elements::Due;
 use recording_state::Answer;
 use recording_state::Stage;
@@ -8,7 +9,7 @@ use recording_state::State;
 
 // What is due for elements and EOD.
 fn element_due(s: State) -> Answer
-    ensures { λ r. ⌜ decisionSaid r ≡ elementDue s ⌝ }
+    ensures { λ r. ⌜ answerSaid r ≡ elementDue s ⌝ }
 {
     let elements = s.elements;
     let setup = s.setup;
@@ -22,7 +23,7 @@ fn element_due(s: State) -> Answer
 
 // What is due for the header copies.
 fn header_due(s: State) -> Answer
-    ensures { λ r. ⌜ decisionSaid r ≡ headerDue s ⌝ }
+    ensures { λ r. ⌜ answerSaid r ≡ headerDue s ⌝ }
 {
     let copies = s.copies;
     let setup = s.setup;
@@ -31,7 +32,7 @@ fn header_due(s: State) -> Answer
 
 // What a fetch answers, once the session is found able to: the same command after busy, else what is due in this stage.
 pub fn decide(s: State) -> Answer
-    ensures { λ r. ⌜ decisionSaid r ≡ decisionOf s ⌝ }
+    ensures { λ r. ⌜ answerSaid r ≡ decisionOf s ⌝ }
 {
     let exchange = s.exchange;
     if exchange.again {

@@ -17,7 +17,7 @@ case-parts c r code meaning h e =
 
 -- ---- a code names its command
 
-pub command-by : (c : Command) → commandBy (commandCode c) (commandAddress c) ≡ c
+pub command-by : (c : Command) → commandBy (commandCode c) (commandAddress c .0) ≡ c
 command-by (Read a) = refl
 command-by (Write a) = refl
 command-by (Locate a) = refl

@@ -1,7 +1,7 @@
 -- A command's reply is awaited, or the command is to be given again, and never both: what each update of an exchange leaves. Assumes nothing.
 use mathlib.Core.Path.{_≡_, refl}
 use mathlib.Core.Bool.{false, _&&_}
-use Rattle.drive.specs.Exchange.{unsent, sentOf, answeredOf, repeatedOf}
+use Rattle.drive.specs.Exchange.{unsent, sentOf, repliedOf, repeatedOf}
 use Rattle.drive.specs.declared.command.Command.{Command}
 use Rattle.drive.specs.declared.exchange.Exchange.{Exchange}
 
@@ -14,8 +14,8 @@ unsent-single = refl
 pub sent-single : (c : Command) → Single (sentOf c)
 sent-single c = refl
 
-pub answered-single : (x : Exchange) → Single (answeredOf x)
-answered-single x = refl
+pub replied-single : (x : Exchange) → Single (repliedOf x)
+replied-single x = refl
 
 pub repeated-single : (x : Exchange) → Single (repeatedOf x)
 repeated-single x = refl

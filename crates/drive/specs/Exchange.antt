@@ -13,8 +13,8 @@ abbrev pub sentOf : Command → Exchange
 sentOf c = record { command = c; awaiting = true; again = false }
 
 -- the reply is taken in
-abbrev pub answeredOf : Exchange → Exchange
-answeredOf x = record { command = x .command; awaiting = false; again = x .again }
+abbrev pub repliedOf : Exchange → Exchange
+repliedOf x = record { command = x .command; awaiting = false; again = x .again }
 
 -- 02/04/01 and 02/04/08: the next fetch gives the same command, and nothing else changes
 abbrev pub repeatedOf : Exchange → Exchange

@@ -28,7 +28,7 @@ pub fn code(c: Command) -> u8
 
 // The command's address; READ POSITION has none and gives 0.
 pub fn address(c: Command) -> Address
-    ensures { λ r. ⌜ r .0 ≡ commandAddress c ⌝ }
+    ensures { λ r. ⌜ r ≡ commandAddress c ⌝ }
 {
     match c {
         Command::Read(a) => a,

@@ -1,6 +1,6 @@
 // What a session has asked of the drive.
 ghost use mathlib.Core.Path.{_≡_};
-ghost use Rattle.drive.specs.Exchange.{unsent, sentOf, answeredOf, repeatedOf};
+ghost use Rattle.drive.specs.Exchange.{unsent, sentOf, repliedOf, repeatedOf};
 use crate::command::Command;
 
 pub struct Exchange {
@@ -36,8 +36,8 @@ impl Exchange {
     }
 
     // The reply is taken in.
-    pub fn answered(mut self) -> Exchange
-        ensures { λ r. ⌜ r ≡ answeredOf self ⌝ }
+    pub fn replied(mut self) -> Exchange
+        ensures { λ r. ⌜ r ≡ repliedOf self ⌝ }
     {
         self.awaiting = false;
         self

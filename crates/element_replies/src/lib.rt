@@ -3,10 +3,9 @@ ghost use mathlib.Core.Path.{_≡_};
 ghost use Prim.Native.Nat.{_-_, _≤_, _<_};
 ghost use Rattle.geometry.specs.Refusal.{refusalNumber};
 ghost use Rattle.elements.specs.Elements.{baseOf};
-ghost use Rattle.elements.specs.Reply.{steppedSaid, refusing, locatedOf, takenOf, confirmedOf, relocatedOf, notedOf, countedOf, failedOf, overflowedOf};
+ghost use Rattle.elements.specs.Reply.{steppedSaid, ending, locatedOf, takenOf, confirmedOf, relocatedOf, notedOf, countedOf, failedOf, overflowedOf};
 use elements::Elements;
 use elements::Stepped;
-use elements::trail_after;
 use geometry::Address;
 use geometry::Place;
 use geometry::Refusal;
@@ -14,8 +13,9 @@ use geometry::Verdict;
 use write_error::target;
 use write_error::target_address;
 
-fn refuse(e: Elements, refusal: Refusal) -> Stepped
-    ensures { λ r. ⌜ steppedSaid r ≡ refusing e (refusalNumber refusal) ⌝ }
+// A refusal that ends the session.
+fn end(e: Elements, refusal: Refusal) -> Stepped
+    ensures { λ r. ⌜ steppedSaid r ≡ ending e (refusalNumber refusal) ⌝ }
 {
     Stepped {
         elements: e,
@@ -47,12 +47,9 @@ fn confirmed(mut e: Elements, n: u16) -> Elements
     requires { ⌜ n ≤ e .outstanding ⌝ }
     ensures { λ r. ⌜ r ≡ confirmedOf e n ⌝ }
 {
-    let start = e.trail;
-    let marks = e.marks;
-    let first = e.first;
-    let base = e.base();
+    let trail = e.trail_after(n);
     let oldest = e.number(n);
-    e.trail = trail_after(start, marks, first, base, n);
+    e.trail = trail;
     e.first = oldest;
     e.pending = minus(e.pending, n);
     e.outstanding = e.outstanding - n;
@@ -74,7 +71,7 @@ pub fn counted(e: Elements, buffered: u32) -> Stepped
     ensures { λ r. ⌜ steppedSaid r ≡ countedOf e buffered ⌝ }
 {
     if (e.outstanding as u32) < buffered {
-        return refuse(e, Refusal::Reply);
+        return end(e, Refusal::Reply);
     }
     let n = e.outstanding - (buffered as u16);
     confirmed(e, n).keep()
@@ -97,15 +94,15 @@ pub fn failed(e: Elements, p: Address, skip: u8) -> Stepped
     let base = e.base();
     let next = e.next;
     if p.0 < base.0 {
-        return refuse(e, Refusal::Reply);
+        return end(e, Refusal::Reply);
     }
     if next.0 <= p.0 {
-        return refuse(e, Refusal::Reply);
+        return end(e, Refusal::Reply);
     }
     let place = target(p, skip, e.limit_due());
     match place {
         Place::At(t) => noted(e, p, t).keep(),
-        Place::Refused(r) => refuse(noted(e, p, target_address(p, skip)), r),
+        Place::Refused(r) => end(noted(e, p, target_address(p, skip)), r),
     }
 }
 

@@ -11,7 +11,7 @@ use Rattle.geometry.specs.declared.address.Seq.{Seq}
 use Rattle.elements.specs.declared.trail.Trail.{Trail}
 use Rattle.elements.specs.declared.elements.Elements.{Elements}
 use Rattle.elements.specs.Elements.{numberOf, baseOf, isMark}
-use Rattle.elements.specs.Trail.{trailOf, trailBefore}
+use Rattle.elements.specs.Trail.{trailOf, trailAfter, trailBefore}
 use Rattle.elements.specs.Reply.{confirmedOf}
 
 -- an element's number may wrap: 64 divides 2^32, so its mark's place stays
@@ -34,10 +34,9 @@ unfolding confirmedOf
 confirmed-trail e n h k =
     let oldest : e .next .0 - (e .outstanding - n) ≡ baseOf e .0 + n = omega arith in
     let all : n + (e .outstanding - n) ≡ e .outstanding = omega arith in
-    let before = trailOf (e .trail) (e .marks) (e .first) (baseOf e) n in
-    ap (λ (b : ℕ). trailOf before (e .marks) (numberOf e n) (asAddress b) (e .outstanding - n)) oldest
+    ap (λ (b : ℕ). trailOf (trailAfter e n) (e .marks) (numberOf e n) (asAddress b) (e .outstanding - n)) oldest
     ∙ trail-join (e .trail) (e .marks) (e .first) (baseOf e) n (e .outstanding - n)
-    ∙ ap (λ i. trailOf (e .trail) (e .marks) (e .first) (baseOf e) i) all
+    ∙ ap (trailAfter e) all
 
 pub confirmed-mark : (e : Elements) (n : ℕ) → n ≤ e .outstanding → isMark (confirmedOf e n) ≡ isMark e
 unfolding confirmedOf

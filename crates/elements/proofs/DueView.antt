@@ -9,12 +9,13 @@ use lib.Dec.{eqb, ltb, leb}
 use Rattle.geometry.proofs.PickLaws.{pick-by}
 use Rattle.drive.specs.Command.{write, locate, readPosition}
 use Rattle.elements.specs.declared.elements.Elements.{Elements}
+use Rattle.elements.specs.Elements.{limitOf}
 use Rattle.elements.specs.Due.{DueSaid, send, idle, refused, aboveEnd, mustConfirm, dueOf}
 use Rattle.geometry.proofs.TestLaws.{or-true, or-false, either-left, either-right, and-true, not-both}
 
 -- what rule 3 waits for
 abbrev pub Waits : ℕ → Elements → Type 0
-Waits depth e = (depth ≤ e .outstanding) ⊎ ((0 < e .outstanding) × ((e .next .0 ≡ 2990) ⊎ (e .limit .0 ≤ e .next .0)))
+Waits depth e = (depth ≤ e .outstanding) ⊎ ((0 < e .outstanding) × ((e .next .0 ≡ 2990) ⊎ (limitOf e .0 ≤ e .next .0)))
 
 pub data DueView (depth : ℕ) (e : Elements) : DueSaid → Type 0 where
   -- 1
@@ -25,11 +26,11 @@ pub data DueView (depth : ℕ) (e : Elements) : DueSaid → Type 0 where
   -- 3
   confirming : e .locate ≡ false → e .outstanding < e .pending → Waits depth e → DueView depth e (send readPosition)
   -- 4
-  full : e .locate ≡ false → e .outstanding < e .pending → e .outstanding ≡ 0 → e .limit .0 ≤ e .next .0 → DueView depth e (refused 9)
+  full : e .locate ≡ false → e .outstanding < e .pending → e .outstanding ≡ 0 → limitOf e .0 ≤ e .next .0 → DueView depth e (refused 9)
   -- 5
-  jumping : e .locate ≡ false → e .outstanding < e .pending → e .outstanding ≡ 0 → e .next .0 < e .limit .0 → e .next .0 ≡ 2990 → DueView depth e (send (locate 3000))
+  jumping : e .locate ≡ false → e .outstanding < e .pending → e .outstanding ≡ 0 → e .next .0 < limitOf e .0 → e .next .0 ≡ 2990 → DueView depth e (send (locate 3000))
   -- 6
-  writing : e .locate ≡ false → e .outstanding < e .pending → e .outstanding < depth → e .next .0 < e .limit .0 → (e .next .0 ≡ 2990 → ⊥) → DueView depth e (send (write (e .next .0)))
+  writing : e .locate ≡ false → e .outstanding < e .pending → e .outstanding < depth → e .next .0 < limitOf e .0 → (e .next .0 ≡ 2990 → ⊥) → DueView depth e (send (write (e .next .0)))
 
 module _ (depth : ℕ) (e : Elements) where
   -- the next address is 2,990 or above END

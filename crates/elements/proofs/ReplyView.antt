@@ -9,11 +9,11 @@ use Rattle.write_error.specs.WriteError.{targetAddress}
 use Rattle.geometry.proofs.PickLaws.{pick-by}
 use Rattle.elements.specs.declared.elements.Elements.{Elements}
 use Rattle.elements.specs.Elements.{baseOf, limitOf}
-use Rattle.elements.specs.Reply.{SteppedSaid, kept, refusing, confirmedOf, notedOf, fullOf, failedTo, countedOf, failedOf}
+use Rattle.elements.specs.Reply.{SteppedSaid, kept, ending, confirmedOf, notedOf, fullOf, failedTo, countedOf, failedOf}
 
 -- READ POSITION answered good, with f frames still buffered
 pub data CountedView (e : Elements) (f : ℕ) : SteppedSaid → Type 0 where
-  tooMany : e .outstanding < f → CountedView e f (refusing e 8)
+  tooMany : e .outstanding < f → CountedView e f (ending e 8)
   counted : f ≤ e .outstanding → CountedView e f (kept (confirmedOf e (e .outstanding - f)))
 
 pub counted-view : (e : Elements) (f : ℕ) → CountedView e f (countedOf e f)
@@ -23,10 +23,10 @@ counted-view e f =
 
 -- a write error at p
 pub data FailedView (e : Elements) (p : Address) (skip : ℕ) : SteppedSaid → Type 0 where
-  tooLow : p .0 < baseOf e .0 → FailedView e p skip (refusing e 8)
-  tooHigh : e .next .0 ≤ p .0 → FailedView e p skip (refusing e 8)
+  tooLow : p .0 < baseOf e .0 → FailedView e p skip (ending e 8)
+  tooHigh : e .next .0 ≤ p .0 → FailedView e p skip (ending e 8)
   failed : baseOf e .0 ≤ p .0 → p .0 < e .next .0 → targetAddress p skip < limitOf e .0 → FailedView e p skip (kept (notedOf e p (asAddress (targetAddress p skip))))
-  full : baseOf e .0 ≤ p .0 → p .0 < e .next .0 → limitOf e .0 ≤ targetAddress p skip → FailedView e p skip (refusing (fullOf e p skip) 9)
+  full : baseOf e .0 ≤ p .0 → p .0 < e .next .0 → limitOf e .0 ≤ targetAddress p skip → FailedView e p skip (ending (fullOf e p skip) 9)
 
 pub failed-view : (e : Elements) (p : Address) (skip : ℕ) → FailedView e p skip (failedOf e p skip)
 unfolding failedOf

@@ -1,22 +1,18 @@
--- One turn of the filemarks before a frame, and where a mark stands. Assumes nothing.
-use Prim.Native.Nat.{ℕ, _+_, _%_}
+-- One turn of the filemarks before a frame. Assumes nothing.
+use Prim.Native.Nat.{ℕ, _+_, _%_, _^_}
 use mathlib.Core.Path.{_≡_, ap}
 use mathlib.Core.Bool.{Bool, false}
 use mathlib.Core.List.{List}
-use native.Mathlib.Nat.{mod-add-mod}
 use native.Mathlib.Numerals.{add-one}
 use lib.ListN.{getD}
+use Rattle.geometry.specs.Place.{asAddress}
 use Rattle.geometry.specs.Pick.{pick}
 use Rattle.geometry.specs.declared.address.Address.{Address}
 use Rattle.geometry.specs.declared.address.Seq.{Seq}
 use Rattle.elements.specs.declared.trail.Trail.{Trail}
 use Rattle.elements.specs.Trail.{marked, trailOf}
 
--- the code's place of a mark is the definition's
-pub place-same : (first n : ℕ) → (first % 64 + n) % 64 ≡ (first + n) % 64
-place-same first n = mod-add-mod first 64 n
-
 -- one element more
-pub trail-step : (start : Trail) (marks : List Bool) (first : Seq) (base : Address) (n : ℕ) → trailOf start marks first base (n + 1) ≡ pick (getD marks ((first .0 + n) % 64) false) (marked (trailOf start marks first base n) (base .0 + n)) (trailOf start marks first base n)
+pub trail-step : (start : Trail) (marks : List Bool) (first : Seq) (base : Address) (n : ℕ) → trailOf start marks first base (n + 1) ≡ pick (getD marks ((first .0 + n) % 64) false) (marked (trailOf start marks first base n) (asAddress ((base .0 + n) % 2 ^ 32))) (trailOf start marks first base n)
 unfolding trailOf
 trail-step start marks first base n = ap (λ k. trailOf start marks first base k) (add-one n)

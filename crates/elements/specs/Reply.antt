@@ -11,7 +11,7 @@ use Rattle.geometry.specs.declared.address.Address.{Address}
 use Rattle.elements.specs.declared.elements.Elements.{Elements}
 use Rattle.elements.specs.declared.reply.Stepped.{Stepped}
 use Rattle.elements.specs.Elements.{numberOf, baseOf, limitOf}
-use Rattle.elements.specs.Trail.{trailOf}
+use Rattle.elements.specs.Trail.{trailAfter}
 
 -- the elements after a reply, and the number of its refusal, 0 if it is not refused
 pub record SteppedSaid : Type 0 where
@@ -24,8 +24,9 @@ steppedSaid s = record { elements = s .elements; number = verdictNumber (s .verd
 abbrev pub kept : Elements → SteppedSaid
 kept e = record { elements = e; number = 0 }
 
-abbrev pub refusing : Elements → ℕ → SteppedSaid
-refusing e n = record { elements = e; number = n }
+-- a refusal that ends the session
+abbrev pub ending : Elements → ℕ → SteppedSaid
+ending e n = record { elements = e; number = n }
 
 -- a LOCATE answered good: writing goes on at its address
 abbrev pub locatedOf : Elements → Address → Elements
@@ -46,7 +47,7 @@ confirmedOf e n = record {
   locate = e .locate;
   target = e .target;
   eod = e .eod;
-  trail = trailOf (e .trail) (e .marks) (e .first) (baseOf e) n;
+  trail = trailAfter e n;
   marks = e .marks;
 }
 
@@ -56,7 +57,7 @@ relocatedOf e t = record { first = e .first; pending = e .pending; outstanding =
 
 -- READ POSITION answered good, with f frames still buffered: outstanding becomes f, oldest confirmed first
 unfoldable pub countedOf : Elements → ℕ → SteppedSaid
-countedOf e f = pick (ltb (e .outstanding) f) (refusing e 8) (kept (confirmedOf e (e .outstanding - f)))
+countedOf e f = pick (ltb (e .outstanding) f) (ending e 8) (kept (confirmedOf e (e .outstanding - f)))
 
 -- a write error at p with target t is noted: frames before p are confirmed, from p on they are due again, at t
 abbrev pub notedOf : Elements → Address → Address → Elements
@@ -69,13 +70,13 @@ fullOf e p skip = notedOf e p (asAddress (targetAddress p skip % 2 ^ 32))
 -- no room at the target: refusal 9, behind the error noted
 abbrev pub failedTo : Elements → Address → ℕ → place.PlaceSaid → SteppedSaid
 failedTo e p skip (place.address t) = kept (notedOf e p (asAddress t))
-failedTo e p skip (place.refused n) = refusing (fullOf e p skip) n
+failedTo e p skip (place.refused n) = ending (fullOf e p skip) n
 
 -- p must be outstanding
 unfoldable pub failedOf : Elements → Address → ℕ → SteppedSaid
 failedOf e p skip =
-    pick (ltb (p .0) (baseOf e .0)) (refusing e 8)
-    (pick (leb (e .next .0) (p .0)) (refusing e 8)
+    pick (ltb (p .0) (baseOf e .0)) (ending e 8)
+    (pick (leb (e .next .0) (p .0)) (ending e 8)
     (failedTo e p skip (targetOf p skip (limitOf e))))
 
 -- volume overflow on a WRITE at a: END becomes a − 1

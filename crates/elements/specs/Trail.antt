@@ -16,15 +16,20 @@ abbrev pub noTrail : Trail
 noTrail = record { filemarks = 0; marker = asAddress 0xFFFFFFFF }
 
 -- behind a marker at an address
-abbrev pub marked : Trail → ℕ → Trail
-marked t a = record { filemarks = (t .filemarks + 1) % 2 ^ 32; marker = asAddress a }
+abbrev pub marked : Trail → Address → Trail
+marked t a = record { filemarks = (t .filemarks + 1) % 2 ^ 32; marker = a }
 
--- what stands before element first + n, given what stands before element first, where the elements between lie from an address on
+-- what stands before element first + n, given what stands before element first, where the elements between lie from an address on;
+-- addresses wrap, too, in a session that no call returned
 unfoldable pub trailOf : Trail → List Bool → Seq → Address → ℕ → Trail
 trailOf start marks first base zero = start
 trailOf start marks first base (suc n) =
-    pick (getD marks ((first .0 + n) % 64) false) (marked (trailOf start marks first base n) (base .0 + n)) (trailOf start marks first base n)
+    pick (getD marks ((first .0 + n) % 64) false) (marked (trailOf start marks first base n) (asAddress ((base .0 + n) % 2 ^ 32))) (trailOf start marks first base n)
 
--- what stands before the next element to be written: the outstanding ones count, at their present addresses
+-- what stands before the element n behind the oldest that is not known to be on tape: those between count, at their present addresses
+abbrev pub trailAfter : Elements → ℕ → Trail
+trailAfter e n = trailOf (e .trail) (e .marks) (e .first) (baseOf e) n
+
+-- before the next element to be written
 abbrev pub trailBefore : Elements → Trail
-trailBefore e = trailOf (e .trail) (e .marks) (e .first) (baseOf e) (e .outstanding)
+trailBefore e = trailAfter e (e .outstanding)

@@ -1,10 +1,10 @@
 // What a recording knows of its elements.
 ghost use mathlib.Core.Path.{_≡_};
 ghost use Rattle.elements.specs.Elements.{startOf, numberOf, acceptedOf, eodDue, baseOf, isMark, kindOf, limitOf};
-ghost use Rattle.elements.specs.Trail.{trailBefore};
+ghost use Rattle.elements.specs.Trail.{trailAfter};
 use crate::trail::Trail;
 use crate::trail::mark_place;
-use crate::trail::trail_after;
+use crate::trail::trail_of;
 use frame::Kind;
 use geometry::Address;
 use geometry::Seq;
@@ -110,14 +110,14 @@ impl Elements {
         Kind::Data
     }
 
-    // The filemarks before the next element to be written, the outstanding ones at their present addresses.
-    pub fn trail(self) -> Trail
-        ensures { λ r. ⌜ r ≡ trailBefore self ⌝ }
+    // The filemarks before the element n behind the oldest that is not known to be on tape, those between at their present addresses.
+    pub fn trail_after(self, n: u16) -> Trail
+        ensures { λ r. ⌜ r ≡ trailAfter self n ⌝ }
     {
         let start = self.trail;
         let marks = self.marks;
         let first = self.first;
         let base = self.base();
-        trail_after(start, marks, first, base, self.outstanding)
+        trail_of(start, marks, first, base, n)
     }
 }

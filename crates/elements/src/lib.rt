@@ -9,4 +9,3 @@ pub use elements::Elements;
 pub use reply::Stepped;
 pub use trail::Trail;
 pub use trail::no_trail;
-pub use trail::trail_after;

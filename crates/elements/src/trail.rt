@@ -1,6 +1,6 @@
 // The filemarks before a frame.
 ghost use mathlib.Core.Path.{_≡_};
-ghost use Prim.Native.Nat.{_+_, _%_, _≤_, _^_};
+ghost use Prim.Native.Nat.{_+_, _%_};
 ghost use Rattle.elements.specs.Trail.{noTrail, trailOf};
 use geometry::Address;
 use geometry::Seq;
@@ -29,8 +29,7 @@ pub(crate) fn mark_place(first: Seq, n: u16) -> usize
 }
 
 // What stands before element `first + n`, given what stands before element `first` and that the elements between lie from address `base` on.
-pub fn trail_after(start: Trail, marks: [bool; 64], first: Seq, base: Address, n: u16) -> Trail
-    requires { ⌜ base .0 + n ≤ 2 ^ 32 ⌝ }
+pub(crate) fn trail_of(start: Trail, marks: [bool; 64], first: Seq, base: Address, n: u16) -> Trail
     ensures { λ r. ⌜ r ≡ trailOf start marks first base n ⌝ }
 {
     let mut filemarks = start.filemarks;
@@ -39,7 +38,7 @@ pub fn trail_after(start: Trail, marks: [bool; 64], first: Seq, base: Address, n
     while i < n {
         if marks[mark_place(first, i)] {
             filemarks = std::num::wrapping_add_u32(filemarks, 1);
-            marker = base.0 + (i as u32);
+            marker = std::num::wrapping_add_u32(base.0, i as u32);
         }
         i += 1;
     }

@@ -24,7 +24,7 @@ abbrev pub isCommand : AdrCommand → Bool
 isCommand c = ((eqb (c .code) 0x08 || eqb (c .code) 0x0A) || eqb (c .code) 0x2B) || (eqb (c .code) 0x34 && eqb (c .address) 0)
 
 abbrev pub commandTwin : Command → AdrCommand
-commandTwin c = record { code = commandCode c; address = commandAddress c }
+commandTwin c = record { code = commandCode c; address = commandAddress c .0 }
 
 -- an exchange: its command, and two flags
 abbrev pub isExchange : AdrExchange → Bool

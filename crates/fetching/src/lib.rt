@@ -51,7 +51,7 @@ pub fn fetch(mut s: State, window: &[u8], frame: &mut [u8]) -> Fetched
     if s.ended | exchange.awaiting {
         return refuse_fetch(s, Refusal::Phase);
     }
-    if window.len() != s.window() * DATA_LENGTH {
+    if window.len() != s.blocks() * DATA_LENGTH {
         return refuse_fetch(s, Refusal::Length);
     }
     if frame.len() != FRAME_LENGTH {

@@ -21,7 +21,7 @@ fn element(s: State) -> Element
     let elements = s.elements;
     let header = copies.header;
     let last = header.last;
-    let trail = elements.trail();
+    let trail = elements.trail_after(elements.outstanding);
     let marker = trail.marker;
     Element {
         kind: elements.kind(),
@@ -39,7 +39,7 @@ fn element_place(s: State) -> usize
 {
     let elements = s.elements;
     let number = elements.number(elements.outstanding);
-    (number.0 as usize) % s.window()
+    (number.0 as usize) % s.blocks()
 }
 
 fn fill_element(s: State, window: &[u8], frame: &mut [u8])

@@ -58,42 +58,42 @@ fn refuse_opening(refusal: Refusal) -> Outcome
 }
 
 // Refusal 4 for the sizes, then 5; else a session with this header.
-fn open_with(depth: u8, window: u8, exhausted: bool, header: Header) -> Outcome
-    ensures { λ r. ⌜ outcomeSaid r ≡ openWith depth window exhausted header ⌝ }
+fn open_with(depth: u8, blocks: u8, exhausted: bool, header: Header) -> Outcome
+    ensures { λ r. ⌜ outcomeSaid r ≡ openWith depth blocks exhausted header ⌝ }
 {
     if depth == 0 {
         return refuse_opening(Refusal::Capacity);
     }
-    if window == 0 {
+    if blocks == 0 {
         return refuse_opening(Refusal::Capacity);
     }
-    if 64 < window {
+    if 64 < blocks {
         return refuse_opening(Refusal::Capacity);
     }
     if exhausted {
         return refuse_opening(Refusal::Exhausted);
     }
-    fresh_session(depth, window - 1, header).accepted()
+    fresh_session(depth, blocks - 1, header).accepted()
 }
 
-// On the newest header of the cartridge, for a drive that buffers `depth` frames, with a window of `window` blocks.
-pub fn open(g: Geometry, depth: u8, window: u8, header: &[u8]) -> Outcome
-    ensures { λ r. ⌜ outcomeSaid r ≡ openOf g depth window (now (header .entry)) ⌝ }
+// On the newest header of the cartridge, for a drive that buffers `depth` frames, with a window of `blocks` blocks.
+pub fn open(g: Geometry, depth: u8, blocks: u8, header: &[u8]) -> Outcome
+    ensures { λ r. ⌜ outcomeSaid r ≡ openOf g depth blocks (now (header .entry)) ⌝ }
 {
     let checked = read_header(g, header);
     match checked {
-        Checked::Valid(old) => open_with(depth, window, is_exhausted(old), renew(old)),
+        Checked::Valid(old) => open_with(depth, blocks, is_exhausted(old), renew(old)),
         Checked::Refused(r) => refuse_opening(r),
     }
 }
 
 // On a cartridge that holds no valid header.
-pub fn open_blank(g: Geometry, depth: u8, window: u8) -> Outcome
-    ensures { λ r. ⌜ outcomeSaid r ≡ openBlankOf g depth window ⌝ }
+pub fn open_blank(g: Geometry, depth: u8, blocks: u8) -> Outcome
+    ensures { λ r. ⌜ outcomeSaid r ≡ openBlankOf g depth blocks ⌝ }
 {
     let place = g.last();
     match place {
-        Place::At(last) => { open_with(depth, window, false, blank_header(last)) }
+        Place::At(last) => { open_with(depth, blocks, false, blank_header(last)) }
         Place::Refused(r) => refuse_opening(r),
     }
 }

@@ -1,5 +1,6 @@
 // Fetching the next command. The public calls are the methods of `reading`.
 ghost use mathlib.Core.Path.{_≡_};
+ghost use Rattle.drive.specs.Command.{commandSaid};
 ghost use Rattle.reading_state.specs.Fetch.{commandOf, fetchedSaid, sending, fetchOf};
 use drive::Command;
 use drive::Exchange;
@@ -13,7 +14,7 @@ use reading_state::State;
 
 // The command that is due where the next address is not above LAST.
 fn due(s: State) -> Command
-    ensures { λ r. ⌜ r ≡ commandOf s ⌝ }
+    ensures { λ r. ⌜ commandSaid r ≡ commandOf s ⌝ }
 {
     let next = s.next;
     if s.locate {

@@ -61,7 +61,7 @@ pub fn reply(s: State, reply: Reply, frame: &[u8]) -> Taken
     let case = case_of(c, reply);
     match case {
         // LOCATE and READ, 02/04/01 and 02/04/08: the same command again
-        LOCATE_BUSY | READ_BUSY => s.repeated().taken(Delivery::Nothing),
+        LOCATE_BUSY | READ_BUSY => s.repeated().deliver(Delivery::Nothing),
         // LOCATE, good
         LOCATE_GOOD => s.located(),
         // READ, good or 01/17/01: a frame

@@ -10,6 +10,7 @@ use lib.Dec.{lit<}
 use Rattle.geometry.specs.Cartridge.{pastReserved}
 use Rattle.geometry.specs.declared.address.Address.{Address}
 use Rattle.geometry.proofs.PastReserved.{past-reserved-least, past-reserved-below}
+use Rattle.drive.specs.Cases.{caseNumber}
 use Rattle.drive.specs.Command.{commandCode}
 use Rattle.drive.specs.Senses.{busy, meaningOf}
 use Rattle.drive.specs.declared.command.Command.the-variants.{Read}
@@ -37,10 +38,10 @@ module _ (s : State) where
       go (fetching.reads _ _ _ _) = refl
 
   -- what the laws below ask of a command holds of every one that is fetched, but that one given again must have had it
-  pub fetch-ahead : (s .exchange .again ≡ true → s .next .0 ≤ addressOf s) → (code address : ℕ) → fetchOf s .said ≡ command code address → fetchOf s .session .next .0 ≤ addressOf (fetchOf s .session)
+  pub fetch-ahead : (s .exchange .again ≡ true → s .next .0 ≤ addressOf s .0) → (code address : ℕ) → fetchOf s .said ≡ command code address → fetchOf s .session .next .0 ≤ addressOf (fetchOf s .session) .0
   fetch-ahead again code address = go (fetching.fetch-view s)
     where
-      go : {f : FetchedSaid} → fetching.FetchView s f → f .said ≡ command code address → f .session .next .0 ≤ addressOf (f .session)
+      go : {f : FetchedSaid} → fetching.FetchView s f → f .said ≡ command code address → f .session .next .0 ≤ addressOf (f .session) .0
       go (fetching.wrong-phase _) e = never (cc)
       go (fetching.ends _ _ _) e = never (cc)
       go (fetching.past-last _ _ _ _) e = never (cc)
@@ -50,15 +51,15 @@ module _ (s : State) where
       go (fetching.reads _ _ _ _) e = omega arith
 
 -- a command at the next address or behind it, a jump's length below the end of the addresses
-module _ (s : State) (ahead : s .next .0 ≤ addressOf s) (below : addressOf s + 32 < 2 ^ 32) where
-  grows : {n : ℕ} → addressOf s < n → n < 2 ^ 32 → s .next .0 < n % 2 ^ 32
+module _ (s : State) (ahead : s .next .0 ≤ addressOf s .0) (below : addressOf s .0 + 32 < 2 ^ 32) where
+  grows : {n : ℕ} → addressOf s .0 < n → n < 2 ^ 32 → s .next .0 < n % 2 ^ 32
   grows {n} from h = rw (mod-eq-of-lt h) (omega arith)
 
-  one-further : s .next .0 < (addressOf s + 1) % 2 ^ 32
+  one-further : s .next .0 < (addressOf s .0 + 1) % 2 ^ 32
   one-further = grows (omega arith) (omega arith)
 
-  jumps : s .next .0 < pastReserved (addressOf s + 32) % 2 ^ 32
-  jumps = grows (omega (arith, past-reserved-least (addressOf s + 32))) (past-reserved-below (addressOf s + 32) below)
+  jumps : s .next .0 < pastReserved (addressOf s .0 + 32) % 2 ^ 32
+  jumps = grows (omega (arith, past-reserved-least (addressOf s .0 + 32))) (past-reserved-below (addressOf s .0 + 32) below)
 
   judged-at-least : (j : judgement.JudgementSaid) → s .next .0 ≤ judgedBy j s .session .next .0
   judged-at-least judgement.skipped = omega (arith, one-further)
@@ -93,7 +94,7 @@ module _ (s : State) (ahead : s .next .0 ≤ addressOf s) (below : addressOf s +
     pub read-further : {a : Address} → s .exchange .command ≡ Read a → (meaningOf (r .key) (r .asc) (r .ascq) ≡ busy → ⊥) → ((n : ℕ) → replyOf s r frame .said ≡ refused n → ⊥) → s .next .0 < replyOf s r frame .session .next .0
     read-further read not-busy = go (replying.reply-view s r frame)
       where
-        not-locate : (meaning : ℕ) → meaning < 256 → caseOf s r ≡ 0x2B00 + meaning → ⊥
+        not-locate : (meaning : ℕ) → meaning < 256 → caseOf s r ≡ caseNumber 0x2B meaning → ⊥
         not-locate meaning h e = omega (arith, case-parts s r 0x2B meaning h e .0, ap commandCode read)
 
         go : {t : TakenSaid} → replying.ReplyView s r frame t → ((n : ℕ) → t .said ≡ refused n → ⊥) → s .next .0 < t .session .next .0

@@ -8,10 +8,11 @@ use borrow.Author.Tests.{eqb-true, eqb-false, eq-eqb, not-true, not-false}
 use lib.Dec.{eqb}
 use lib.ListN.{length}
 use Rattle.geometry.proofs.PickLaws.{pick-by}
+use Rattle.drive.specs.Cases.{locateGood, locateBusy, readGood, readBusy, readRecovered, readUnreadable, readEndOfData, readEndOfMedium}
 use Rattle.drive.specs.declared.reply.Reply.{Reply}
 use Rattle.judgement.specs.Judgement.{JudgementSaid, judgeFrame}
 use Rattle.reading_state.specs.declared.state.State.{State}
-use Rattle.reading_state.specs.Reply.{nothing, TakenSaid, answering, refusing, ending, repeatedOf, locatedOf, skippedOf, judgedBy, judgedOf, jumpedOf, caseOf, replyBy, replyOf}
+use Rattle.reading_state.specs.Reply.{nothing, TakenSaid, delivering, refusing, ending, repeatedOf, locatedOf, skippedOf, judgedBy, judgedOf, jumpedOf, caseOf, replyBy, replyOf}
 use Rattle.geometry.proofs.TestLaws.{or-true, or-false}
 use Rattle.geometry.proofs.NumberTests.{is-one, is-neither}
 
@@ -27,24 +28,24 @@ pub record Taken (s : State) (frame : List ℕ) : Type 0 where
 
 -- none of the cases that are listed for a reading's commands
 pub record Unlisted (n : ℕ) : Type 0 where
-  pub locate-busy : n ≡ 0x2B02 → ⊥
-  pub read-busy : n ≡ 0x0802 → ⊥
-  pub locate-good : n ≡ 0x2B01 → ⊥
-  pub read-good : n ≡ 0x0801 → ⊥
-  pub read-recovered : n ≡ 0x0805 → ⊥
-  pub read-unreadable : n ≡ 0x0806 → ⊥
-  pub read-end-of-data : n ≡ 0x0807 → ⊥
-  pub read-end-of-medium : n ≡ 0x0808 → ⊥
+  pub locate-busy : n ≡ locateBusy → ⊥
+  pub read-busy : n ≡ readBusy → ⊥
+  pub locate-good : n ≡ locateGood → ⊥
+  pub read-good : n ≡ readGood → ⊥
+  pub read-recovered : n ≡ readRecovered → ⊥
+  pub read-unreadable : n ≡ readUnreadable → ⊥
+  pub read-end-of-data : n ≡ readEndOfData → ⊥
+  pub read-end-of-medium : n ≡ readEndOfMedium → ⊥
 
 pub data ReplyView (s : State) (r : Reply) (frame : List ℕ) : TakenSaid → Type 0 where
   wrong-phase : (s .ended ≡ true) ⊎ (s .exchange .awaiting ≡ false) → ReplyView s r frame (refusing s 7)
   wrong-length : Awaited s → (length frame ≡ 33280 → ⊥) → ReplyView s r frame (refusing s 1)
-  busy : Taken s frame → (caseOf s r ≡ 0x2B02) ⊎ (caseOf s r ≡ 0x0802) → ReplyView s r frame (answering (repeatedOf s) nothing)
-  located : Taken s frame → caseOf s r ≡ 0x2B01 → ReplyView s r frame (locatedOf s)
-  judged : Taken s frame → (caseOf s r ≡ 0x0801) ⊎ (caseOf s r ≡ 0x0805) → (j : JudgementSaid) → judgeFrame (s .told) (s .expected) frame ≡ j → ReplyView s r frame (judgedBy j s)
-  unreadable : Taken s frame → caseOf s r ≡ 0x0806 → ReplyView s r frame (skippedOf s)
-  end-of-data : Taken s frame → caseOf s r ≡ 0x0807 → ReplyView s r frame (jumpedOf s)
-  end-of-medium : Taken s frame → caseOf s r ≡ 0x0808 → ReplyView s r frame (ending s 12)
+  busy : Taken s frame → (caseOf s r ≡ locateBusy) ⊎ (caseOf s r ≡ readBusy) → ReplyView s r frame (delivering (repeatedOf s) nothing)
+  located : Taken s frame → caseOf s r ≡ locateGood → ReplyView s r frame (locatedOf s)
+  judged : Taken s frame → (caseOf s r ≡ readGood) ⊎ (caseOf s r ≡ readRecovered) → (j : JudgementSaid) → judgeFrame (s .told) (s .expected) frame ≡ j → ReplyView s r frame (judgedBy j s)
+  unreadable : Taken s frame → caseOf s r ≡ readUnreadable → ReplyView s r frame (skippedOf s)
+  end-of-data : Taken s frame → caseOf s r ≡ readEndOfData → ReplyView s r frame (jumpedOf s)
+  end-of-medium : Taken s frame → caseOf s r ≡ readEndOfMedium → ReplyView s r frame (ending s 12)
   unlisted : Taken s frame → Unlisted (caseOf s r) → ReplyView s r frame (ending s 8)
 
 module _ (s : State) (r : Reply) (frame : List ℕ) where
@@ -55,12 +56,12 @@ module _ (s : State) (r : Reply) (frame : List ℕ) where
   unfolding replyBy judgedOf
   case-view taken =
       let n = caseOf s r in
-      pick-by View (eqb n 0x2B02 || eqb n 0x0802) (λ waits. busy taken (is-one n _ _ waits))
-      (λ waits. pick-by View (eqb n 0x2B01) (λ locates. located taken (eqb-true _ _ locates))
-      (λ locates. pick-by View (eqb n 0x0801 || eqb n 0x0805) (λ brings. judged taken (is-one n _ _ brings) _ refl)
-      (λ brings. pick-by View (eqb n 0x0806) (λ misses. unreadable taken (eqb-true _ _ misses))
-      (λ misses. pick-by View (eqb n 0x0807) (λ blanks. end-of-data taken (eqb-true _ _ blanks))
-      (λ blanks. pick-by View (eqb n 0x0808) (λ ends. end-of-medium taken (eqb-true _ _ ends))
+      pick-by View (eqb n locateBusy || eqb n readBusy) (λ waits. busy taken (is-one n _ _ waits))
+      (λ waits. pick-by View (eqb n locateGood) (λ locates. located taken (eqb-true _ _ locates))
+      (λ locates. pick-by View (eqb n readGood || eqb n readRecovered) (λ brings. judged taken (is-one n _ _ brings) _ refl)
+      (λ brings. pick-by View (eqb n readUnreadable) (λ misses. unreadable taken (eqb-true _ _ misses))
+      (λ misses. pick-by View (eqb n readEndOfData) (λ blanks. end-of-data taken (eqb-true _ _ blanks))
+      (λ blanks. pick-by View (eqb n readEndOfMedium) (λ ends. end-of-medium taken (eqb-true _ _ ends))
       (λ ends.
       let not-waits = is-neither n _ _ waits in
       let not-brings = is-neither n _ _ brings in

@@ -5,10 +5,9 @@ use lib.Dec.{eqb, ltb}
 use Rattle.geometry.specs.Pick.{pick}
 use Rattle.geometry.specs.Refusal.{refusalNumber}
 use Rattle.geometry.specs.Cartridge.{secondGroup, secondUser}
-use Rattle.drive.specs.Command.{commandCode, commandAddress}
+use Rattle.drive.specs.Command.{CommandSaid, commandSaid, commandFor, read, locate}
 use Rattle.drive.specs.Exchange.{sentOf}
 use Rattle.drive.specs.declared.command.Command.{Command}
-use Rattle.drive.specs.declared.command.Command.the-variants.{Read, Locate}
 use Rattle.reading_state.specs.declared.state.State.{State}
 use Rattle.reading_state.specs.declared.state.Fetched.{Fetched}
 use Rattle.reading_state.specs.declared.state.Answer.{Answer}
@@ -16,10 +15,10 @@ use Rattle.reading_state.specs.declared.state.Answer.the-variants as A
 use Rattle.reading_state.specs.State.{withExchange, endedOf}
 
 -- LOCATE 10 at first, and LOCATE after 08/00/05; before 2,990 LOCATE 3,000; else READ
-unfoldable pub commandOf : State → Command
+unfoldable pub commandOf : State → CommandSaid
 commandOf s =
-    pick (s .locate) (Locate (s .next))
-    (pick (eqb (s .next .0) secondGroup) (Locate (record { 0 = secondUser })) (Read (s .next)))
+    pick (s .locate) (locate (s .next .0))
+    (pick (eqb (s .next .0) secondGroup) (locate secondUser) (read (s .next .0)))
 
 -- what a fetch answers: a command by its operation code and address, the end, or a refusal by its number
 pub data AnswerSaid : Type 0 where
@@ -27,8 +26,12 @@ pub data AnswerSaid : Type 0 where
   end : AnswerSaid
   refused : ℕ → AnswerSaid
 
+-- the fetch gives a command
+abbrev pub giving : CommandSaid → AnswerSaid
+giving x = command (x .code) (x .address)
+
 abbrev pub answerSaid : Answer → AnswerSaid
-answerSaid (A.Command c) = command (commandCode c) (commandAddress c)
+answerSaid (A.Command c) = giving (commandSaid c)
 answerSaid A.End = end
 answerSaid (A.Refused r) = refused (refusalNumber r)
 
@@ -44,7 +47,7 @@ abbrev pub awaits : State → Command → State
 awaits s c = withExchange s (sentOf c)
 
 abbrev pub sending : State → Command → FetchedSaid
-sending s c = record { session = awaits s c; said = command (commandCode c) (commandAddress c) }
+sending s c = record { session = awaits s c; said = giving (commandSaid c) }
 
 -- refusal 7 where the session has ended or a reply is awaited; after busy the same command, whichever rule then applies;
 -- the end, said again at each fetch; next address above LAST: refusal 12
@@ -54,4 +57,4 @@ fetchOf s =
     (pick (s .exchange .again) (sending s (s .exchange .command))
     (pick (s .finished) (record { session = s; said = end })
     (pick (ltb (s .told .last .0) (s .next .0)) (record { session = endedOf s; said = refused 12 })
-    (sending s (commandOf s)))))
+    (sending s (commandFor (commandOf s))))))

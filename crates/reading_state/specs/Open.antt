@@ -40,7 +40,7 @@ fresh told = record {
 
 -- a refused opening returns a session that has ended
 abbrev pub openRefused : ℕ → OpenedSaid
-openRefused n = record { session = endedOf (fresh (record { last = record { 0 = 0 }; pass = 0 })); number = n }
+openRefused n = record { session = endedOf (fresh (record { last = asAddress 0; pass = 0 })); number = n }
 
 -- a header that is valid gives its fields; any other is refused with 1, 2 or 3
 abbrev pub openFor : CheckedSaid → OpenedSaid

@@ -4,6 +4,7 @@ use mathlib.Core.Bool.{Bool, true, false, _||_, not}
 use mathlib.Core.List.{List}
 use lib.Dec.{eqb}
 use lib.ListN.{length}
+use Rattle.geometry.specs.Place.{asAddress}
 use Rattle.geometry.specs.Pick.{pick}
 use Rattle.geometry.specs.Refusal.{refusalNumber}
 use Rattle.geometry.specs.Cartridge.{pastReserved}
@@ -44,23 +45,23 @@ abbrev pub takenSaid : Taken → TakenSaid
 takenSaid t = record { session = t .session; said = deliverySaid (t .delivery) }
 
 -- a session beside what it answers
-abbrev pub answering : State → DeliverySaid → TakenSaid
-answering s said = record { session = s; said = said }
+abbrev pub delivering : State → DeliverySaid → TakenSaid
+delivering s said = record { session = s; said = said }
 
 -- refusals 1 to 7: session unchanged; 8 to 12: session ended
 abbrev pub refusing : State → ℕ → TakenSaid
-refusing s n = answering s (refused n)
+refusing s n = delivering s (refused n)
 
 abbrev pub ending : State → ℕ → TakenSaid
-ending s n = answering (endedOf s) (refused n)
+ending s n = delivering (endedOf s) (refused n)
 
 -- the address of the command
-abbrev pub addressOf : State → ℕ
+abbrev pub addressOf : State → Address
 addressOf s = commandAddress (s .exchange .command)
 
 -- a number as an address; it wraps only in a session that no call returned
 abbrev pub wrapped : ℕ → Address
-wrapped n = record { 0 = n % 2 ^ 32 }
+wrapped n = asAddress (n % 2 ^ 32)
 
 -- busy: the next fetch gives the same command; nothing else changes
 abbrev pub repeatedOf : State → State
@@ -68,27 +69,27 @@ repeatedOf s = withExchange s (exchange.repeatedOf (s .exchange))
 
 -- the reply is taken in, and reading goes on at an address, with a LOCATE of it or without
 abbrev pub movedOf : State → Address → Bool → State
-movedOf s next locate = withNext (withExchange s (exchange.answeredOf (s .exchange))) next locate
+movedOf s next locate = withNext (withExchange s (exchange.repliedOf (s .exchange))) next locate
 
 -- one address further
 abbrev pub advancedOf : State → State
-advancedOf s = movedOf s (wrapped (addressOf s + 1)) (s .locate)
+advancedOf s = movedOf s (wrapped (addressOf s .0 + 1)) (s .locate)
 
 -- a LOCATE answered good
 abbrev pub locatedOf : State → TakenSaid
-locatedOf s = answering (movedOf s (record { 0 = addressOf s }) false) nothing
+locatedOf s = delivering (movedOf s (addressOf s) false) nothing
 
 -- passed over, or unreadable
 abbrev pub skippedOf : State → TakenSaid
-skippedOf s = answering (advancedOf s) nothing
+skippedOf s = delivering (advancedOf s) nothing
 
 -- an element delivered, and the next number expected
 abbrev pub deliveredOf : State → DeliverySaid → TakenSaid
-deliveredOf s said = answering (withExpected (advancedOf s) (record { 0 = (s .expected .0 + 1) % 2 ^ 32 })) said
+deliveredOf s said = delivering (withExpected (advancedOf s) (record { 0 = (s .expected .0 + 1) % 2 ^ 32 })) said
 
 -- EOD ends reading
 abbrev pub finishedOf : State → TakenSaid
-finishedOf s = answering (withEnd (advancedOf s)) end
+finishedOf s = delivering (withEnd (advancedOf s)) end
 
 -- a frame that was read, by its judgement
 abbrev pub judgedBy : judgement.JudgementSaid → State → TakenSaid
@@ -103,7 +104,7 @@ judgedOf s frame = judgedBy (judgement.judgeFrame (s .told) (s .expected) frame)
 
 -- after 08/00/05 at address a, LOCATE a + 32, 2,990 to 2,999 becoming 3,000
 abbrev pub jumpedOf : State → TakenSaid
-jumpedOf s = answering (movedOf s (wrapped (pastReserved (addressOf s + 32))) true) nothing
+jumpedOf s = delivering (movedOf s (wrapped (pastReserved (addressOf s .0 + 32))) true) nothing
 
 abbrev pub caseOf : State → Reply → ℕ
 caseOf s r = cases.caseOf (s .exchange .command) r
@@ -112,7 +113,7 @@ caseOf s r = cases.caseOf (s .exchange .command) r
 unfoldable pub replyBy : State → ℕ → List ℕ → TakenSaid
 replyBy s n frame =
     -- LOCATE and READ, busy
-    pick (eqb n locateBusy || eqb n readBusy) (answering (repeatedOf s) nothing)
+    pick (eqb n locateBusy || eqb n readBusy) (delivering (repeatedOf s) nothing)
     -- LOCATE, good
     (pick (eqb n locateGood) (locatedOf s)
     -- READ, good or recovered, with a frame

@@ -1,6 +1,6 @@
 // The state of a reading session and the steps that a reply takes. The definitions of every call stand here, and the laws over them; the public calls are the methods of `reading`.
+mod reply;
 mod state;
-mod steps;
 
 pub use state::Answer;
 pub use state::Delivery;

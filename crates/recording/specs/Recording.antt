@@ -4,7 +4,8 @@ use mathlib.Core.List.{List}
 use Rattle.geometry.specs.Refusal.{verdictNumber}
 use Rattle.recording_state.specs.State.{OutcomeSaid}
 use Rattle.recording_state.specs.Accept.{StoredSaid}
-use Rattle.recording_state.specs.Fetch.{FetchedSaid, answerSaid}
+use Rattle.recording_state.specs.Answer.{answerSaid}
+use Rattle.recording_state.specs.Fetch.{FetchedSaid}
 use Rattle.recording.specs.declared.recording.Outcome.{Outcome}
 use Rattle.recording.specs.declared.recording.Fetched.{Fetched}
 

@@ -59,18 +59,18 @@ impl Fetched {
 }
 
 impl Recording {
-    // On the newest header of the cartridge, for a drive that buffers `depth` frames, with a window of `window` blocks.
-    pub fn open(g: Geometry, depth: u8, window: u8, header: &[u8]) -> Outcome
-        ensures { λ r. ⌜ outcomeSaid r ≡ openOf g depth window (now (header .entry)) ⌝ }
+    // On the newest header of the cartridge, for a drive that buffers `depth` frames, with a window of `blocks` blocks.
+    pub fn open(g: Geometry, depth: u8, blocks: u8, header: &[u8]) -> Outcome
+        ensures { λ r. ⌜ outcomeSaid r ≡ openOf g depth blocks (now (header .entry)) ⌝ }
     {
-        Outcome::of(opening::open(g, depth, window, header))
+        Outcome::of(opening::open(g, depth, blocks, header))
     }
 
     // On a cartridge that holds no valid header.
-    pub fn open_blank(g: Geometry, depth: u8, window: u8) -> Outcome
-        ensures { λ r. ⌜ outcomeSaid r ≡ openBlankOf g depth window ⌝ }
+    pub fn open_blank(g: Geometry, depth: u8, blocks: u8) -> Outcome
+        ensures { λ r. ⌜ outcomeSaid r ≡ openBlankOf g depth blocks ⌝ }
     {
-        Outcome::of(opening::open_blank(g, depth, window))
+        Outcome::of(opening::open_blank(g, depth, blocks))
     }
 
     // Accepts a filemark.

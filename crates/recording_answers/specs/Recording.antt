@@ -1,8 +1,8 @@
 -- What the calls of a recording session return, as numbers. Numbers that are no session's come back as they are, with 7.
 use Prim.Native.Nat.{ℕ}
 use Rattle.recording_state.specs.State.{OutcomeSaid}
-use Rattle.recording_state.specs.Fetch as fetch
-use Rattle.recording_state.specs.Fetch.{AnswerSaid}
+use Rattle.recording_state.specs.Answer as fetch
+use Rattle.recording_state.specs.Answer.{AnswerSaid}
 use Rattle.recording_twins.specs.declared.recording_numbers.AdrRecording.{AdrRecording}
 use Rattle.recording_twins.specs.Recording.{recordingTwin}
 use Rattle.recording_answers.specs.declared.recording_answers.AdrRecordOutcome.{AdrRecordOutcome}

@@ -1,7 +1,7 @@
 // What the calls of a recording session return, as numbers.
 ghost use mathlib.Core.Path.{_≡_};
 ghost use Rattle.recording.specs.Recording.{outcomeSaid};
-ghost use Rattle.recording_state.specs.Fetch.{answerSaid};
+ghost use Rattle.recording_state.specs.Answer.{answerSaid};
 ghost use Rattle.recording_twins.specs.Recording.{recordingTwin};
 ghost use Rattle.recording_answers.specs.Recording.{outcomeTwin, unknown, answering, unknownFetch, fetchedTwin};
 use exchange_twins::AdrCommand;

@@ -8,7 +8,8 @@ use Rattle.drive.specs.declared.reply.Reply.{Reply}
 use Rattle.recording_state.specs.declared.state.State.{State}
 use Rattle.recording_state.specs.State.{refusing}
 use Rattle.recording_state.specs.Accept.{filemarkOf, blockOf, closeOf}
-use Rattle.recording_state.specs.Fetch.{refused, fetchOf}
+use Rattle.recording_state.specs.Answer.{refused}
+use Rattle.recording_state.specs.Fetch.{fetchOf}
 use Rattle.recording_state.specs.Reply.{replyOf}
 
 module _ (s : State) (ended : s .ended ≡ true) where

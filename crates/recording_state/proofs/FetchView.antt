@@ -1,6 +1,6 @@
 -- By which case of 01 a fetch is answered, and what is known there. Assumes nothing.
 use Prim.Native.Nat.{ℕ}
-use mathlib.Core.Path.{_≡_, refl, ap, _∙_}
+use mathlib.Core.Path.{_≡_, refl, sym, ap, subst, _∙_}
 use mathlib.Core.Bool.{Bool, true, false, _&&_, _||_}
 use mathlib.Core.List.{List}
 use mathlib.Core.Logic.{_⊎_, inl, inr, ⊎-elim}
@@ -8,7 +8,9 @@ use lib.Dec.{eqb}
 use lib.ListN.{length}
 use borrow.Author.Tests.{eq-eqb, ne-eqb, eqb-true, eqb-false}
 use Rattle.geometry.proofs.PickLaws.{pick-t, pick-f, pick-by}
-use Rattle.drive.specs.Command.{CommandSaid, commandFor}
+use Rattle.drive.specs.Command.{CommandSaid, commandSaid, commandFor}
+use Rattle.drive.specs.declared.command.Command.{Command}
+use Rattle.drive.proofs.CaseLaws.{command-by}
 use Rattle.copies.specs.Copies as copies
 use Rattle.elements.specs.Due as due
 use Rattle.geometry.proofs.TestLaws.{or-true, or-false, and-true, and-false}
@@ -16,8 +18,9 @@ use Rattle.recording_state.specs.declared.state.State.{State}
 use Rattle.recording_state.specs.declared.state.Stage.{Stage}
 use Rattle.recording_state.specs.declared.state.Stage.the-variants as S
 use Rattle.recording_state.specs.State.{windowLength, endedOf}
-use Rattle.recording_state.specs.Due.{DecisionSaid, elementDueBy, decisionBy, decisionOf}
-use Rattle.recording_state.specs.Fetch.{idle, done, refused, FetchedSaid, sending, answering, fetchOf}
+use Rattle.recording_state.specs.Answer.{AnswerSaid, idle, done, refused, giving}
+use Rattle.recording_state.specs.Due.{elementDueBy, decisionBy, decisionOf}
+use Rattle.recording_state.specs.Fetch.{FetchedSaid, sending, answering, fetchOf}
 use Rattle.recording_state.proofs.Stages.{HeaderStage, ElementStage}
 
 -- the session can answer, and the buffers have their lengths
@@ -57,10 +60,15 @@ module _ (s : State) (window frame : List ℕ) where
       pick-f _ f
       ∙ pick-f _ (⊎-elim (λ w. not-first (eqb (length frame) 33280) (ne-eqb _ _ w)) (λ w. not-second (eqb (length window) (windowLength s)) (ne-eqb _ _ w)) wrong)
 
-  pub fetch-decided : s .ended || s .exchange .awaiting ≡ false → length window ≡ windowLength s → length frame ≡ 33280 → {d : DecisionSaid} → decisionOf s ≡ d → fetchOf s window frame ≡ answering d s window frame
+  pub fetch-decided : s .ended || s .exchange .awaiting ≡ false → length window ≡ windowLength s → length frame ≡ 33280 → {d : AnswerSaid} → decisionOf s ≡ d → fetchOf s window frame ≡ answering d s window frame
   unfolding fetchOf
   fetch-decided f w g e =
       pick-f _ f ∙ pick-t _ (both (eq-eqb _ _ w) (eq-eqb _ _ g)) ∙ ap (λ d. answering d s window frame) e
+
+  -- a command that is due goes out as it is
+  pub fetch-sends : s .ended || s .exchange .awaiting ≡ false → length window ≡ windowLength s → length frame ≡ 33280 → (c : Command) → decisionOf s ≡ giving (commandSaid c) → fetchOf s window frame ≡ sending s c window frame
+  fetch-sends f w g c e =
+      fetch-decided f w g e ∙ ap (λ (k : Command). sending s k window frame) (command-by c)
 
   due-view : Ready s window frame → s .exchange .again ≡ false → ElementStage s → (d : due.DueSaid) → due.dueOf (s .setup .depth) (s .elements) ≡ d → FetchView s window frame (answering (elementDueBy d) s window frame)
   due-view r a st (due.send c) e = stepping r a st c e
@@ -76,7 +84,8 @@ module _ (s : State) (window frame : List ℕ) where
   decided-view : Ready s window frame → FetchView s window frame (answering (decisionOf s) s window frame)
   unfolding decisionOf
   decided-view r =
-      pick-by (λ d. FetchView s window frame (answering d s window frame)) (s .exchange .again) (repeating r)
+      pick-by (λ d. FetchView s window frame (answering d s window frame)) (s .exchange .again)
+      (λ t. subst (λ (c : Command). FetchView s window frame (sending s c window frame)) (sym (command-by (s .exchange .command))) (repeating r t))
       (λ f. stage-view r f (s .stage) refl)
 
   pub fetch-view : FetchView s window frame (fetchOf s window frame)

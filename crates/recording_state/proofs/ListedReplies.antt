@@ -130,7 +130,7 @@ module _ (s : State) (r : Reply) where
 
   -- the numbers that a reply may bring, by stage
   pub record Lawful : Type 0 where
-    pub in-headers : HeaderStage s → Possible (s .copies .outstanding) (oldestAddress (s .copies)) (nextAddress (s .copies))
+    pub in-headers : HeaderStage s → Possible (s .copies .outstanding) (oldestAddress (s .copies) .0) (nextAddress (s .copies) .0)
     pub in-elements : ElementStage s → Possible (s .elements .outstanding) (baseOf (s .elements) .0) (s .elements .next .0)
 
   header-number : (x : copies.ProgressSaid) → (x ≡ copies.refused 8 → ⊥) → headerReplyBy x s .number ≡ 8 → ⊥
@@ -145,7 +145,7 @@ module _ (s : State) (r : Reply) where
   copies-counted p (copying.tooMany l) e = omega (arith, p)
   copies-counted p (copying.counted _) e = omega (arith, onward-number _ (copying.onward-view _) e)
 
-  copies-failed : {x : copies.ProgressSaid} → oldestAddress (s .copies) ≤ r .position .0 → r .position .0 < nextAddress (s .copies) → copying.FailedView (s .copies) (r .position .0) x → x ≡ copies.refused 8 → ⊥
+  copies-failed : {x : copies.ProgressSaid} → oldestAddress (s .copies) .0 ≤ r .position .0 → r .position .0 < nextAddress (s .copies) .0 → copying.FailedView (s .copies) (r .position) x → x ≡ copies.refused 8 → ⊥
   copies-failed p l (copying.before h) e = omega (arith, p)
   copies-failed p l (copying.behind h) e = omega (arith, l)
   copies-failed p l (copying.failed _ _) e = omega (arith, onward-number _ (copying.onward-view _) e)
@@ -182,7 +182,7 @@ module _ (s : State) (r : Reply) where
             stage-number _ _ (λ st. copies-counted (lawful .in-headers st .counted n) (copying.counted-view (s .copies) (r .buffered)))
             (λ st. elements-counted (lawful .in-elements st .counted n) (steps.counted-view (s .elements) (r .buffered))) q
         go (view.failed n) q =
-            stage-number _ _ (λ st. copies-failed (lawful .in-headers st .from n) (lawful .in-headers st .below n) (copying.failed-view (s .copies) (r .position .0)))
+            stage-number _ _ (λ st. copies-failed (lawful .in-headers st .from n) (lawful .in-headers st .below n) (copying.failed-view (s .copies) (r .position)))
             (λ st. elements-failed (lawful .in-elements st .from n) (lawful .in-elements st .below n) (steps.failed-view (s .elements) (r .position) (r .skip))) q
         go (view.overflowed n) q = stage-number _ _ (λ st _. no-overflow (s .exchange .command) meaning listed (on-headers st) n) (λ _ e. omega arith) q
         go (view.unlisted u) q = u (listed-case (s .exchange .command) meaning listed no-read)

@@ -8,6 +8,7 @@ use lib.Dec.{eqb}
 use borrow.Author.Tests.{eqb-false}
 use lib.ListN.{length}
 use Rattle.geometry.specs.Pick.{pick}
+use Rattle.geometry.specs.declared.address.Address.{Address}
 use Rattle.geometry.proofs.Impossible.{never}
 use Rattle.geometry.proofs.PickLaws.{pick-f, pick-by}
 use Rattle.drive.specs.declared.reply.Reply.{Reply}
@@ -24,7 +25,8 @@ use Rattle.elements.proofs.ReplyView as steps
 use Rattle.recording_state.specs.declared.state.State.{State}
 use Rattle.recording_state.specs.State.{windowLength, OutcomeSaid, ending, endedOf, withElements}
 use Rattle.recording_state.specs.Accept.{acceptsNone, isFull, filemarkOf, StoredSaid, blockOf, closeOf}
-use Rattle.recording_state.specs.Fetch.{refused, FetchedSaid, sending, fetchOf}
+use Rattle.recording_state.specs.Answer.{refused}
+use Rattle.recording_state.specs.Fetch.{FetchedSaid, sending, fetchOf}
 use Rattle.recording_state.specs.Reply.{headerReplyBy, elementReplyBy, stageReply, replyOf, endedFrom}
 use Rattle.recording_state.proofs.FetchView as fetching
 use Rattle.recording_state.proofs.ReplyView as replying
@@ -65,7 +67,7 @@ counted-number : {c : Copies} {f m : ℕ} {x : copies.ProgressSaid} → copying.
 counted-number (copying.tooMany _) e = plain-8 (cc)
 counted-number (copying.counted _) e = plain-12 (onward-number _ (copying.onward-view _) e)
 
-failed-number : {c : Copies} {p m : ℕ} {x : copies.ProgressSaid} → copying.FailedView c p x → x ≡ copies.refused m → Plain m
+failed-number : {c : Copies} {p : Address} {m : ℕ} {x : copies.ProgressSaid} → copying.FailedView c p x → x ≡ copies.refused m → Plain m
 failed-number (copying.before _) e = plain-8 (cc)
 failed-number (copying.behind _) e = plain-8 (cc)
 failed-number (copying.failed _ _) e = plain-12 (onward-number _ (copying.onward-view _) e)
@@ -188,6 +190,6 @@ module _ (s : State) where
         go (replying.located _) = stage-left _ _ (λ m e. never (cc)) (λ h. absurd (h refl))
         go (replying.taken _) = stage-left _ _ (λ m e. never (cc)) (λ h. absurd (h refl))
         go (replying.counted _) = stage-left _ _ (λ m e. counted-number (copying.counted-view (s .copies) (r .buffered)) e) (counted-step r (steps.counted-view (s .elements) (r .buffered)))
-        go (replying.failed _) = stage-left _ _ (λ m e. failed-number (copying.failed-view (s .copies) (r .position .0)) e) (failed-step r (steps.failed-view (s .elements) (r .position) (r .skip)))
+        go (replying.failed _) = stage-left _ _ (λ m e. failed-number (copying.failed-view (s .copies) (r .position)) e) (failed-step r (steps.failed-view (s .elements) (r .position) (r .skip)))
         go (replying.overflowed _) = stage-left _ _ (λ m e. plain-8 (cc)) (λ h. absurd (h refl))
         go (replying.unlisted _) = plainly-ended 8 (plain-8 refl)

@@ -9,7 +9,7 @@ use Rattle.frame.specs.Lengths.{dataLength}
 use Rattle.elements.specs.Elements as elements
 use Rattle.recording_state.specs.declared.state.State.{State}
 use Rattle.recording_state.specs.declared.state.Outcome.{Outcome}
-use Rattle.recording_state.specs.State.{windowOf, windowLength, OutcomeSaid, outcomeSaid, accepting, refusing, withElements, closedOf, settledOf}
+use Rattle.recording_state.specs.State.{blocksOf, windowLength, OutcomeSaid, outcomeSaid, accepting, refusing, withElements, closedOf, settledOf}
 use Rattle.recording_state.specs.Window.{putBlock}
 
 -- refusal 7: the session has ended, or close was called
@@ -32,7 +32,7 @@ filemarkOf s =
 
 -- element i uses window block i mod W
 abbrev pub placeOf : State → ℕ
-placeOf s = elements.numberOf (s .elements) (s .elements .pending) .0 % windowOf s
+placeOf s = elements.numberOf (s .elements) (s .elements .pending) .0 % blocksOf s
 
 -- a call's result, and the window that it leaves
 pub record StoredSaid : Type 0 where

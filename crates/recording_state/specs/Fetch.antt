@@ -5,33 +5,17 @@ use mathlib.Core.List.{List}
 use lib.Dec.{eqb}
 use lib.ListN.{length}
 use Rattle.geometry.specs.Pick.{pick}
-use Rattle.geometry.specs.Refusal.{refusalNumber}
 use Rattle.frame.specs.Lengths.{frameLength}
-use Rattle.drive.specs.Command.{commandCode, commandAddress}
+use Rattle.drive.specs.Command.{commandSaid, commandBy}
 use Rattle.drive.specs.Exchange.{sentOf}
 use Rattle.drive.specs.declared.command.Command.{Command}
 use Rattle.drive.specs.declared.command.Command.the-variants.{Read, Write, Locate, ReadPosition}
 use Rattle.recording_state.specs.declared.state.State.{State}
 use Rattle.recording_state.specs.declared.state.Fetched.{Fetched}
-use Rattle.recording_state.specs.declared.state.Answer.{Answer}
-use Rattle.recording_state.specs.declared.state.Answer.the-variants as A
 use Rattle.recording_state.specs.State.{windowLength, endedOf, withExchange}
-use Rattle.recording_state.specs.Due as due
+use Rattle.recording_state.specs.Answer.{AnswerSaid, command, idle, done, refused, giving, answerSaid}
 use Rattle.recording_state.specs.Due.{decisionOf}
 use Rattle.recording_state.specs.Written.{writtenFrame}
-
--- what a fetch answers: a command by its operation code and address, idle, done, or a refusal by its number
-pub data AnswerSaid : Type 0 where
-  command : ℕ → ℕ → AnswerSaid
-  idle : AnswerSaid
-  done : AnswerSaid
-  refused : ℕ → AnswerSaid
-
-abbrev pub answerSaid : Answer → AnswerSaid
-answerSaid (A.Command c) = command (commandCode c) (commandAddress c)
-answerSaid A.Idle = idle
-answerSaid A.Done = done
-answerSaid (A.Refused r) = refused (refusalNumber r)
 
 -- the session and the answer that a fetch returns, and the frame that it leaves
 pub record FetchedSaid : Type 0 where
@@ -56,7 +40,7 @@ frameFor ReadPosition s window frame = frame
 unfoldable pub sending : State → Command → List ℕ → List ℕ → FetchedSaid
 sending s c window frame = record {
   session = awaits s c;
-  said = command (commandCode c) (commandAddress c);
+  said = giving (commandSaid c);
   frame = frameFor c s window frame;
 }
 
@@ -65,11 +49,11 @@ abbrev pub fetchRefused : State → ℕ → List ℕ → FetchedSaid
 fetchRefused s n frame = record { session = s; said = refused n; frame = frame }
 
 -- idle and done await no reply; a refusal here is 9 and ends the session
-abbrev pub answering : due.DecisionSaid → State → List ℕ → List ℕ → FetchedSaid
-answering (due.send c) s window frame = sending s c window frame
-answering due.idle s window frame = record { session = s; said = idle; frame = frame }
-answering due.done s window frame = record { session = s; said = done; frame = frame }
-answering (due.refuse n) s window frame = fetchRefused (endedOf s) n frame
+abbrev pub answering : AnswerSaid → State → List ℕ → List ℕ → FetchedSaid
+answering (command code a) s window frame = sending s (commandBy code a) window frame
+answering idle s window frame = record { session = s; said = idle; frame = frame }
+answering done s window frame = record { session = s; said = done; frame = frame }
+answering (refused n) s window frame = fetchRefused (endedOf s) n frame
 
 -- refusal 7 where the session has ended or a reply is awaited; 1 where a length is wrong
 unfoldable pub fetchOf : State → List ℕ → List ℕ → FetchedSaid

@@ -2,6 +2,7 @@ pub mod State
 pub mod Open
 pub mod Window
 pub mod Accept
+pub mod Answer
 pub mod Due
 pub mod Written
 pub mod Fetch

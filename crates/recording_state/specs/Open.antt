@@ -40,23 +40,23 @@ openRefused n = ending blankSession n
 
 -- refusal 4: D is 0, W not 1 to 64; then 5, where pass or update count can't be raised
 unfoldable pub openWith : ℕ → ℕ → Bool → Header → OutcomeSaid
-openWith depth window exhausted h =
-    pick (eqb depth 0 || (eqb window 0 || ltb 64 window)) (openRefused 4)
+openWith depth blocks exhausted h =
+    pick (eqb depth 0 || (eqb blocks 0 || ltb 64 blocks)) (openRefused 4)
     (pick exhausted (openRefused 5)
-    (accepting (fresh depth (window - 1) h)))
+    (accepting (fresh depth (blocks - 1) h)))
 
 -- on a header that is valid; any other is refused with 1, 2 or 3
 abbrev pub openFor : CheckedSaid → ℕ → ℕ → OutcomeSaid
-openFor (valid old) depth window = openWith depth window (isExhausted old) (renewed old)
-openFor (refused n) depth window = openRefused n
+openFor (valid old) depth blocks = openWith depth blocks (isExhausted old) (renewed old)
+openFor (refused n) depth blocks = openRefused n
 
 unfoldable pub openOf : Geometry → ℕ → ℕ → List ℕ → OutcomeSaid
-openOf g depth window h = openFor (readHeader g h) depth window
+openOf g depth blocks h = openFor (readHeader g h) depth blocks
 
 -- on none: pass 1 and update count 0
 abbrev pub openBlankFor : PlaceSaid → ℕ → ℕ → OutcomeSaid
-openBlankFor (place.address last) depth window = openWith depth window false (openingHeader (asAddress last) 1 0)
-openBlankFor (place.refused n) depth window = openRefused n
+openBlankFor (place.address last) depth blocks = openWith depth blocks false (openingHeader (asAddress last) 1 0)
+openBlankFor (place.refused n) depth blocks = openRefused n
 
 unfoldable pub openBlankOf : Geometry → ℕ → ℕ → OutcomeSaid
-openBlankOf g depth window = openBlankFor (lastOf g) depth window
+openBlankOf g depth blocks = openBlankFor (lastOf g) depth blocks

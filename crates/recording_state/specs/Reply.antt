@@ -2,7 +2,6 @@
 use Prim.Native.Nat.{ℕ}
 use mathlib.Core.Bool.{_||_, not}
 use lib.Dec.{eqb}
-use Rattle.geometry.specs.Place.{asAddress}
 use Rattle.geometry.specs.Pick.{pick}
 use Rattle.geometry.specs.declared.address.Address.{Address}
 use Rattle.drive.specs.Command.{commandAddress}
@@ -18,8 +17,8 @@ use Rattle.recording_state.specs.declared.state.Stage.the-variants as S
 use Rattle.recording_state.specs.State.{OutcomeSaid, accepting, refusing, ending, followingOf, withStage, withExchange, withCopies, withElements, settledOf}
 
 -- the reply is taken in
-abbrev pub answeredOf : State → State
-answeredOf s = withExchange s (exchange.answeredOf (s .exchange))
+abbrev pub repliedOf : State → State
+repliedOf s = withExchange s (exchange.repliedOf (s .exchange))
 
 -- busy: the next fetch gives the same command; nothing else changes
 abbrev pub repeatedOf : State → State
@@ -31,14 +30,14 @@ completedOf s = withStage s (followingOf (s .stage))
 
 -- the session after a reply, given how far the header copies are
 abbrev pub headerReplyBy : copies.ProgressSaid → State → OutcomeSaid
-headerReplyBy (copies.more c) s = accepting (withCopies (answeredOf s) c)
-headerReplyBy copies.complete s = accepting (settledOf (completedOf (answeredOf s)))
+headerReplyBy (copies.more c) s = accepting (withCopies (repliedOf s) c)
+headerReplyBy copies.complete s = accepting (settledOf (completedOf (repliedOf s)))
 headerReplyBy (copies.refused n) s = ending s n
 
 -- given the elements: refused with 8 they are as they were, with 9 the write error is noted
 abbrev pub elementReplyBy : reply.SteppedSaid → State → OutcomeSaid
 elementReplyBy x s =
-    pick (eqb (x .number) 0) (accepting (settledOf (withElements (answeredOf s) (x .elements)))) (ending (withElements s (x .elements)) (x .number))
+    pick (eqb (x .number) 0) (accepting (settledOf (withElements (repliedOf s) (x .elements)))) (ending (withElements s (x .elements)) (x .number))
 
 -- by stage, what a reply is to the header copies, and what it is to the elements and EOD; when all is done no reply is awaited
 abbrev pub stageReplyBy : Stage → copies.ProgressSaid → reply.SteppedSaid → State → OutcomeSaid
@@ -52,7 +51,7 @@ stageReply s c e = stageReplyBy (s .stage) c e s
 
 -- the address of the command that is answered
 abbrev pub addressOf : State → Address
-addressOf s = asAddress (commandAddress (s .exchange .command))
+addressOf s = commandAddress (s .exchange .command)
 
 -- LOCATE, good
 abbrev pub locatedOf : State → OutcomeSaid
@@ -68,7 +67,7 @@ countedOf s f = stageReply s (copies.countedOf (s .copies) f) (reply.countedOf (
 
 -- 03/0C/00 with position p; headers ignore the skip
 abbrev pub failedOf : State → Address → ℕ → OutcomeSaid
-failedOf s p skip = stageReply s (copies.failedOf (s .copies) (p .0)) (reply.failedOf (s .elements) p skip)
+failedOf s p skip = stageReply s (copies.failedOf (s .copies) p) (reply.failedOf (s .elements) p skip)
 
 -- 0D/00/02 on a WRITE: listed for an element or EOD, not for a header
 abbrev pub overflowedOf : State → OutcomeSaid

@@ -17,12 +17,12 @@ use Rattle.recording_state.specs.declared.state.Outcome.{Outcome}
 use Rattle.recording_state.specs.declared.state.Stage.{Stage}
 use Rattle.recording_state.specs.declared.state.Stage.the-variants as S
 
--- W, of which a session holds W − 1, and the length of a window
-abbrev pub windowOf : State → ℕ
-windowOf s = s .setup .highest + 1
+-- W, the number of blocks of the window, of which a session holds W − 1; and the window's length
+abbrev pub blocksOf : State → ℕ
+blocksOf s = s .setup .highest + 1
 
 abbrev pub windowLength : State → ℕ
-windowLength s = windowOf s * dataLength
+windowLength s = blocksOf s * dataLength
 
 -- the session and the number of the refusal, 0 for none
 pub record OutcomeSaid : Type 0 where

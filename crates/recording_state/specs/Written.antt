@@ -11,7 +11,7 @@ use Rattle.elements.specs.Trail.{trailBefore}
 use Rattle.recording_state.specs.declared.state.State.{State}
 use Rattle.recording_state.specs.declared.state.Stage.{Stage}
 use Rattle.recording_state.specs.declared.state.Stage.the-variants as S
-use Rattle.recording_state.specs.State.{windowOf}
+use Rattle.recording_state.specs.State.{blocksOf}
 use Rattle.recording_state.specs.Window.{blockAt}
 
 -- the next element to be written, or EOD, its AUX for the present position of the latest marker
@@ -27,7 +27,7 @@ elementOf s = record {
 
 -- element i uses window block i mod W
 abbrev pub elementPlace : State → ℕ
-elementPlace s = elements.numberOf (s .elements) (s .elements .outstanding) .0 % windowOf s
+elementPlace s = elements.numberOf (s .elements) (s .elements .outstanding) .0 % blocksOf s
 
 unfoldable pub writtenElement : State → List ℕ → List ℕ
 writtenElement s window = elementFrame (elementOf s) (blockAt window (elementPlace s))

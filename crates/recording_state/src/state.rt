@@ -2,7 +2,7 @@
 ghost use mathlib.Core.Path.{_≡_};
 ghost use Rattle.geometry.specs.Refusal.{refusalNumber};
 ghost use Rattle.recording_state.specs.Reply.{completedOf};
-ghost use Rattle.recording_state.specs.State.{followingOf, windowOf, outcomeSaid, accepting, refusing, ending, eodDue, closingStarted, settledOf};
+ghost use Rattle.recording_state.specs.State.{followingOf, blocksOf, outcomeSaid, accepting, refusing, ending, eodDue, closingStarted, settledOf};
 use carried_headers::closing_header;
 use copies::Copies;
 use drive::Command;
@@ -70,9 +70,9 @@ pub struct Fetched {
 }
 
 impl State {
-    // W.
-    pub fn window(self) -> usize
-        ensures { λ r. ⌜ r ≡ windowOf self ⌝ }
+    // W, the number of blocks of the window.
+    pub fn blocks(self) -> usize
+        ensures { λ r. ⌜ r ≡ blocksOf self ⌝ }
     {
         let setup = self.setup;
         (setup.highest as usize) + 1

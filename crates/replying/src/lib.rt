@@ -3,7 +3,7 @@ ghost use mathlib.Core.Path.{_≡_};
 ghost use Rattle.copies.specs.Copies.{progressSaid};
 ghost use Rattle.elements.specs.Reply.{steppedSaid};
 ghost use Rattle.recording_state.specs.State.{outcomeSaid};
-ghost use Rattle.recording_state.specs.Reply.{answeredOf, repeatedOf, headerReplyBy, elementReplyBy, stageReply, addressOf, locatedOf, takenOf, countedOf, failedOf, overflowedOf, replyOf};
+ghost use Rattle.recording_state.specs.Reply.{repliedOf, repeatedOf, headerReplyBy, elementReplyBy, stageReply, addressOf, locatedOf, takenOf, countedOf, failedOf, overflowedOf, replyOf};
 use copies::Progress;
 use drive::LOCATE_BUSY;
 use drive::LOCATE_GOOD;
@@ -24,11 +24,12 @@ use recording_state::Outcome;
 use recording_state::Stage;
 use recording_state::State;
 
-fn answered(mut s: State) -> State
-    ensures { λ r. ⌜ r ≡ answeredOf s ⌝ }
+// The reply is taken in.
+fn replied(mut s: State) -> State
+    ensures { λ r. ⌜ r ≡ repliedOf s ⌝ }
 {
     let exchange = s.exchange;
-    s.exchange = exchange.answered();
+    s.exchange = exchange.replied();
     s
 }
 
@@ -48,9 +49,9 @@ fn header_reply(mut s: State, progress: Progress) -> Outcome
     match progress {
         Progress::More(c) => {
             s.copies = c;
-            answered(s).accepted()
+            replied(s).accepted()
         }
-        Progress::Complete => answered(s).complete().settle().accepted(),
+        Progress::Complete => replied(s).complete().settle().accepted(),
         Progress::Refused(r) => s.end(r),
     }
 }
@@ -63,7 +64,7 @@ fn element_reply(mut s: State, stepped: Stepped) -> Outcome
     let elements = stepped.elements;
     s.elements = elements;
     match verdict {
-        Verdict::Accepted => answered(s).settle().accepted(),
+        Verdict::Accepted => replied(s).settle().accepted(),
         Verdict::Refused(r) => s.end(r),
     }
 }

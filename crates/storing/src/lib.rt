@@ -22,7 +22,7 @@ pub fn accept_block(s: State, block: &[u8], window: &mut [u8]) -> Outcome
     if block.len() != DATA_LENGTH {
         return s.refuse(Refusal::Length);
     }
-    let w = s.window();
+    let w = s.blocks();
     if window.len() != w * DATA_LENGTH {
         return s.refuse(Refusal::Length);
     }

@@ -7,10 +7,11 @@ use native.Mathlib.Decide.{ℕ-discrete}
 use native.Mathlib.Omega.{arith}
 use borrow.Author.Tests.{lt-ltb, le-ltb, ne-eqb, eq-eqb}
 use lib.Dec.{eqb}
+use Rattle.geometry.specs.Place.{asAddress}
 use Rattle.geometry.proofs.PickLaws.{pick-t, pick-f, pick-by}
 use Rattle.geometry.proofs.TestLaws.{neither, either-right}
 use Rattle.geometry.proofs.UserFrames.{user-ranges, Stand}
-use Rattle.drive.specs.Command.{commandCode}
+use Rattle.drive.specs.Command.{CommandSaid, commandCode, commandFor, read, locate}
 use Rattle.drive.specs.declared.command.Command.{Command}
 use Rattle.drive.specs.declared.command.Command.the-variants.{Read, Write, Locate, ReadPosition}
 use Rattle.drive.proofs.CaseLaws.{command-by}
@@ -49,14 +50,14 @@ module _ {told : Told} {t : Tape} (k : ReadTape told t) where
     unfolding fetch.fetchOf
     sends-again a g = pick-f _ (neither _ _ (u .going-on) a) ∙ pick-t _ g
 
-    sends : (c : Command) → w .session .exchange .awaiting ≡ false → w .session .exchange .again ≡ false → w .session .next .0 ≤ told .last .0 → fetch.commandOf (w .session) ≡ c → fetch.fetchOf (w .session) ≡ fetch.sending (w .session) c
+    sends : (x : CommandSaid) → w .session .exchange .awaiting ≡ false → w .session .exchange .again ≡ false → w .session .next .0 ≤ told .last .0 → fetch.commandOf (w .session) ≡ x → fetch.fetchOf (w .session) ≡ fetch.sending (w .session) (commandFor x)
     unfolding fetch.fetchOf
-    sends c a g l e =
+    sends x a g l e =
         pick-f _ (neither _ _ (u .going-on) a)
         ∙ pick-f _ g
         ∙ pick-f _ (u .unfinished)
         ∙ pick-f _ (le-ltb (w .session .told .last .0) (w .session .next .0) (omega (arith, last-is)))
-        ∙ ap (fetch.sending (w .session)) e
+        ∙ ap (λ (y : CommandSaid). fetch.sending (w .session) (commandFor y)) e
 
     past-last : w .session .exchange .awaiting ≡ false → w .session .exchange .again ≡ false → told .last .0 < w .session .next .0 → fetch.fetchOf (w .session) ≡ record { session = endedOf (w .session); said = fetch.refused 12 }
     unfolding fetch.fetchOf
@@ -77,8 +78,8 @@ module _ {told : Told} {t : Tape} (k : ReadTape told t) where
         named : {c : Command} → fetch.fetchOf (w .session) ≡ fetch.sending (w .session) c → Reads c → GivesCommand (fetch.fetchOf (w .session) .said)
         named e x = subst (λ (y : fetch.FetchedSaid). GivesCommand (y .said)) (sym e) x
 
-        due : Reads (fetch.commandOf (w .session))
-        due = pick-by Reads (w .session .locate) (λ _. inr refl) (λ _. pick-by Reads (eqb (w .session .next .0) 2990) (λ _. inr refl) (λ _. inl refl))
+        due : Reads (commandFor (fetch.commandOf (w .session)))
+        due = pick-by (λ (x : CommandSaid). Reads (commandFor x)) (w .session .locate) (λ _. inr refl) (λ _. pick-by (λ (x : CommandSaid). Reads (commandFor x)) (eqb (w .session .next .0) 2990) (λ _. inr refl) (λ _. inl refl))
 
         ordered : {c : Command} → Ordered (told .last .0) (w .session) (w .notes .replies) c → Reads c
         ordered (locates _ _ _ _ _) = inr refl
@@ -118,15 +119,15 @@ module _ {told : Told} {t : Tape} (k : ReadTape told t) where
       unfolding fetch.commandOf
       fetch-none q (to-seek a g (inr above) l few) = ends-without q a g above
       fetch-none q (to-seek a g (inl h) l few) =
-          orders (Locate (w .session .next)) (sends (Locate (w .session .next)) a g (stands-within (k .large) h) (pick-t _ l)) (locates (w .session .next) refl h l few) tt
+          orders (Locate (w .session .next)) (sends (locate (w .session .next .0)) a g (stands-within (k .large) h) (pick-t _ l)) (locates (w .session .next) refl h l few) tt
       fetch-none q (to-read a g (inr above) l p few) = ends-without q a g above
       fetch-none q (to-read a g (inl (inr e)) l p few) =
-          orders (Locate (record { 0 = 3000 })) (sends (Locate (record { 0 = 3000 })) a g (stands-within (k .large) (inr e)) (pick-f _ l ∙ pick-t _ (eq-eqb (w .session .next .0) 2990 e))) (crosses (record { 0 = 3000 }) refl e l few) tt
+          orders (Locate (asAddress 3000)) (sends (locate 3000) a g (stands-within (k .large) (inr e)) (pick-f _ l ∙ pick-t _ (eq-eqb (w .session .next .0) 2990 e))) (crosses (asAddress 3000) refl e l few) tt
       fetch-none q (to-read a g (inl (inl user)) l p few) = go (ℕ-discrete (w .session .next .0) 2990)
         where
           go : Dec (w .session .next .0 ≡ 2990) → ReadInv told t (afterFetch w)
           go (yes e) = absurd (⊎-elim (λ h. let x = h .1 in omega arith) (λ h. let x = h .0 in omega arith) (user-ranges (told .last .0) (w .session .next .0) user))
-          go (no e) = orders (Read (w .session .next)) (sends (Read (w .session .next)) a g (stands-within (k .large) (inl user)) (pick-f _ l ∙ pick-f _ (ne-eqb (w .session .next .0) 2990 e))) (reads (w .session .next) refl user l few) p
+          go (no e) = orders (Read (w .session .next)) (sends (read (w .session .next .0)) a g (stands-within (k .large) (inl user)) (pick-f _ l ∙ pick-f _ (ne-eqb (w .session .next .0) 2990 e))) (reads (w .session .next) refl user l few) p
       fetch-none q (again a g o st) = orders (w .session .exchange .command) (sends-again a g) o st
 
       pub fetch-flight : {g : Flight} → w .flight ≡ g → Agreed (told .last .0) t (w .session) (w .at) (w .notes .replies) g → TakesEffect (readings.refusal (w .session) readings.fetching) → ReadInv told t (afterFetch w)

@@ -102,7 +102,7 @@ module _ {told : Told} {t : Tape} (k : ReadTape told t) (w : World) (u : Under t
     goes-on : (next expected : ℕ) (locate : Bool) (said : reply.DeliverySaid) → replyNumber said ≡ 0 → endAfter said (w .notes .end) ≡ w .notes .end
         → foldOf told t next ≡ going expected (w .notes .deliveries ++ delivered said frame)
         → Agreed (told .last .0) t (movedTo next locate expected) (w .at) (repliesAfter r (w .notes .replies)) readings.no-command
-        → ReadInv told t (afterTaking w r frame (reply.answering (movedTo next locate expected) said))
+        → ReadInv told t (afterTaking w r frame (reply.delivering (movedTo next locate expected) said))
     goes-on next expected locate said z unended so-far agreed =
         under (unrefused said z) (unended ∙ m) (record { told-is = u .told-is; going-on = u .going-on; unfinished = u .unfinished; so-far = so-far }) agreed
 
@@ -111,7 +111,7 @@ module _ {told : Told} {t : Tape} (k : ReadTape told t) (w : World) (u : Under t
     landed : (b : Address) → w .session .exchange .command ≡ Locate b → Means r good → w .at ≡ b .0 → Stand (told .last .0) (b .0) → foldOf told t (b .0) ≡ going (w .session .expected .0) (w .notes .deliveries) → Spent (b .0) (w .notes .replies + 1) → ReadInv told t (afterReply w r frame)
     unfolding reply.replyBy
     landed b e means at here so-far few =
-        taken-as (answers e means ∙ ap (λ (x : Command). reply.answering (movedTo (commandAddress x) false (w .session .expected .0)) reply.nothing) e)
+        taken-as (answers e means ∙ ap (λ (x : Command). reply.delivering (movedTo (commandAddress x .0) false (w .session .expected .0)) reply.nothing) e)
         (goes-on (b .0) (w .session .expected .0) false reply.nothing refl refl (so-far ∙ ap (going (w .session .expected .0)) (sym nothing-more))
         (to-read refl g (inl here) refl at (subst (Spent (b .0)) (sym (one-more means (λ q. omega arith))) few)))
 
@@ -121,8 +121,8 @@ module _ {told : Told} {t : Tape} (k : ReadTape told t) (w : World) (u : Under t
       next-low : w .session .next .0 ≤ told .last .0
       next-low = stands-within (k .large) (inl user)
 
-      place-is : reply.addressOf (w .session) ≡ w .session .next .0
-      place-is = ap commandAddress e ∙ place
+      place-is : reply.addressOf (w .session) .0 ≡ w .session .next .0
+      place-is = ap (λ (x : Command). commandAddress x .0) e ∙ place
 
       -- the next number does not wrap
       small-number : w .session .expected .0 + 1 < 2 ^ 32
@@ -143,13 +143,13 @@ module _ {told : Told} {t : Tape} (k : ReadTape told t) (w : World) (u : Under t
       -- one address further
       further : {i : ℕ} → Means r i → (i ≡ busy → ⊥) → (x y : ℕ) (said : reply.DeliverySaid) → y ≡ x → replyNumber said ≡ 0 → endAfter said (w .notes .end) ≡ w .notes .end → w .at ≡ w .session .next .0 + 1
           → foldOf told t (w .session .next .0 + 1) ≡ going x (w .notes .deliveries ++ delivered said frame)
-          → reply.replyOf (w .session) r frame ≡ reply.answering (withExpected (reply.advancedOf (w .session)) (record { 0 = y })) said
+          → reply.replyOf (w .session) r frame ≡ reply.delivering (withExpected (reply.advancedOf (w .session)) (record { 0 = y })) said
           → ReadInv told t (afterReply w r frame)
       further means b x y said same z unended at so-far replied =
           taken-as
           (replied
-          ∙ ap (λ (q : Reading). reply.answering q said) (moved-is (reply.addressOf (w .session) + 1) (w .session .next .0 + 1) (w .session .locate) y (ap (λ (q : ℕ). q + 1) place-is) (omega (arith, k .small, next-low)))
-          ∙ ap (λ (q : ℕ). reply.answering (movedTo (w .session .next .0 + 1) (w .session .locate) q) said) same)
+          ∙ ap (λ (q : Reading). reply.delivering q said) (moved-is (reply.addressOf (w .session) .0 + 1) (w .session .next .0 + 1) (w .session .locate) y (ap (λ (q : ℕ). q + 1) place-is) (omega (arith, k .small, next-low)))
+          ∙ ap (λ (q : ℕ). reply.delivering (movedTo (w .session .next .0 + 1) (w .session .locate) q) said) same)
           (goes-on (w .session .next .0 + 1) x (w .session .locate) said z unended so-far
           (to-read refl g next-here read at (subst (Spent (w .session .next .0 + 1)) (sym (one-more means b)) (few-further (user-ranges (told .last .0) (w .session .next .0) user) few))))
 
@@ -199,8 +199,8 @@ module _ {told : Told} {t : Tape} (k : ReadTape told t) (w : World) (u : Under t
           let there = w .session .next .0 in
           taken-as
           (answers e means
-          ∙ ap (λ (q : Reading). reply.answering q reply.nothing)
-          (moved-is (pastReserved (reply.addressOf (w .session) + 32)) (pastReserved (there + 32)) true (w .session .expected .0) (ap (λ (q : ℕ). pastReserved (q + 32)) place-is) (omega (arith, k .small, land-low (k .large) next-low (landing (there + 32))))))
+          ∙ ap (λ (q : Reading). reply.delivering q reply.nothing)
+          (moved-is (pastReserved (reply.addressOf (w .session) .0 + 32)) (pastReserved (there + 32)) true (w .session .expected .0) (ap (λ (q : ℕ). pastReserved (q + 32)) place-is) (omega (arith, k .small, land-low (k .large) next-low (landing (there + 32))))))
           (goes-on (pastReserved (there + 32)) (w .session .expected .0) true reply.nothing refl refl
           (fold-jump k there unread ∙ u .so-far ∙ ap (going (w .session .expected .0)) (sym nothing-more))
           (to-seek refl g jumped-here refl (subst (λ (x : ℕ). Spent (pastReserved (there + 32)) (x + 1)) (sym (one-more means (λ q. omega arith))) (few-jumped (landing (there + 32)) few))))
@@ -225,7 +225,7 @@ module _ {told : Told} {t : Tape} (k : ReadTape told t) (w : World) (u : Under t
 
     -- ---- busy
 
-    repeated : {c : Command} → w .session .exchange .command ≡ c → Means r busy → reply.replyOf (w .session) r frame ≡ reply.answering (reply.repeatedOf (w .session)) reply.nothing → Ordered (told .last .0) (w .session) (w .notes .replies) c → Stood (w .session) (w .at) c → ReadInv told t (afterReply w r frame)
+    repeated : {c : Command} → w .session .exchange .command ≡ c → Means r busy → reply.replyOf (w .session) r frame ≡ reply.delivering (reply.repeatedOf (w .session)) reply.nothing → Ordered (told .last .0) (w .session) (w .notes .replies) c → Stood (w .session) (w .at) c → ReadInv told t (afterReply w r frame)
     repeated {c} e means replied o st =
         taken-as replied
         (under n m (record { told-is = u .told-is; going-on = u .going-on; unfinished = u .unfinished; so-far = u .so-far ∙ ap (going (w .session .expected .0)) (sym nothing-more) })

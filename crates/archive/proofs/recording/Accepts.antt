@@ -21,7 +21,7 @@ use Rattle.drive.specs.Senses.{meaningOf}
 use Rattle.elements.specs.Elements as elements
 use Rattle.elements.proofs.AcceptLaws.{mark-kept, accepted-new}
 use Rattle.recording_state.specs.Accept.{acceptsNone, isFull, withElement, filemarkOf, placeOf, StoredSaid, blockOf, closeOf}
-use Rattle.recording_state.specs.State.{closedOf, OutcomeSaid, windowOf, windowLength, accepting, eodDue, closingStarted, settledBy, settledOf}
+use Rattle.recording_state.specs.State.{closedOf, OutcomeSaid, blocksOf, windowLength, accepting, eodDue, closingStarted, settledBy, settledOf}
 use Rattle.recording_state.specs.Window.{blockAt, putBlock}
 use Rattle.recording_state.specs.declared.state.State.{State}
 use Rattle.recording_state.specs.declared.state.Stage.{Stage}
@@ -111,8 +111,8 @@ acceptedWorld w s window unaltered x = withAccepted w s window unaltered (w .not
 
 -- what the window must keep and gain
 pub record Gains (s : State) (before after : List ℕ) (x : Element) (marks : List Bool) : Type 0 where
-  pub keeps : (i : ℕ) → i < s .elements .pending → blockAt after ((s .elements .first .0 + i) % windowOf s) ≡ blockAt before ((s .elements .first .0 + i) % windowOf s)
-  pub gains : StoredAs (element x) after marks (windowOf s) (s .elements .first .0 + s .elements .pending)
+  pub keeps : (i : ℕ) → i < s .elements .pending → blockAt after ((s .elements .first .0 + i) % blocksOf s) ≡ blockAt before ((s .elements .first .0 + i) % blocksOf s)
+  pub gains : StoredAs (element x) after marks (blocksOf s) (s .elements .first .0 + s .elements .pending)
 
 queue-grow : (last pass : ℕ) (xs ys : List Element) (k : ℕ) (fs : List (List ℕ)) → k + length fs ≤ length xs → Queue last pass xs k fs → Queue last pass (xs ++ ys) k fs
 unfolding Queue
@@ -204,8 +204,8 @@ module _ {last pass : ℕ} {on-newest none-bears : Type 0} (w : World) (set : Se
 
   module _ (window : List ℕ) (c : Content last pass w (l .k) (l .edge)) (g : Gains (w .session) (w .window) window x (elements.acceptedOf (w .session .elements) mark .marks)) where
     -- an item that was pending stays as it was stored
-    stays : (y : Item) (i : ℕ) → i < w .session .elements .pending → StoredAs y (w .window) (w .session .elements .marks) (windowOf (w .session)) (w .session .elements .first .0 + i)
-        → StoredAs y window (elements.acceptedOf (w .session .elements) mark .marks) (windowOf (w .session)) (w .session .elements .first .0 + i)
+    stays : (y : Item) (i : ℕ) → i < w .session .elements .pending → StoredAs y (w .window) (w .session .elements .marks) (blocksOf (w .session)) (w .session .elements .first .0 + i)
+        → StoredAs y window (elements.acceptedOf (w .session .elements) mark .marks) (blocksOf (w .session)) (w .session .elements .first .0 + i)
     stays (element (block b)) i h old =
         (g .keeps i h ∙ old .0, mark-kept (w .session .elements .marks) (w .session .elements .first .0) i (w .session .elements .pending) mark h (omega (arith, acc .room, l .counted .wide)) ∙ old .1)
     stays (element filemark) i h old = mark-kept (w .session .elements .marks) (w .session .elements .first .0) i (w .session .elements .pending) mark h (omega (arith, acc .room, l .counted .wide)) ∙ old
@@ -217,19 +217,19 @@ module _ {last pass : ℕ} {on-newest none-bears : Type 0} (w : World) (set : Se
         item-in (w .notes .accepted ++ x ∷ []) n (omega (arith, count-is, grown)) ∙ ap element (getD-at (w .notes .accepted) x [] filemark n (sym count-is))
 
     stored-more : (i : ℕ) → i < withElement (w .session) mark .elements .pending
-        → StoredAs (itemAt (w .notes .accepted ++ x ∷ []) (w .session .elements .first .0 + i)) window (elements.acceptedOf (w .session .elements) mark .marks) (windowOf (w .session)) (w .session .elements .first .0 + i)
+        → StoredAs (itemAt (w .notes .accepted ++ x ∷ []) (w .session .elements .first .0 + i)) window (elements.acceptedOf (w .session .elements) mark .marks) (blocksOf (w .session)) (w .session .elements .first .0 + i)
     stored-more i h = go (eq-or-lt-of-le upper)
       where
         upper : i ≤ w .session .elements .pending
         upper = omega (arith, plain-pending)
 
         go : (i ≡ w .session .elements .pending) ⊎ (i < w .session .elements .pending)
-            → StoredAs (itemAt (w .notes .accepted ++ x ∷ []) (w .session .elements .first .0 + i)) window (elements.acceptedOf (w .session .elements) mark .marks) (windowOf (w .session)) (w .session .elements .first .0 + i)
+            → StoredAs (itemAt (w .notes .accepted ++ x ∷ []) (w .session .elements .first .0 + i)) window (elements.acceptedOf (w .session .elements) mark .marks) (blocksOf (w .session)) (w .session .elements .first .0 + i)
         go (inl same) =
-            subst (λ (j : ℕ). StoredAs (itemAt (w .notes .accepted ++ x ∷ []) (w .session .elements .first .0 + j)) window (elements.acceptedOf (w .session .elements) mark .marks) (windowOf (w .session)) (w .session .elements .first .0 + j)) (sym same)
-            (subst (λ (y : Item). StoredAs y window (elements.acceptedOf (w .session .elements) mark .marks) (windowOf (w .session)) (w .session .elements .first .0 + w .session .elements .pending)) (sym new-item) (g .gains))
+            subst (λ (j : ℕ). StoredAs (itemAt (w .notes .accepted ++ x ∷ []) (w .session .elements .first .0 + j)) window (elements.acceptedOf (w .session .elements) mark .marks) (blocksOf (w .session)) (w .session .elements .first .0 + j)) (sym same)
+            (subst (λ (y : Item). StoredAs y window (elements.acceptedOf (w .session .elements) mark .marks) (blocksOf (w .session)) (w .session .elements .first .0 + w .session .elements .pending)) (sym new-item) (g .gains))
         go (inr low) =
-            subst (λ (y : Item). StoredAs y window (elements.acceptedOf (w .session .elements) mark .marks) (windowOf (w .session)) (w .session .elements .first .0 + i)) (sym (item-more (w .notes .accepted) (x ∷ []) (w .session .elements .first .0 + i) (omega (arith, count-is))))
+            subst (λ (y : Item). StoredAs y window (elements.acceptedOf (w .session .elements) mark .marks) (blocksOf (w .session)) (w .session .elements .first .0 + i)) (sym (item-more (w .notes .accepted) (x ∷ []) (w .session .elements .first .0 + i) (omega (arith, count-is))))
             (stays (itemAt (w .notes .accepted) (w .session .elements .first .0 + i)) i low (c .stored i low))
 
     content-more : (unaltered : Bool) → Content last pass (acceptedWorld w (withElement (w .session) mark) window unaltered x) (l .k) (l .edge)
@@ -294,7 +294,7 @@ keeps-block {last} {pass} {on-newest} {none-bears} w b lent set i te =
         let acc = v .accepting-it in
         let first = w .session .elements .first .0 in
         let pending = w .session .elements .pending in
-        let width = windowOf (w .session) in
+        let width = blocksOf (w .session) in
         let exact : (first + pending) % 2 ^ 32 ≡ first + pending = mod-eq-of-lt (first-small w set l false (block b) acc (l .course)) in
         let place-is : placeOf (w .session) ≡ (first + pending) % width = ap (λ (n : ℕ). n % width) exact in
         let room : placeOf (w .session) * 32768 + 32768 ≤ length lent = subst (λ (n : ℕ). placeOf (w .session) * 32768 + 32768 ≤ n) (sym (v .long)) (place-inside (elements.numberOf (w .session .elements) pending .0) (w .session .setup .highest)) in

@@ -10,7 +10,7 @@ use Rattle.drive.specs.Listed.{Listed}
 use Rattle.drive.specs.Senses.{meaningOf}
 use Rattle.elements.specs.Elements as elements
 use Rattle.recording_state.specs.Accept.{closeOf}
-use Rattle.recording_state.specs.State.{closedOf, OutcomeSaid, windowOf, eodDue, closingStarted, settledOf}
+use Rattle.recording_state.specs.State.{closedOf, OutcomeSaid, blocksOf, eodDue, closingStarted, settledOf}
 use Rattle.recording_state.specs.declared.state.State.{State}
 use Rattle.recording_state.specs.declared.state.Stage.the-variants as S
 use Rattle.recording_state.proofs.Stages.{ElementStage}
@@ -42,9 +42,9 @@ module _ {last pass : ℕ} {on-newest none-bears : Type 0} (w : World) (l : Live
   eod-course (inv.closing q _ c a b g) = never (cc)
   eod-course (inv.finished q _ c a b f g h r y) = never (cc)
 
-  eod-stored : (window : List ℕ) (marks : List Bool) (i : ℕ) → i < (w .session .elements .pending + 1) % 2 ^ 16 → StoredAs (itemAt (w .notes .accepted) (w .session .elements .first .0 + i)) window marks (windowOf (w .session)) (w .session .elements .first .0 + i)
+  eod-stored : (window : List ℕ) (marks : List Bool) (i : ℕ) → i < (w .session .elements .pending + 1) % 2 ^ 16 → StoredAs (itemAt (w .notes .accepted) (w .session .elements .first .0 + i)) window marks (blocksOf (w .session)) (w .session .elements .first .0 + i)
   eod-stored window marks i h =
-      subst (λ (x : Item). StoredAs x window marks (windowOf (w .session)) (w .session .elements .first .0 + i)) (sym (item-past (w .notes .accepted) (w .session .elements .first .0 + i) (omega (arith, count)))) tt
+      subst (λ (x : Item). StoredAs x window marks (blocksOf (w .session)) (w .session .elements .first .0 + i)) (sym (item-past (w .notes .accepted) (w .session .elements .first .0 + i) (omega (arith, count)))) tt
 
   agreed : Course last w (l .k) (l .edge) → Writing last (w .session) (w .drive) (l .k) (l .edge) (w .flight)
   agreed (inv.opening q _ t c) = never (cc)

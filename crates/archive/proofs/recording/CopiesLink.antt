@@ -16,7 +16,7 @@ use Rattle.drive.specs.declared.reply.Reply.{Reply}
 use Rattle.copies.specs.Copies.{nextAddress}
 use Rattle.copies.specs.declared.copies.Copies.{Copies}
 use Rattle.copies.proofs.Counts.{CountsOf}
-use Rattle.copies.proofs.DueAddress.{PlacedOf}
+use Rattle.copies.proofs.Placed.{PlacedOf}
 use Rattle.recording_state.specs.declared.state.State.{State}
 use Rattle.archive.specs.Recordings as recordings
 use Rattle.archive.specs.Recordings.{Flight}
@@ -25,7 +25,7 @@ use Rattle.archive.proofs.recording.HeaderCopies.{Copy}
 -- the drive is at the copies' place; it has taken so many more than the session knows of
 pub record CopyLink (c : Copies) (d : Drive) (extra : ℕ) : Type 0 where
   pub placed : c .locate ≡ false
-  pub next-is : d .at + length (d .buffer) ≡ nextAddress c + extra
+  pub next-is : d .at + length (d .buffer) ≡ nextAddress c .0 + extra
   pub known : length (d .buffer) ≤ c .outstanding + extra
   pub roof : c .copy + extra ≤ 5
   pub alike : d .buffer ≡ replicate (length (d .buffer)) (headerFrame (c .header))
@@ -36,13 +36,13 @@ pub record CopyLink (c : Copies) (d : Drive) (extra : ℕ) : Type 0 where
 pub record CopySeek (c : Copies) (d : Drive) : Type 0 where
   pub due : c .locate ≡ true
   pub rests : AtRest d
-  pub kept : (c .confirmed ≡ 0) ⊎ Copy (c .header) (d .tape) (nextAddress c)
+  pub kept : (c .confirmed ≡ 0) ⊎ Copy (c .header) (d .tape) (nextAddress c .0)
 
 -- what is known while a command is with the drive, or is to be given again
 pub data CopyAsks (c : Copies) (d : Drive) : Command → Type 0 where
-  writes : (a : Address) → a .0 ≡ nextAddress c → c .copy < 5 → CopyLink c d 0 → CopyAsks c d (Write a)
+  writes : (a : Address) → a .0 ≡ nextAddress c .0 → c .copy < 5 → CopyLink c d 0 → CopyAsks c d (Write a)
   asks : CopyLink c d 0 → CopyAsks c d ReadPosition
-  seeks : (a : Address) → a .0 ≡ nextAddress c → CopySeek c d → CopyAsks c d (Locate a)
+  seeks : (a : Address) → a .0 ≡ nextAddress c .0 → CopySeek c d → CopyAsks c d (Locate a)
 
 -- and while its reply is on the way. A reply that ends the session is in Rejecting.
 pub data CopyAnswered (c : Copies) (d : Drive) (r : Reply) : Command → Type 0 where
@@ -50,7 +50,7 @@ pub data CopyAnswered (c : Copies) (d : Drive) (r : Reply) : Command → Type 0 
   counted : Means r good → length (d .buffer) ≤ r .buffered → CopyLink c d 0 → CopyAnswered c d r ReadPosition
   failed-write : (a : Address) → Means r writeError → d .failed ≡ true → r .position .0 ≡ d .at → CopyLink c d 0 → CopyAnswered c d r (Write a)
   failed-position : Means r writeError → d .failed ≡ true → r .position .0 ≡ d .at → CopyLink c d 0 → CopyAnswered c d r ReadPosition
-  moved : (a : Address) → Means r good → a .0 ≡ nextAddress c → d .buffer ≡ [] → d .failed ≡ false → d .at ≡ a .0 → CopySeek c d → CopyAnswered c d r (Locate a)
+  moved : (a : Address) → Means r good → a .0 ≡ nextAddress c .0 → d .buffer ≡ [] → d .failed ≡ false → d .at ≡ a .0 → CopySeek c d → CopyAnswered c d r (Locate a)
   waits : (k : Command) → Means r busy → CopyAsks c d k → CopyAnswered c d r k
 
 -- the frame of a WRITE in flight

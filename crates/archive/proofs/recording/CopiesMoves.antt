@@ -191,7 +191,7 @@ link-takes {c} {d} f same left l =
     }
 
 -- a header's WRITE goes to a header group
-pub next-header : (c : Copies) → c .copy < 5 → isHeader (nextAddress c) ≡ true
+pub next-header : (c : Copies) → c .copy < 5 → isHeader (nextAddress c .0) ≡ true
 next-header c left = subst (λ (x : ℕ). isHeader x ≡ true) (header-from-first (c .group) (c .copy) left) (is-header (c .group) (c .copy))
 
 -- an answer that the session goes on with, or ends at

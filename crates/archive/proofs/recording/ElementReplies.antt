@@ -9,7 +9,6 @@ use native.Mathlib.Nat.{mod-eq-of-lt}
 use native.Mathlib.Omega.{arith}
 use lib.Dec.{eqb}
 use lib.ListN.{length}
-use Rattle.geometry.specs.Place.{asAddress}
 use Rattle.geometry.specs.Cartridge.{isUser}
 use Rattle.geometry.proofs.TestLaws.{either-right}
 use Rattle.geometry.proofs.Impossible.{never, clash}
@@ -23,11 +22,11 @@ use Rattle.archive.specs.Tape.{Tape, Cartridge}
 use Rattle.drive.specs.declared.command.Command.{Command}
 use Rattle.drive.specs.declared.reply.Reply.{Reply}
 use Rattle.copies.proofs.Counts.{start-counts}
-use Rattle.copies.proofs.DueAddress.{start-placed}
+use Rattle.copies.proofs.Placed.{start-placed}
 use Rattle.elements.specs.Reply as reply
 use Rattle.elements.specs.declared.elements.Elements.{Elements}
-use Rattle.recording_state.specs.State.{OutcomeSaid, windowOf, accepting, withElements, closingHeader, closingStarted, settledOf}
-use Rattle.recording_state.specs.Reply.{caseOf, answeredOf, repeatedOf, elementReplyBy, replyBy, replyOf}
+use Rattle.recording_state.specs.State.{OutcomeSaid, blocksOf, accepting, withElements, closingHeader, closingStarted, settledOf}
+use Rattle.recording_state.specs.Reply.{caseOf, repliedOf, repeatedOf, elementReplyBy, replyBy, replyOf}
 use Rattle.recording_state.specs.declared.state.State.{State}
 use Rattle.recording_state.specs.declared.state.Stage.the-variants as S
 use Rattle.recording_state.proofs.Stages.{HeaderStage, ElementStage, element-not-done}
@@ -81,7 +80,7 @@ module _ {last pass : ℕ} {on-newest none-bears : Type 0} (w : World) (r : Repl
 
   module _ (e : Elements) (s : Step last (w .session) (w .drive) (l .k) (l .edge) e) where
     abbrev stepped : State
-    stepped = withElements (answeredOf (w .session)) e
+    stepped = withElements (repliedOf (w .session)) e
 
     total-so : totalOf (e .eod) (length (w .notes .accepted)) ≡ totalOf (w .session .elements .eod) (length (w .notes .accepted))
     total-so = ap (λ (x : Bool). totalOf x (length (w .notes .accepted))) (s .eod-is)
@@ -97,13 +96,13 @@ module _ {last pass : ℕ} {on-newest none-bears : Type 0} (w : World) (r : Repl
         let first-is = s .first-is in
         record { wide = c .wide; held = s .held; windowed = omega arith; numbered = omega (arith, total-so); marks = ap (λ (x : List Bool). length x) (s .marks-is) ∙ c .marks; room = s .room }
 
-    stored-so : Content last pass w (l .k) (l .edge) → (i : ℕ) → i < e .pending → StoredAs (itemAt (w .notes .accepted) (e .first .0 + i)) (w .window) (e .marks) (windowOf (w .session)) (e .first .0 + i)
+    stored-so : Content last pass w (l .k) (l .edge) → (i : ℕ) → i < e .pending → StoredAs (itemAt (w .notes .accepted) (e .first .0 + i)) (w .window) (e .marks) (blocksOf (w .session)) (e .first .0 + i)
     stored-so c i h =
         let pending-is = s .pending-is in
         let first-is = s .first-is in
         let at : w .session .elements .first .0 + (s .n + i) ≡ e .first .0 + i = omega arith in
-        subst (λ (m : List Bool). StoredAs (itemAt (w .notes .accepted) (e .first .0 + i)) (w .window) m (windowOf (w .session)) (e .first .0 + i)) (sym (s .marks-is))
-        (subst (λ (j : ℕ). StoredAs (itemAt (w .notes .accepted) j) (w .window) (w .session .elements .marks) (windowOf (w .session)) j) at (c .stored (s .n + i) (omega arith)))
+        subst (λ (m : List Bool). StoredAs (itemAt (w .notes .accepted) (e .first .0 + i)) (w .window) m (blocksOf (w .session)) (e .first .0 + i)) (sym (s .marks-is))
+        (subst (λ (j : ℕ). StoredAs (itemAt (w .notes .accepted) j) (w .window) (w .session .elements .marks) (blocksOf (w .session)) j) at (c .stored (s .n + i) (omega arith)))
 
     content-so : none-bears → w .notes .unaltered ≡ true → Content last pass (repliedWorld w stepped) (l .k) (s .tried)
     content-so p u =
@@ -195,16 +194,16 @@ module _ {last pass : ℕ} {on-newest none-bears : Type 0} (w : World) (r : Repl
 
   -- ---- by stage
 
-  settles : w .session .exchange .again ≡ false → EodDue (w .session .elements) (w .session .closed) → (e : Elements) → Step last (w .session) (w .drive) (l .k) (l .edge) e → Inv last pass on-newest none-bears (repliedWorld w (settledOf (withElements (answeredOf (w .session)) e)))
+  settles : w .session .exchange .again ≡ false → EodDue (w .session .elements) (w .session .closed) → (e : Elements) → Step last (w .session) (w .drive) (l .k) (l .edge) e → Inv last pass on-newest none-bears (repliedWorld w (settledOf (withElements (repliedOf (w .session)) e)))
   settles again (inv.not-yet v) e s =
       let x = stepped-live e s (inv.writing st (inv.not-yet (s .eod-is ∙ v)) (s .writing)) in
-      settled-cases (withElements (answeredOf (w .session)) e) (λ (u : State). Inv last pass on-newest none-bears (repliedWorld w u)) (λ _. live wr x)
-      (λ a b c z. live wr (eod-live (repliedWorld w (withElements (answeredOf (w .session)) e)) x a b c z)) (λ _ b _. clash b (s .eod-is ∙ v))
+      settled-cases (withElements (repliedOf (w .session)) e) (λ (u : State). Inv last pass on-newest none-bears (repliedWorld w u)) (λ _. live wr x)
+      (λ a b c z. live wr (eod-live (repliedWorld w (withElements (repliedOf (w .session)) e)) x a b c z)) (λ _ b _. clash b (s .eod-is ∙ v))
   settles again (inv.alone v c one) e s =
-      settled-cases (withElements (answeredOf (w .session)) e) (λ (u : State). Inv last pass on-newest none-bears (repliedWorld w u)) (λ why. live wr (stepped-live e s (inv.writing st (inv.alone (s .eod-is ∙ v) c (still why)) (s .writing))))
+      settled-cases (withElements (repliedOf (w .session)) e) (λ (u : State). Inv last pass on-newest none-bears (repliedWorld w u)) (λ why. live wr (stepped-live e s (inv.writing st (inv.alone (s .eod-is ∙ v) c (still why)) (s .writing))))
       (λ _ b _ _. clash (s .eod-is ∙ v) b) (λ _ _ none. live wr (closing-live e s v c (omega arith) none again))
     where
-      still : (0 < e .pending) ⊎ (HeaderStage (withElements (answeredOf (w .session)) e) ⊎ (w .session .stage ≡ S.Done)) ⊎ ((e .eod ≡ false) × (w .session .closed ≡ false)) → e .pending ≡ 1
+      still : (0 < e .pending) ⊎ (HeaderStage (withElements (repliedOf (w .session)) e) ⊎ (w .session .stage ≡ S.Done)) ⊎ ((e .eod ≡ false) × (w .session .closed ≡ false)) → e .pending ≡ 1
       still (inl h) = let p = s .pending-is in omega arith
       still (inr (inl (inl (inl h)))) = never (cc)
       still (inr (inl (inl (inr h)))) = never (cc)
@@ -268,12 +267,12 @@ module _ {last pass : ℕ} {on-newest none-bears : Type 0} (w : World) (r : Repl
         by writeOverflow (case-is (w .session) r (l .going) asked e m) (by-elements (w .session) _ _ st ∙ ap (λ (y : Command). elementReplyBy (kept-short y) (w .session)) e) (steps.goes _ (filled-step last (w .session) (w .drive) (l .k) (l .edge) small again (l .counted .held) low (l .counted .room) a lo x)) (link-safe x)
       where
         kept-short : Command → reply.SteppedSaid
-        kept-short y = reply.kept (reply.overflowedOf (w .session .elements) (asAddress (commandAddress y)))
+        kept-short y = reply.kept (reply.overflowedOf (w .session .elements) (commandAddress y))
     element-replies c e (elements.moved a m none-left f p x) =
         by locateGood (case-is (w .session) r (l .going) asked e m) (by-elements (w .session) _ _ st ∙ ap (λ (y : Command). elementReplyBy (kept-located y) (w .session)) e) (steps.goes _ (moved-step last (w .session) (w .drive) (l .k) (l .edge) small again (l .counted .held) low (l .counted .room) a none-left f p x)) (rests-safe (x .rests))
       where
         kept-located : Command → reply.SteppedSaid
-        kept-located y = reply.kept (reply.locatedOf (w .session .elements) (asAddress (commandAddress y)))
+        kept-located y = reply.kept (reply.locatedOf (w .session .elements) (commandAddress y))
     element-replies c e (elements.waits k m x) = busy-by m e x
 
   pub elements-reply : EodDue (w .session .elements) (w .session .closed) → Writing last (w .session) (w .drive) (l .k) (l .edge) (recordings.answered r) → After (replyOf (w .session) r)

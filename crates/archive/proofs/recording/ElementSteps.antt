@@ -19,10 +19,10 @@ use Rattle.geometry.proofs.PickLaws.{pick-by}
 use Rattle.archive.specs.Conduct.{Drive, AtRest, empty, stopped}
 use Rattle.elements.specs.Elements.{baseOf, limitOf, numberOf}
 use Rattle.elements.specs.Reply as reply
-use Rattle.elements.specs.Reply.{kept, refusing, locatedOf, takenOf, confirmedOf, overflowedOf, notedOf, fullOf, failedTo, countedOf, failedOf}
+use Rattle.elements.specs.Reply.{kept, ending, locatedOf, takenOf, confirmedOf, overflowedOf, notedOf, fullOf, failedTo, countedOf, failedOf}
 use Rattle.elements.specs.declared.elements.Elements.{Elements}
 use Rattle.recording_state.specs.State.{withElements}
-use Rattle.recording_state.specs.Reply.{answeredOf}
+use Rattle.recording_state.specs.Reply.{repliedOf}
 use Rattle.recording_state.specs.declared.state.State.{State}
 use Rattle.recording_state.proofs.Kept.{heldOf}
 use Rattle.geometry.proofs.PastReserved.{past-reserved-least}
@@ -45,19 +45,19 @@ pub record Step (last : ℕ) (s : State) (d : Drive) (k edge : ℕ) (e : Element
   pub room : e .limit .0 ≤ last + 1
   pub marks-is : e .marks ≡ s .elements .marks
   pub eod-is : e .eod ≡ s .elements .eod
-  pub writing : Writing last (withElements (answeredOf s) e) d k tried recordings.no-command
+  pub writing : Writing last (withElements (repliedOf s) e) d k tried recordings.no-command
   -- where the last was confirmed, all are on tape, and it lies before the next address, where the drive is
   pub all : 0 < s .elements .pending → e .pending ≡ 0 → (k ≡ e .first .0) × AtRest d × (isUser last (e .next .0 - 1) ≡ true) × (e .next .0 ≡ d .at)
 
 pub data Reached (last : ℕ) (s : State) (d : Drive) (k edge : ℕ) : reply.SteppedSaid → Type 0 where
   goes : (e : Elements) → Step last s d k edge e → Reached last s d k edge (kept e)
-  unlawful : (e : Elements) → Reached last s d k edge (refusing e 8)
-  full : (e : Elements) → Reached last s d k edge (refusing e 9)
+  unlawful : (e : Elements) → Reached last s d k edge (ending e 8)
+  full : (e : Elements) → Reached last s d k edge (ending e 9)
 
 module _ (last : ℕ) (s : State) (d : Drive) (k edge : ℕ) (small : last + 65 < 2 ^ 32) (again : s .exchange .again ≡ false) (held : s .elements .outstanding ≤ s .elements .pending) (low : s .elements .pending ≤ 64) (room : s .elements .limit .0 ≤ last + 1) where
   -- nothing is confirmed
   unconfirmed : (e : Elements) → e .first ≡ s .elements .first → e .pending ≡ s .elements .pending → e .outstanding ≤ e .pending → e .limit .0 ≤ last + 1 → e .marks ≡ s .elements .marks → e .eod ≡ s .elements .eod
-      → Writing last (withElements (answeredOf s) e) d k edge recordings.no-command → Step last s d k edge e
+      → Writing last (withElements (repliedOf s) e) d k edge recordings.no-command → Step last s d k edge e
   unconfirmed e first pending out limit marks eod writing = record {
     n = 0;
     tried = edge;
@@ -127,7 +127,7 @@ module _ (last : ℕ) (s : State) (d : Drive) (k edge : ℕ) (small : last + 65 
 
     -- n are confirmed, of which the others stay outstanding or are due again
     confirms : (n tried : ℕ) (e : Elements) → e .first ≡ confirmedOf (s .elements) n .first → e .pending ≡ confirmedOf (s .elements) n .pending → e .outstanding ≤ confirmedOf (s .elements) n .outstanding → e .limit ≡ confirmedOf (s .elements) n .limit
-        → e .marks ≡ confirmedOf (s .elements) n .marks → e .eod ≡ confirmedOf (s .elements) n .eod → edge ≤ tried → n ≤ s .elements .outstanding → Writing last (withElements (answeredOf s) e) d k tried recordings.no-command
+        → e .marks ≡ confirmedOf (s .elements) n .marks → e .eod ≡ confirmedOf (s .elements) n .eod → edge ≤ tried → n ≤ s .elements .outstanding → Writing last (withElements (repliedOf s) e) d k tried recordings.no-command
         → (0 < s .elements .pending → e .pending ≡ 0 → (k ≡ e .first .0) × AtRest d × (isUser last (e .next .0 - 1) ≡ true) × (e .next .0 ≡ d .at)) → Step last s d k edge e
     unfolding confirmedOf
     confirms n tried e first pending out limit marks eod further few writing all = record {

@@ -23,11 +23,11 @@ use Rattle.drive.specs.declared.command.Command.the-variants.{Read, Write, Loca
 use Rattle.drive.proofs.CaseLaws.{command-by}
 use Rattle.copies.specs.Copies as copying
 use Rattle.copies.proofs.CommandView as command
-use Rattle.copies.proofs.DueAddress.{PlacedOf}
+use Rattle.copies.proofs.Placed.{PlacedOf}
 use Rattle.geometry.proofs.HeaderPlaces.{header-from-first}
 use Rattle.elements.specs.Due as due
 use Rattle.elements.proofs.DueView as rule
-use Rattle.recording_state.specs.State.{windowOf, windowLength}
+use Rattle.recording_state.specs.State.{blocksOf, windowLength}
 use Rattle.recording_state.specs.Written.{amongElements, writtenFrame}
 use Rattle.recording_state.specs.Fetch.{FetchedSaid, fetchOf, awaits, frameFor, sending}
 use Rattle.recording_state.specs.declared.state.State.{State}
@@ -116,8 +116,8 @@ module _ {last pass : ℕ} {on-newest none-bears : Type 0} (w : World) (lent fra
   known-left n = ⊎-elim (λ y. inl (y .0, as-left (y .1) .0)) inr n
 
   stored-lent : lent ≡ w .window → Content last pass w (l .k) (l .edge) → (i : ℕ) → i < w .session .elements .pending
-      → StoredAs (itemAt (w .notes .accepted) (w .session .elements .first .0 + i)) lent (w .session .elements .marks) (windowOf (w .session)) (w .session .elements .first .0 + i)
-  stored-lent e c i h = subst (λ (x : List ℕ). StoredAs (itemAt (w .notes .accepted) (w .session .elements .first .0 + i)) x (w .session .elements .marks) (windowOf (w .session)) (w .session .elements .first .0 + i)) (sym e) (c .stored i h)
+      → StoredAs (itemAt (w .notes .accepted) (w .session .elements .first .0 + i)) lent (w .session .elements .marks) (blocksOf (w .session)) (w .session .elements .first .0 + i)
+  stored-lent e c i h = subst (λ (x : List ℕ). StoredAs (itemAt (w .notes .accepted) (w .session .elements .first .0 + i)) x (w .session .elements .marks) (blocksOf (w .session)) (w .session .elements .first .0 + i)) (sym e) (c .stored i h)
 
   -- ---- nothing goes out: idle, or done
 
@@ -195,9 +195,9 @@ module _ {last pass : ℕ} {on-newest none-bears : Type 0} (w : World) (lent fra
 
     asks-header : {x : CommandSaid} → PlacedOf (w .session .copies) → command.CommandView (w .session .setup .depth) (w .session .copies) x → w .session .exchange .again ≡ false → Copying (w .session) (w .drive) recordings.no-command → CopyAsks (w .session .copies) (w .drive) (commandFor x)
     asks-header pl (command.locating t) ag (copies.at-place a g x) = clash t (x .placed)
-    asks-header pl (command.locating t) ag (copies.to-seek a g x) = copies.seeks (asAddress (copying.headerAt (w .session .copies))) (header-from-first (w .session .copies .group) (w .session .copies .copy) (pl .left t)) x
+    asks-header pl (command.locating t) ag (copies.to-seek a g x) = copies.seeks (copying.headerAt (w .session .copies)) (header-from-first (w .session .copies .group) (w .session .copies .copy) (pl .left t)) x
     asks-header pl (command.locating t) ag (copies.again a g x) = clash g ag
-    asks-header pl (command.writing f left room) ag (copies.at-place a g x) = copies.writes (asAddress (copying.headerAt (w .session .copies))) (header-from-first (w .session .copies .group) (w .session .copies .copy) left) left x
+    asks-header pl (command.writing f left room) ag (copies.at-place a g x) = copies.writes (copying.headerAt (w .session .copies)) (header-from-first (w .session .copies .group) (w .session .copies .copy) left) left x
     asks-header pl (command.writing f left room) ag (copies.to-seek a g x) = clash (x .due) f
     asks-header pl (command.writing f left room) ag (copies.again a g x) = clash g ag
     asks-header pl (command.asking f y) ag (copies.at-place a g x) = copies.asks x

@@ -18,7 +18,7 @@ use Rattle.drive.specs.declared.reply.Reply.{Reply}
 use Rattle.copies.specs.Copies as copying
 use Rattle.elements.specs.declared.elements.Elements.{Elements}
 use Rattle.recording_state.specs.State.{OutcomeSaid, accepting, ending, followingOf, withStage, withCopies, settledOf}
-use Rattle.recording_state.specs.Reply.{caseOf, answeredOf, repeatedOf, headerReplyBy, replyBy, replyOf}
+use Rattle.recording_state.specs.Reply.{caseOf, repliedOf, repeatedOf, headerReplyBy, replyBy, replyOf}
 use Rattle.recording_state.specs.declared.state.State.{State}
 use Rattle.recording_state.specs.declared.state.Stage.{Stage}
 use Rattle.recording_state.specs.declared.state.Stage.the-variants as S
@@ -114,7 +114,7 @@ module _ {last pass : ℕ} {on-newest none-bears : Type 0} (w : World) (r : Repl
   -- the copies are through: another stage
   module _ (to : Stage) (spare : spareOf (w .session .stage) ≡ spareOf to) where
     abbrev onward : State
-    onward = withStage (answeredOf (w .session)) to
+    onward = withStage (repliedOf (w .session)) to
 
     staged-live : Course last (repliedWorld w onward) (l .k) (l .edge) → (w .notes .reported ≡ true → to ≡ S.Done) → (to ≡ S.Elements → w .drive .failed ≡ false → Queue last pass (w .notes .accepted) (l .k) (w .drive .buffer))
         → (to ≡ S.Elements → w .session .elements .eod ≡ true → ⊥) → ((to ≡ S.ClosingHeaders) ⊎ (to ≡ S.Done) → w .session .stage ≡ S.ClosingHeaders) → Live last pass on-newest none-bears (repliedWorld w onward)
@@ -138,7 +138,7 @@ module _ {last pass : ℕ} {on-newest none-bears : Type 0} (w : World) (r : Repl
 
   module _ (q : w .session .stage ≡ S.OpeningHeaders) (v : w .session .elements .eod ≡ false) (t : inv.Unstarted last (w .session .elements) (l .k) (l .edge)) (again : w .session .exchange .again ≡ false) (asked : w .session .exchange .awaiting ≡ true) where
     abbrev opened : State
-    opened = withStage (answeredOf (w .session)) S.Elements
+    opened = withStage (repliedOf (w .session)) S.Elements
 
     nothing-queued : AtRest (w .drive) → w .drive .failed ≡ false → Queue last pass (w .notes .accepted) (l .k) (w .drive .buffer)
     unfolding Queue
@@ -162,11 +162,11 @@ module _ {last pass : ℕ} {on-newest none-bears : Type 0} (w : World) (r : Repl
 
     opening-next : {s : copying.ProgressSaid} → Next (w .session .copies .header) (w .drive) s → Safe last (w .drive) → After (headerReplyBy s (w .session))
     opening-next (next.at-place c e n p x) safe =
-        live wr (more-live (inl q) again asked (withCopies (answeredOf (w .session)) c) (l .going) refl refl refl e (inv.opening q v t (record { counts = n; placed = p; copying = copies.at-place refl again x })))
+        live wr (more-live (inl q) again asked (withCopies (repliedOf (w .session)) c) (l .going) refl refl refl e (inv.opening q v t (record { counts = n; placed = p; copying = copies.at-place refl again x })))
     opening-next (next.to-seek c e n p x) safe =
-        live wr (more-live (inl q) again asked (withCopies (answeredOf (w .session)) c) (l .going) refl refl refl e (inv.opening q v t (record { counts = n; placed = p; copying = copies.to-seek refl again x })))
+        live wr (more-live (inl q) again asked (withCopies (repliedOf (w .session)) c) (l .going) refl refl refl e (inv.opening q v t (record { counts = n; placed = p; copying = copies.to-seek refl again x })))
     opening-next (next.through rests copy) safe =
-        subst (λ (x : Stage). Inv last pass on-newest none-bears (repliedWorld w (settledOf (withStage (answeredOf (w .session)) (followingOf x))))) (sym q)
+        subst (λ (x : Stage). Inv last pass on-newest none-bears (repliedWorld w (settledOf (withStage (repliedOf (w .session)) (followingOf x))))) (sym q)
         (settled-cases opened (λ (v : State). Inv last pass on-newest none-bears (repliedWorld w v)) (λ _. live wr (opened-live rests)) (λ a b c z. live wr (eod-live (repliedWorld w opened) (opened-live rests) a b c z)) (λ _ b _. clash b v))
     opening-next (next.ends n) safe = ends-so (w .session) n (λ z. never (cc)) safe
 
@@ -174,7 +174,7 @@ module _ {last pass : ℕ} {on-newest none-bears : Type 0} (w : World) (r : Repl
 
   module _ (q : w .session .stage ≡ S.ClosingHeaders) (v : w .session .elements .eod ≡ true) (closed : w .session .closed ≡ true) (k0 : l .k ≡ length (w .notes .accepted) + 1) (e0 : l .edge ≡ last + 1) (again : w .session .exchange .again ≡ false) (asked : w .session .exchange .awaiting ≡ true) where
     abbrev done : State
-    done = withStage (answeredOf (w .session)) S.Done
+    done = withStage (repliedOf (w .session)) S.Done
 
     done-live : AtRest (w .drive) → Copy (w .session .copies .header) (w .drive .tape) 2995 → Live last pass on-newest none-bears (repliedWorld w done)
     done-live rests copy =
@@ -182,11 +182,11 @@ module _ {last pass : ℕ} {on-newest none-bears : Type 0} (w : World) (r : Repl
 
     closing-next : {s : copying.ProgressSaid} → Next (w .session .copies .header) (w .drive) s → Safe last (w .drive) → After (headerReplyBy s (w .session))
     closing-next (next.at-place c e n p x) safe =
-        live wr (more-live (inr q) again asked (withCopies (answeredOf (w .session)) c) (l .going) refl refl refl e (inv.closing q v closed k0 e0 (record { counts = n; placed = p; copying = copies.at-place refl again x })))
+        live wr (more-live (inr q) again asked (withCopies (repliedOf (w .session)) c) (l .going) refl refl refl e (inv.closing q v closed k0 e0 (record { counts = n; placed = p; copying = copies.at-place refl again x })))
     closing-next (next.to-seek c e n p x) safe =
-        live wr (more-live (inr q) again asked (withCopies (answeredOf (w .session)) c) (l .going) refl refl refl e (inv.closing q v closed k0 e0 (record { counts = n; placed = p; copying = copies.to-seek refl again x })))
+        live wr (more-live (inr q) again asked (withCopies (repliedOf (w .session)) c) (l .going) refl refl refl e (inv.closing q v closed k0 e0 (record { counts = n; placed = p; copying = copies.to-seek refl again x })))
     closing-next (next.through rests copy) safe =
-        subst (λ (x : Stage). Inv last pass on-newest none-bears (repliedWorld w (settledOf (withStage (answeredOf (w .session)) (followingOf x))))) (sym q)
+        subst (λ (x : Stage). Inv last pass on-newest none-bears (repliedWorld w (settledOf (withStage (repliedOf (w .session)) (followingOf x))))) (sym q)
         (settled-cases done (λ (v : State). Inv last pass on-newest none-bears (repliedWorld w v)) (λ _. live wr (done-live rests copy)) (λ a _ _ _. never (cc)) (λ a _ _. never (cc)))
     closing-next (next.ends n) safe = ends-so (w .session) n (λ z. never (cc)) safe
 
@@ -211,8 +211,8 @@ module _ {last pass : ℕ} {on-newest none-bears : Type 0} (w : World) (r : Repl
     unfolding replyBy
     header-replies c e (copies.taken a m x) = by writeGood (case-is (w .session) r (l .going) asked e m) (by-headers (w .session) _ _ st) (taken-next (w .session .copies) (w .drive) (agree .counts) x) (answered-safe {r = r} (agree .counts) (copies.taken a m x))
     header-replies c e (copies.counted m b x) = by positionGood (case-is (w .session) r (l .going) asked e m) (by-headers (w .session) _ _ st) (counted-next (w .session .copies) (w .drive) (agree .counts) (r .buffered) b x) (answered-safe {r = r} (agree .counts) (copies.counted m b x))
-    header-replies c e (copies.failed-write a m f p x) = by writeFailed (case-is (w .session) r (l .going) asked e m) (by-headers (w .session) _ _ st) (failed-next (w .session .copies) (w .drive) (agree .counts) (r .position .0) p f x) (inv.halted f)
-    header-replies c e (copies.failed-position m f p x) = by positionFailed (case-is (w .session) r (l .going) asked e m) (by-headers (w .session) _ _ st) (failed-next (w .session .copies) (w .drive) (agree .counts) (r .position .0) p f x) (inv.halted f)
+    header-replies c e (copies.failed-write a m f p x) = by writeFailed (case-is (w .session) r (l .going) asked e m) (by-headers (w .session) _ _ st) (failed-next (w .session .copies) (w .drive) (agree .counts) (r .position) p f x) (inv.halted f)
+    header-replies c e (copies.failed-position m f p x) = by positionFailed (case-is (w .session) r (l .going) asked e m) (by-headers (w .session) _ _ st) (failed-next (w .session .copies) (w .drive) (agree .counts) (r .position) p f x) (inv.halted f)
     header-replies c e (copies.moved a m p none-left f at x) =
         by locateGood (case-is (w .session) r (l .going) asked e m) (by-headers (w .session) _ _ st) (located-next (w .session .copies) (w .drive) (agree .counts) (agree .placed) x none-left (at ∙ p)) (answered-safe {r = r} (agree .counts) (copies.moved a m p none-left f at x))
     header-replies c e (copies.waits k m x) = busy-by m e x

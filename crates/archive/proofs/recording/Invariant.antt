@@ -14,7 +14,7 @@ use Rattle.archive.specs.Tape.{Cartridge}
 use Rattle.drive.specs.declared.command.Command.the-variants.{Write}
 use Rattle.drive.specs.declared.reply.Reply.{Reply}
 use Rattle.elements.specs.declared.elements.Elements.{Elements}
-use Rattle.recording_state.specs.State.{windowOf}
+use Rattle.recording_state.specs.State.{blocksOf}
 use Rattle.recording_state.specs.declared.state.State.{State}
 use Rattle.recording_state.specs.declared.state.Stage.{Stage}
 use Rattle.recording_state.specs.declared.state.Stage.the-variants as S
@@ -106,7 +106,7 @@ pub record Content (last pass : ℕ) (w : World) (k edge : ℕ) : Type 0 where
   pub tape : Cartridge last (w .drive .tape)
   pub seen : Seen last pass (w .notes .accepted) (totalOf (w .session .elements .eod) (length (w .notes .accepted))) k edge (w .drive .tape)
   pub stored : (i : ℕ) → i < w .session .elements .pending
-      → StoredAs (itemAt (w .notes .accepted) (w .session .elements .first .0 + i)) (w .window) (w .session .elements .marks) (windowOf (w .session)) (w .session .elements .first .0 + i)
+      → StoredAs (itemAt (w .notes .accepted) (w .session .elements .first .0 + i)) (w .window) (w .session .elements .marks) (blocksOf (w .session)) (w .session .elements .first .0 + i)
 
 -- ---- the whole, with what may be assumed of the opening: that it was on the newest header or rightly on none, and that no user frame bore the pass
 

@@ -14,7 +14,7 @@ use Rattle.frame.specs.declared.element.Kind.the-variants.{Data, Marker}
 use Rattle.judgement.specs.Judgement.{judgeFrame, foundSaid}
 use Rattle.elements.specs.Elements as elements
 use Rattle.elements.specs.Elements.{kindOf}
-use Rattle.recording_state.specs.State.{windowOf, windowLength}
+use Rattle.recording_state.specs.State.{blocksOf, windowLength}
 use Rattle.recording_state.specs.Window.{blockAt}
 use Rattle.recording_state.specs.Written.{elementPlace, writtenElement, amongElements, writtenFrame}
 use Rattle.recording_state.specs.declared.state.State.{State}
@@ -37,17 +37,17 @@ module _ (last pass : ℕ) (s : State) (window : List ℕ) (xs : List Element) (
       ∙ sym (ap (λ (n : ℕ). judgeFrame (telling (s .copies .header .last .0) (s .copies .header .pass)) (record { 0 = n }) (writtenElement s window)) exact)
       ∙ written-judged s window long (omega (arith, pass-is)) (reads-itself (writtenElement s window))
 
-  place-is : elementPlace s ≡ (s .elements .first .0 + s .elements .outstanding) % windowOf s
-  place-is = ap (λ (n : ℕ). n % windowOf s) exact
+  place-is : elementPlace s ≡ (s .elements .first .0 + s .elements .outstanding) % blocksOf s
+  place-is = ap (λ (n : ℕ). n % blocksOf s) exact
 
-  data-is : {k : Kind} → kindOf (s .elements) ≡ k → take 32768 (writtenElement s window) ≡ dataBytes k (blockAt window ((s .elements .first .0 + s .elements .outstanding) % windowOf s))
+  data-is : {k : Kind} → kindOf (s .elements) ≡ k → take 32768 (writtenElement s window) ≡ dataBytes k (blockAt window ((s .elements .first .0 + s .elements .outstanding) % blocksOf s))
   data-is {k} e = written-data s window long ∙ ap (λ (x : Kind). dataBytes x (blockAt window (elementPlace s))) e ∙ ap (λ (n : ℕ). dataBytes k (blockAt window n)) place-is
 
   stands-as : (x : Item) → kindOf (s .elements) ≡ kindFor x → Carries x (writtenElement s window) → Stands last pass x (s .elements .first .0 + s .elements .outstanding) (writtenElement s window)
   stands-as x kind carries = record { found = found ∙ ap foundSaid kind; carries = carries }
 
   -- an element, as the window and the marks have it
-  element-stands : (x : Element) → s .elements .eod ≡ false → StoredAs (element x) window (s .elements .marks) (windowOf s) (s .elements .first .0 + s .elements .outstanding)
+  element-stands : (x : Element) → s .elements .eod ≡ false → StoredAs (element x) window (s .elements .marks) (blocksOf s) (s .elements .first .0 + s .elements .outstanding)
       → Stands last pass (element x) (s .elements .first .0 + s .elements .outstanding) (writtenElement s window)
   element-stands (block b) v stored =
       let kind : kindOf (s .elements) ≡ Data = pick-f _ v ∙ ap (λ (m : Bool). pick m Marker Data) (stored .1) in
@@ -64,14 +64,14 @@ module _ (last pass : ℕ) (s : State) (window : List ℕ) (xs : List Element) (
   written-is st = pick-t _ (ap amongElements st)
 
   pub sent-element : s .stage ≡ S.Elements → s .elements .eod ≡ false → s .elements .first .0 + s .elements .outstanding < length xs
-      → StoredAs (itemAt xs (s .elements .first .0 + s .elements .outstanding)) window (s .elements .marks) (windowOf s) (s .elements .first .0 + s .elements .outstanding)
+      → StoredAs (itemAt xs (s .elements .first .0 + s .elements .outstanding)) window (s .elements .marks) (blocksOf s) (s .elements .first .0 + s .elements .outstanding)
       → Stands last pass (itemAt xs (s .elements .first .0 + s .elements .outstanding)) (s .elements .first .0 + s .elements .outstanding) (writtenFrame s window)
   sent-element st v inside stored =
       let n = s .elements .first .0 + s .elements .outstanding in
       let is = item-in xs n inside in
       subst (λ (f : List ℕ). Stands last pass (itemAt xs n) n f) (sym (written-is st))
       (subst (λ (x : Item). Stands last pass x n (writtenElement s window)) (sym is)
-      (element-stands (getD xs n filemark) v (subst (λ (x : Item). StoredAs x window (s .elements .marks) (windowOf s) n) is stored)))
+      (element-stands (getD xs n filemark) v (subst (λ (x : Item). StoredAs x window (s .elements .marks) (blocksOf s) n) is stored)))
 
   pub sent-eod : s .stage ≡ S.Elements → s .elements .eod ≡ true → s .elements .first .0 + s .elements .outstanding ≡ length xs
       → Stands last pass (itemAt xs (s .elements .first .0 + s .elements .outstanding)) (s .elements .first .0 + s .elements .outstanding) (writtenFrame s window)

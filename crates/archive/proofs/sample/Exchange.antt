@@ -10,17 +10,19 @@ use Rattle.buffer.proofs.Agreement.{agree-same}
 use Rattle.buffer.specs.Bytes.{agree}
 use Rattle.frame.proofs.Frames.{header-length}
 use Rattle.archive.specs.Conduct.{Drive, Acts, Answers}
+use Rattle.drive.specs.Command.{commandSaid}
 use Rattle.drive.specs.declared.command.Command.{Command}
 use Rattle.drive.specs.declared.reply.Reply.{Reply}
 use Rattle.drive.proofs.CaseLaws.{command-by}
 use Rattle.recording_state.specs.State.{OutcomeSaid, windowLength, accepting, refusing}
 use Rattle.recording_state.specs.Accept.{StoredSaid, blockOf, filemarkOf, closeOf}
-use Rattle.recording_state.specs.Due as decision
-use Rattle.recording_state.specs.Due.{decisionOf, send}
-use Rattle.recording_state.specs.Fetch.{FetchedSaid, awaits, frameFor, sending, answering, fetchOf}
+use Rattle.recording_state.specs.Answer as answer
+use Rattle.recording_state.specs.Answer.{giving}
+use Rattle.recording_state.specs.Due.{decisionOf}
+use Rattle.recording_state.specs.Fetch.{FetchedSaid, awaits, frameFor, sending, fetchOf}
 use Rattle.recording_state.specs.Reply.{replyOf}
 use Rattle.recording_state.specs.declared.state.State.{State}
-use Rattle.recording_state.proofs.FetchView.{fetch-decided}
+use Rattle.recording_state.proofs.FetchView.{fetch-decided, fetch-sends}
 use Rattle.archive.specs.Recordings.{Element, block, filemark, Flight, no-command, answered, World, Call, accept-block, accept-filemark, close, fetch, reply, refusal, returned, fetchNumber, flightAfter, reportedAfter, Calls, refuses, accepts-block, accepts-filemark, closes, fetches, replies, acts, answers, Runs, stop, call, drive, windowAfter, sent, acceptedAfter}
 use Rattle.archive.specs.Sample.{firstOpening, frame}
 
@@ -31,7 +33,7 @@ framed = header-length firstOpening
 pub record Step (s : State) (c : Command) (r : Reply) (next : State) : Type 0 where
   pub free : s .ended || s .exchange .awaiting ≡ false
   pub sized : windowLength s ≡ 32768
-  pub decided : decisionOf s ≡ send c
+  pub decided : decisionOf s ≡ giving (commandSaid c)
   pub replied : replyOf (awaits s c) r ≡ accepting next
 
 module _ (window : List ℕ) (accepted : List Element) where
@@ -56,17 +58,15 @@ module _ (window : List ℕ) (accepted : List Element) where
   }
 
 module _ (window : List ℕ) (accepted : List Element) (s : State) (d : Drive) where
-  fetched : length window ≡ windowLength s → s .ended || s .exchange .awaiting ≡ false → (x : decision.DecisionSaid) → decisionOf s ≡ x → fetchNumber (answering x s window frame .said) ≡ 0
-      → Calls (between window accepted s d) (fetch window frame) (fetchedWorld window accepted d true (answering x s window frame))
-  fetched long free x decided small =
-      let e : fetchOf s window frame ≡ answering x s window frame = fetch-decided s window frame free long framed decided in
-      let p : fetchedWorld window accepted d (true && agree window window) (fetchOf s window frame) ≡ fetchedWorld window accepted d true (answering x s window frame) = ap (λ b. fetchedWorld window accepted d b (fetchOf s window frame)) (agree-same window) ∙ ap (λ y. fetchedWorld window accepted d true y) e in
+  fetched : (x : FetchedSaid) → fetchOf s window frame ≡ x → fetchNumber (x .said) ≡ 0 → Calls (between window accepted s d) (fetch window frame) (fetchedWorld window accepted d true x)
+  fetched x e small =
+      let p : fetchedWorld window accepted d (true && agree window window) (fetchOf s window frame) ≡ fetchedWorld window accepted d true x = ap (λ b. fetchedWorld window accepted d b (fetchOf s window frame)) (agree-same window) ∙ ap (λ y. fetchedWorld window accepted d true y) e in
       subst (λ v. Calls (between window accepted s d) (fetch window frame) v) p (fetches window frame (inl (ap (λ y. fetchNumber (y .said)) e ∙ small)))
 
   -- a last fetch answers done
-  pub done : length window ≡ windowLength s → s .ended || s .exchange .awaiting ≡ false → decisionOf s ≡ decision.done
+  pub done : length window ≡ windowLength s → s .ended || s .exchange .awaiting ≡ false → decisionOf s ≡ answer.done
       → Runs (between window accepted s d) (fetch window frame ∷ []) (reported window accepted s d)
-  done long free decided = call (fetched long free decision.done decided refl) stop
+  done long free decided = call (fetched _ (fetch-decided s window frame free long framed decided) refl) stop
 
   -- the world after a block is stored
   abbrev storedWorld : List ℕ → Bool → StoredSaid → World
@@ -84,7 +84,7 @@ module _ (window : List ℕ) (accepted : List Element) (s : State) (d : Drive) {
       let w : World = world window accepted (awaits s c) e (answered r) in
       let p : between window accepted (replyOf (awaits s c) r .session) e ≡ between window accepted next e = ap (λ (x : OutcomeSaid). between window accepted (x .session) e) (step .replied) in
       let t : Calls w (reply r) (between window accepted next e) = subst (λ v. Calls w (reply r) v) p (replies r refl (inl (ap (λ (x : OutcomeSaid). x .number) (step .replied)))) in
-      call (fetched window accepted s d (long ∙ sym (step .sized)) (step .free) (send c) (step .decided) refl) (drive (answers c (frameFor c s window frame) r e (ap (λ (x : Command). sent x (frameFor c s window frame)) (command-by c)) answer) (call t rest))
+      call (fetched window accepted s d _ (fetch-sends s window frame (step .free) (long ∙ sym (step .sized)) framed c (step .decided)) refl) (drive (answers c (frameFor c s window frame) r e (ap (λ (x : Command). sent x (frameFor c s window frame)) (command-by c)) answer) (call t rest))
 
   pub filemark-accepted : {next : State} → filemarkOf s ≡ accepting next → Runs (between window (accepted ++ filemark ∷ []) next d) cs u → Runs (between window accepted s d) (accept-filemark ∷ cs) u
   filemark-accepted {next} e rest =

@@ -25,7 +25,7 @@ use Rattle.elements.specs.Trail.{noTrail}
 use Rattle.elements.specs.declared.elements.Elements.{Elements}
 use Rattle.recording_state.specs.Open.{fresh}
 use Rattle.recording_state.specs.State.{accepting, settledOf}
-use Rattle.recording_state.specs.Due as decision
+use Rattle.recording_state.specs.Answer as answer
 use Rattle.recording_state.specs.Due.{decisionOf}
 use Rattle.recording_state.specs.Written.{writtenFrame}
 use Rattle.recording_state.specs.Reply.{replyBy, replyOf}
@@ -146,7 +146,7 @@ closing-settled : (e : Elements) (h : Header) → settledOf (finished h e) ≡ f
 unfolding settledOf
 closing-settled e h = pick-by (λ (s : State). s ≡ finished h e) (ltb 0 (e .pending)) (λ q. refl) (λ q. refl)
 
-done-decided : (e : Elements) (h : Header) → decisionOf (finished h e) ≡ decision.done
+done-decided : (e : Elements) (h : Header) → decisionOf (finished h e) ≡ answer.done
 unfolding decisionOf
 done-decided e h = refl
 

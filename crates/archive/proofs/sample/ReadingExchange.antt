@@ -63,7 +63,7 @@ module _ (t : Tape) (deliveries : List Element) (n : ℕ) {cs : List Call} {u : 
       → Runs t (between place deliveries n s) (fetching ∷ cs) u
   command-served {place} {to} {c} {r} {given} s fetched serve rest =
       let w : World = between place deliveries n s in
-      let p : afterFetching w (fetch.fetchOf s) ≡ world place deliveries n (fetch.awaits s c) (sent (commandBy (commandCode c) (commandAddress c))) = ap (afterFetching w) fetched in
+      let p : afterFetching w (fetch.fetchOf s) ≡ world place deliveries n (fetch.awaits s c) (sent (commandBy (commandCode c) (commandAddress c .0))) = ap (afterFetching w) fetched in
       call (subst (λ (x : World). Calls w fetching x) p (fetches (inl (ap (λ (x : fetch.FetchedSaid). fetchNumber (x .said)) fetched)))) (drive (serves c r given to (ap sent (command-by c)) serve) rest)
 
   reply-taken : {place : ℕ} {r : Reply} {given : Option (List ℕ)} {lent : List ℕ} {said : reply.DeliverySaid} {next : Reading} (s : Reading)

@@ -32,15 +32,15 @@ returns : tie.Need-returns
 unfolding failedOf
 returns c =
     let a = c .before .before .before .before .before .before .before .args in
-    sym (pick-t _ (lt-ltb (a .p .0) (oldestAddress (a .c)) (omega arith)))
+    sym (pick-t _ (lt-ltb (a .p .0) (oldestAddress (a .c) .0) (omega arith)))
 
 returns-2 : tie.Need-returns-2
 unfolding failedOf
 returns-2 c =
     let a = c .before .before .before .before .before .before .before .before .before .args in
     sym
-    (pick-f _ (le-ltb (a .p .0) (oldestAddress (a .c)) (omega arith))
-    ∙ pick-t _ (le-leb (nextAddress (a .c)) (a .p .0) (omega arith)))
+    (pick-f _ (le-ltb (a .p .0) (oldestAddress (a .c) .0) (omega arith))
+    ∙ pick-t _ (le-leb (nextAddress (a .c) .0) (a .p .0) (omega arith)))
 
 cast-n : tie.Need-cast-n
 cast-n c = search needs
@@ -67,10 +67,10 @@ returns-3 c =
     ∙ ap onwardOf
     (c .before .failed-at .ensures
     ∙ ap (λ (x : ℕ). failedAt (a .c) (a .p .0 - (x + before .result)) (a .p .0 - x)) (start .ensures)
-    ∙ ap (λ (x : ℕ). failedAt (a .c) (a .p .0 - (firstAddress (a .c) + x)) (a .p .0 - firstAddress (a .c))) (before .ensures))
+    ∙ ap (λ (x : ℕ). failedAt (a .c) (a .p .0 - (firstAddress (a .c) .0 + x)) (a .p .0 - firstAddress (a .c) .0)) (before .ensures))
     ∙ sym
-    (pick-f _ (le-ltb (a .p .0) (oldestAddress (a .c)) (omega arith))
-    ∙ pick-f _ (lt-leb (nextAddress (a .c)) (a .p .0) (omega arith)))
+    (pick-f _ (le-ltb (a .p .0) (oldestAddress (a .c) .0) (omega arith))
+    ∙ pick-f _ (lt-leb (nextAddress (a .c) .0) (a .p .0) (omega arith)))
 
 pub failed-spec : {M : Type 1} → statement M
 failed-spec =

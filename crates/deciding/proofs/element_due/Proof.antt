@@ -1,8 +1,7 @@
 -- `deciding::element_due` meets its contract: each case of what is due is its case of the answer. Assumes nothing.
 use mathlib.Core.Path.{_∙_, sym, ap}
 use Rattle.elements.specs.Due.{dueSaid}
-use Rattle.drive.proofs.CaseLaws.{command-by}
-use Rattle.recording_state.specs.Due.{send, elementDueBy}
+use Rattle.recording_state.specs.Due.{elementDueBy}
 use Rattle.deciding.proofs.element_due.Statement.{statement}
 use Rattle.deciding.proofs.element_due.Tie as tie
 
@@ -19,7 +18,7 @@ enum-known-due-2 : tie.Need-enum-known-due-2
 enum-known-due-2 c = c .match .keys3
 
 returns : tie.Need-returns
-returns c = ap send (sym (command-by (c .before .due2 .given .0 .0))) ∙ ap elementDueBy (sym (ap dueSaid (c .before .due2 .given .1)) ∙ c .before .before .before .due .ensures)
+returns c = ap elementDueBy (sym (ap dueSaid (c .before .due2 .given .1)) ∙ c .before .before .before .due .ensures)
 
 returns-2 : tie.Need-returns-2
 returns-2 c = ap elementDueBy (sym (ap dueSaid (c .enum-told .given .1)) ∙ c .before .before .due .ensures)

@@ -1,8 +1,6 @@
 -- `deciding::header_due` meets its contract: by what the header copies promise of the command. Assumes nothing.
-use mathlib.Core.Path.{sym, ap, _∙_}
-use Rattle.drive.specs.Command.{commandFor}
-use Rattle.drive.proofs.CaseLaws.{command-by}
-use Rattle.recording_state.specs.Due.{send}
+use mathlib.Core.Path.{ap}
+use Rattle.recording_state.specs.Answer.{giving}
 use Rattle.deciding.proofs.header_due.Statement.{statement}
 use Rattle.deciding.proofs.header_due.Tie as tie
 
@@ -10,7 +8,7 @@ command-requires : tie.Need-command-requires
 command-requires c κs = tt
 
 returns : tie.Need-returns
-returns c = ap send (sym (command-by (c .command .result)) ∙ ap commandFor (c .command .ensures))
+returns c = ap giving (c .command .ensures)
 
 pub header-due-spec : {M : Type 1} → statement M
 header-due-spec = tie.close (tie.spec command-requires returns)

@@ -1,19 +1,14 @@
 -- `element_replies::confirmed` meets its contract: by what its callees promise. Assumes nothing.
-use mathlib.Core.Path.{ap}
 use native.Mathlib.Omega.{arith}
-use Rattle.geometry.specs.declared.address.Address.{Address}
 use Rattle.elements.specs.Reply.{confirmedOf}
 use Rattle.element_replies.proofs.confirmed.Statement.{statement}
 use Rattle.element_replies.proofs.confirmed.Tie as tie
 
-base-requires : tie.Need-base-requires
-base-requires c κs = tt
+trail-after-requires : tie.Need-trail-after-requires
+trail-after-requires c κs = tt
 
 number-requires : tie.Need-number-requires
 number-requires c κs = tt
-
-trail-after-requires : tie.Need-trail-after-requires
-trail-after-requires c κs = omega (arith, ap (λ (a : Address). a .0) (c .before .base .ensures))
 
 minus-requires : tie.Need-minus-requires
 minus-requires c κs = tt
@@ -23,7 +18,7 @@ sub-e c = omega arith
 
 returns : tie.Need-returns
 unfolding confirmedOf
-returns c = simp (c .before .before .before .number .ensures, c .before .minus .ensures, c .before .before .trail-after .ensures, c .before .before .before .before .base .ensures)
+returns c = simp (c .before .before .number .ensures, c .before .minus .ensures, c .before .before .before .trail-after .ensures)
 
 pub confirmed-spec : {M : Type 1} → statement M
-confirmed-spec = tie.close (tie.spec base-requires number-requires trail-after-requires minus-requires sub-e returns)
+confirmed-spec = tie.close (tie.spec trail-after-requires number-requires minus-requires sub-e returns)

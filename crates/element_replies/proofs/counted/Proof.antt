@@ -10,12 +10,12 @@ use Rattle.element_replies.proofs.counted.Tie as tie
 cast-if1 : tie.Need-cast-if1
 cast-if1 c = omega arith
 
-refuse-requires : tie.Need-refuse-requires
-refuse-requires c κs = tt
+end-requires : tie.Need-end-requires
+end-requires c κs = tt
 
 returns : tie.Need-returns
 unfolding countedOf
-returns c = c .refuse .ensures ∙ sym (pick-t _ (lt-ltb _ _ (c .before .if1 .taken)))
+returns c = c .end .ensures ∙ sym (pick-t _ (lt-ltb _ _ (c .before .if1 .taken)))
 
 cast-n : tie.Need-cast-n
 cast-n c = omega arith
@@ -35,4 +35,4 @@ returns-2 c =
     c .keep .ensures ∙ ap kept (c .before .confirmed .ensures) ∙ sym (pick-f _ (le-ltb _ _ (c .before .before .before .if1 .left)))
 
 pub counted-spec : {M : Type 1} → statement M
-counted-spec = tie.close (tie.spec cast-if1 refuse-requires returns cast-n sub-n confirmed-requires keep-requires returns-2)
+counted-spec = tie.close (tie.spec cast-if1 end-requires returns cast-n sub-n confirmed-requires keep-requires returns-2)

@@ -10,7 +10,7 @@ use Rattle.geometry.specs.declared.address.Address.{Address}
 use Rattle.geometry.proofs.PickLaws.{pick-t, pick-f}
 use Rattle.elements.specs.declared.elements.Elements.{Elements}
 use Rattle.elements.specs.Elements.{baseOf, limitOf}
-use Rattle.elements.specs.Reply.{kept, refusing, notedOf, failedTo, failedOf}
+use Rattle.elements.specs.Reply.{kept, ending, notedOf, failedTo, failedOf}
 use Rattle.element_replies.proofs.failed.Statement.{statement}
 use Rattle.element_replies.proofs.failed.Tie as tie
 
@@ -22,23 +22,23 @@ by-target e p skip s low high is = pick-f _ (le-ltb (p .0) (baseOf e .0) low) �
 base-requires : tie.Need-base-requires
 base-requires c κs = tt
 
-refuse-requires : tie.Need-refuse-requires
-refuse-requires c κs = tt
+end-requires : tie.Need-end-requires
+end-requires c κs = tt
 
 returns : tie.Need-returns
 unfolding failedOf
 returns c =
     let a = c .before .before .before .before .before .before .args in
-    c .refuse .ensures ∙ sym (pick-t _ (lt-ltb (a .p .0) (baseOf (a .e) .0) (omega (arith, ap (λ (x : Address). x .0) (c .before .before .before .before .before .base .ensures), c .before .if1 .taken))))
+    c .end .ensures ∙ sym (pick-t _ (lt-ltb (a .p .0) (baseOf (a .e) .0) (omega (arith, ap (λ (x : Address). x .0) (c .before .before .before .before .before .base .ensures), c .before .if1 .taken))))
 
-refuse-requires-2 : tie.Need-refuse-requires-2
-refuse-requires-2 c κs = tt
+end-requires-2 : tie.Need-end-requires-2
+end-requires-2 c κs = tt
 
 returns-2 : tie.Need-returns-2
 unfolding failedOf
 returns-2 c =
     let a = c .before .before .before .before .before .before .before .before .before .args in
-    c .refuse2 .ensures
+    c .end2 .ensures
     ∙ sym
     (pick-f _ (le-ltb (a .p .0) (baseOf (a .e) .0) (omega (arith, ap (λ (x : Address). x .0) (c .before .before .before .before .before .before .before .before .base .ensures), c .before .before .before .before .if1 .left)))
     ∙ pick-t _ (le-leb (a .e .next .0) (a .p .0) (omega (arith, c .before .if2 .taken))))
@@ -67,8 +67,8 @@ target-address-requires c κs = tt
 noted-requires-2 : tie.Need-noted-requires-2
 noted-requires-2 c κs = (omega (arith, ap (λ (x : Address). x .0) (c .before .before .before .before .before .before .before .before .before .before .before .before .before .base .ensures), c .before .before .before .before .before .before .before .before .before .if1 .left), omega (arith, c .before .before .before .before .before .before .if2 .left))
 
-refuse-requires-3 : tie.Need-refuse-requires-3
-refuse-requires-3 c κs = tt
+end-requires-3 : tie.Need-end-requires-3
+end-requires-3 c κs = tt
 
 returns-3 : tie.Need-returns-3
 returns-3 c =
@@ -83,8 +83,8 @@ returns-4 : tie.Need-returns-4
 returns-4 c =
     let a = c .before .before .before .before .before .before .before .before .before .before .before .before .before .before .before .before .args in
     let r = c .before .before .before .before .place2 .given in
-    c .refuse3 .ensures
-    ∙ ap (λ (e : Elements). refusing e (refusalNumber (r .0 .0)))
+    c .end3 .ensures
+    ∙ ap (λ (e : Elements). ending e (refusalNumber (r .0 .0)))
     (c .before .noted2 .ensures ∙ ap (λ (n : ℕ). notedOf (a .e) (a .p) (asAddress n)) (c .before .before .target-address .ensures))
     ∙ sym
     (by-target (a .e) (a .p) (a .skip) _ (omega (arith, ap (λ (x : Address). x .0) (c .before .before .before .before .before .before .before .before .before .before .before .before .before .before .before .base .ensures), c .before .before .before .before .before .before .before .before .before .before .before .if1 .left)) (omega (arith, c .before .before .before .before .before .before .before .before .if2 .left))
@@ -95,9 +95,9 @@ failed-spec =
     tie.close
     (tie.spec
     base-requires
-    refuse-requires
+    end-requires
     returns
-    refuse-requires-2
+    end-requires-2
     returns-2
     limit-due-requires
     target-requires
@@ -107,6 +107,6 @@ failed-spec =
     enum-known-place-2
     target-address-requires
     noted-requires-2
-    refuse-requires-3
+    end-requires-3
     returns-3
     returns-4)

@@ -4,9 +4,9 @@ use mathlib.Core.Logic.{inl, inr}
 use mathlib.Core.Path.{_≡_, _∙_, sym, ap}
 use native.Mathlib.Omega.{arith}
 use Rattle.geometry.proofs.PickLaws.{pick-t}
-use Rattle.recording_state.specs.Due.{decisionSaid}
+use Rattle.recording_state.specs.Answer.{answerSaid}
 use Rattle.recording_state.specs.Fetch.{fetchOf}
-use Rattle.recording_state.proofs.FetchView.{fetch-wrong-length, fetch-decided}
+use Rattle.recording_state.proofs.FetchView.{fetch-wrong-length, fetch-decided, fetch-sends}
 use Rattle.fetching.proofs.fetch.Statement.{statement}
 use Rattle.fetching.proofs.fetch.Tie as tie
 
@@ -22,8 +22,8 @@ returns c =
     let a = c .before .before .before .before .before .before .before .args in
     c .refuse-fetch .ensures (a .frame .now) ∙ sym (pick-t _ (c .before .if1 .taken))
 
-window-requires : tie.Need-window-requires
-window-requires c κs = tt
+blocks-requires : tie.Need-blocks-requires
+blocks-requires c κs = tt
 
 mul-if2 : tie.Need-mul-if2
 mul-if2 c = omega arith
@@ -35,7 +35,7 @@ returns-2 : tie.Need-returns-2
 returns-2 c =
     let a = c .before .before .before .before .before .before .before .before .before .args in
     c .refuse-fetch2 .ensures (a .frame .now)
-    ∙ sym (fetch-wrong-length (a .s) (a .window .now) (a .frame .now) (c .before .before .before .if1 .left) (inl (λ e. c .before .if2 .taken (e ∙ ap (λ n. n * 32768) (sym (c .before .before .window .ensures))))))
+    ∙ sym (fetch-wrong-length (a .s) (a .window .now) (a .frame .now) (c .before .before .before .if1 .left) (inl (λ e. c .before .if2 .taken (e ∙ ap (λ n. n * 32768) (sym (c .before .before .blocks2 .ensures))))))
 
 refuse-fetch-requires-3 : tie.Need-refuse-fetch-requires-3
 refuse-fetch-requires-3 c κs = tt
@@ -54,7 +54,7 @@ enum-known-answer c = c .match .keys1
 
 send-requires : tie.Need-send-requires
 send-requires c κs =
-    (right-window (c .before .before .before .before .before .before .before .window .ensures) (c .before .before .before .before .before .before .if2 .left), c .before .before .before .before .before .if3 .left)
+    (right-window (c .before .before .before .before .before .before .before .blocks2 .ensures) (c .before .before .before .before .before .before .if2 .left), c .before .before .before .before .before .if3 .left)
 
 enum-told : tie.Need-enum-told
 enum-told c = c .match .keys2
@@ -75,23 +75,23 @@ returns-4 : tie.Need-returns-4
 returns-4 c =
     let a = c .before .before .before .before .before .before .before .before .before .before .before .before .before .before .before .before .before .args in
     c .before .before .send .ensures
-    ∙ sym (fetch-decided (a .s) (a .window .now) (a .frame .now) (c .before .before .before .before .before .before .before .before .before .before .before .if1 .left) (right-window (c .before .before .before .before .before .before .before .before .before .before .window .ensures) (c .before .before .before .before .before .before .before .before .before .if2 .left)) (c .before .before .before .before .before .before .before .before .if3 .left) (sym (c .before .before .before .before .before .before .before .decide .ensures) ∙ ap decisionSaid (c .before .before .before .before .before .answer .given .1)))
+    ∙ sym (fetch-sends (a .s) (a .window .now) (a .frame .now) (c .before .before .before .before .before .before .before .before .before .before .before .if1 .left) (right-window (c .before .before .before .before .before .before .before .before .before .before .blocks2 .ensures) (c .before .before .before .before .before .before .before .before .before .if2 .left)) (c .before .before .before .before .before .before .before .before .if3 .left) _ (sym (c .before .before .before .before .before .before .before .decide .ensures) ∙ ap answerSaid (c .before .before .before .before .before .answer .given .1)))
 
 returns-5 : tie.Need-returns-5
 returns-5 c =
     let a = c .before .before .before .before .before .before .before .before .before .before .before .before .args in
-    sym (fetch-decided (a .s) (a .window .now) (a .frame .now) (c .before .before .before .before .before .before .if1 .left) (right-window (c .before .before .before .before .before .window .ensures) (c .before .before .before .before .if2 .left)) (c .before .before .before .if3 .left) (sym (c .before .before .decide .ensures) ∙ ap decisionSaid (c .enum-told .given .1)))
+    sym (fetch-decided (a .s) (a .window .now) (a .frame .now) (c .before .before .before .before .before .before .if1 .left) (right-window (c .before .before .before .before .before .blocks2 .ensures) (c .before .before .before .before .if2 .left)) (c .before .before .before .if3 .left) (sym (c .before .before .decide .ensures) ∙ ap answerSaid (c .enum-told .given .1)))
 
 returns-6 : tie.Need-returns-6
 returns-6 c =
     let a = c .before .before .before .before .before .before .before .before .before .before .before .before .args in
-    sym (fetch-decided (a .s) (a .window .now) (a .frame .now) (c .before .before .before .before .before .before .if1 .left) (right-window (c .before .before .before .before .before .window .ensures) (c .before .before .before .before .if2 .left)) (c .before .before .before .if3 .left) (sym (c .before .before .decide .ensures) ∙ ap decisionSaid (c .enum-told2 .given .1)))
+    sym (fetch-decided (a .s) (a .window .now) (a .frame .now) (c .before .before .before .before .before .before .if1 .left) (right-window (c .before .before .before .before .before .blocks2 .ensures) (c .before .before .before .before .if2 .left)) (c .before .before .before .if3 .left) (sym (c .before .before .decide .ensures) ∙ ap answerSaid (c .enum-told2 .given .1)))
 
 returns-7 : tie.Need-returns-7
 returns-7 c =
     let a = c .before .before .before .before .before .before .before .before .before .before .before .before .before .before .args in
     c .refuse-fetch4 .ensures (a .frame .now)
-    ∙ sym (fetch-decided (a .s) (a .window .now) (a .frame .now) (c .before .before .before .before .before .before .before .before .if1 .left) (right-window (c .before .before .before .before .before .before .before .window .ensures) (c .before .before .before .before .before .before .if2 .left)) (c .before .before .before .before .before .if3 .left) (sym (c .before .before .before .before .decide .ensures) ∙ ap decisionSaid (c .before .before .answer2 .given .1)))
+    ∙ sym (fetch-decided (a .s) (a .window .now) (a .frame .now) (c .before .before .before .before .before .before .before .before .if1 .left) (right-window (c .before .before .before .before .before .before .before .blocks2 .ensures) (c .before .before .before .before .before .before .if2 .left)) (c .before .before .before .before .before .if3 .left) (sym (c .before .before .before .before .decide .ensures) ∙ ap answerSaid (c .before .before .answer2 .given .1)))
 
 pub fetch-spec : {M : Type 1} → statement M
 fetch-spec =
@@ -99,7 +99,7 @@ fetch-spec =
     (tie.spec
     refuse-fetch-requires
     returns
-    window-requires
+    blocks-requires
     mul-if2
     refuse-fetch-requires-2
     returns-2

@@ -6,14 +6,15 @@ use mathlib.Core.Path.{_≡_, _∙_, refl, sym, ap}
 use denote.Enum.Declared.{tagOf}
 use types.Run.{OneOf, miss}
 use lib.ListN.{length}
-use Rattle.drive.specs.Command.{commandCode, commandAddress}
+use Rattle.drive.specs.Command.{commandSaid}
 use Rattle.drive.proofs.command.Command.{the-type}
 use Rattle.drive.specs.declared.command.Command.the-variants.{Read, Write, Locate, ReadPosition}
 use Rattle.drive.specs.declared.command.Command.{Command}
 use Rattle.drive.specs.Exchange.{sentOf}
 use Rattle.drive.specs.declared.exchange.Exchange.{Exchange}
 use Rattle.recording_state.specs.State.{withExchange}
-use Rattle.recording_state.specs.Fetch.{FetchedSaid, awaits, command, frameFor, sending}
+use Rattle.recording_state.specs.Answer.{giving}
+use Rattle.recording_state.specs.Fetch.{FetchedSaid, awaits, frameFor, sending}
 use Rattle.recording_state.specs.declared.state.State.{State}
 use Rattle.fetching.proofs.send.Statement.{statement}
 use Rattle.fetching.proofs.send.Tie as tie
@@ -26,7 +27,7 @@ unless-write (Locate a) s window frame h = refl
 unless-write ReadPosition s window frame h = refl
 
 sent-alike : (s : State) (c : Command) {x : Exchange} {f g : List ℕ} → x ≡ sentOf c → f ≡ g
-    → _≡_ {A = FetchedSaid} (record { session = withExchange s x; said = command (commandCode c) (commandAddress c); frame = f }) (record { session = awaits s c; said = command (commandCode c) (commandAddress c); frame = g })
+    → _≡_ {A = FetchedSaid} (record { session = withExchange s x; said = giving (commandSaid c); frame = f }) (record { session = awaits s c; said = giving (commandSaid c); frame = g })
 sent-alike s c p q = rw (p, q)
 
 enum-told : tie.Need-enum-told

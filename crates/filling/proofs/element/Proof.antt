@@ -20,8 +20,8 @@ made s kind number trail = record {
   marker = trail .marker;
 }
 
-trail-requires : tie.Need-trail-requires
-trail-requires c κs = tt
+trail-after-requires : tie.Need-trail-after-requires
+trail-after-requires c κs = tt
 
 kind-requires : tie.Need-kind-requires
 kind-requires c κs = tt
@@ -33,9 +33,9 @@ returns : tie.Need-returns
 unfolding elementOf
 returns c =
     let s = c .before .before .before .before .before .before .before .before .args .s in
-    ap (λ k. made s k (c .number .result) (c .before .before .before .trail .result)) (c .before .kind .ensures)
-    ∙ ap (λ n. made s (kindOf (s .elements)) n (c .before .before .before .trail .result)) (c .number .ensures)
-    ∙ ap (made s (kindOf (s .elements)) (numberOf (s .elements) (s .elements .outstanding))) (c .before .before .before .trail .ensures)
+    ap (λ k. made s k (c .number .result) (c .before .before .before .trail-after .result)) (c .before .kind .ensures)
+    ∙ ap (λ n. made s (kindOf (s .elements)) n (c .before .before .before .trail-after .result)) (c .number .ensures)
+    ∙ ap (made s (kindOf (s .elements)) (numberOf (s .elements) (s .elements .outstanding))) (c .before .before .before .trail-after .ensures)
 
 pub element-spec : {M : Type 1} → statement M
-element-spec = tie.close (tie.spec trail-requires kind-requires number-requires returns)
+element-spec = tie.close (tie.spec trail-after-requires kind-requires number-requires returns)

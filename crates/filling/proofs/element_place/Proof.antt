@@ -13,8 +13,8 @@ number-requires c κs = tt
 cast-result : tie.Need-cast-result
 cast-result c = omega arith
 
-window-requires : tie.Need-window-requires
-window-requires c κs = tt
+blocks-requires : tie.Need-blocks-requires
+blocks-requires c κs = tt
 
 rem-result : tie.Need-rem-result
 rem-result c = omega arith
@@ -22,8 +22,8 @@ rem-result c = omega arith
 returns : tie.Need-returns
 returns c =
     let e = c .before .before .before .before .args .s .elements in
-    ap (λ (n : Seq). n .0 % c .window .result) (c .before .before .number .ensures)
-    ∙ ap (λ w. numberOf e (e .outstanding) .0 % w) (c .window .ensures)
+    ap (λ (n : Seq). n .0 % c .blocks2 .result) (c .before .before .number .ensures)
+    ∙ ap (λ w. numberOf e (e .outstanding) .0 % w) (c .blocks2 .ensures)
 
 pub element-place-spec : {M : Type 1} → statement M
-element-place-spec = tie.close (tie.spec number-requires cast-result window-requires rem-result returns)
+element-place-spec = tie.close (tie.spec number-requires cast-result blocks-requires rem-result returns)

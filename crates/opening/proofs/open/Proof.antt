@@ -29,11 +29,11 @@ refuse-opening-requires c κs = search needs
 
 returns : tie.Need-returns
 unfolding openOf
-returns c = c .open-with .ensures ∙ rw (c .before .renew .ensures, c .before .before .is-exhausted .ensures) (ap (λ (x : CheckedSaid). openFor x (c .before .before .before .before .before .before .before .before .args .depth) (c .before .before .before .before .before .before .before .before .args .window)) (ap checkedSaid (sym (c .before .before .before .before .checked .given .1)) ∙ c .before .before .before .before .before .before .read-header .ensures))
+returns c = c .open-with .ensures ∙ rw (c .before .renew .ensures, c .before .before .is-exhausted .ensures) (ap (λ (x : CheckedSaid). openFor x (c .before .before .before .before .before .before .before .before .args .depth) (c .before .before .before .before .before .before .before .before .args .blocks)) (ap checkedSaid (sym (c .before .before .before .before .checked .given .1)) ∙ c .before .before .before .before .before .before .read-header .ensures))
 
 returns-2 : tie.Need-returns-2
 unfolding openOf
-returns-2 c = c .refuse-opening .ensures ∙ ap (λ (x : CheckedSaid). openFor x (c .before .before .before .before .before .before .args .depth) (c .before .before .before .before .before .before .args .window)) (ap checkedSaid (sym (c .before .before .checked2 .given .1)) ∙ c .before .before .before .before .read-header .ensures)
+returns-2 c = c .refuse-opening .ensures ∙ ap (λ (x : CheckedSaid). openFor x (c .before .before .before .before .before .before .args .depth) (c .before .before .before .before .before .before .args .blocks)) (ap checkedSaid (sym (c .before .before .checked2 .given .1)) ∙ c .before .before .before .before .read-header .ensures)
 
 pub open-spec : {M : Type 1} → statement M
 open-spec =

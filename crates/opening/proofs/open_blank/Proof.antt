@@ -31,8 +31,8 @@ unfolding openBlankOf
 returns c =
     let a = c .before .before .before .before .before .before .args in
     c .open-with .ensures
-    ∙ ap (λ (h : Header). openWith (a .depth) (a .window) false h) (c .before .blank-header .ensures)
-    ∙ ap (λ (place : PlaceSaid). openBlankFor place (a .depth) (a .window))
+    ∙ ap (λ (h : Header). openWith (a .depth) (a .blocks) false h) (c .before .blank-header .ensures)
+    ∙ ap (λ (place : PlaceSaid). openBlankFor place (a .depth) (a .blocks))
     (ap placeSaid (sym (c .before .before .before .place .given .1)) ∙ c .before .before .before .before .before .last .ensures)
 
 returns-2 : tie.Need-returns-2
@@ -40,7 +40,7 @@ unfolding openBlankOf
 returns-2 c =
     let a = c .before .before .before .before .before .args in
     c .refuse-opening .ensures
-    ∙ ap (λ (place : PlaceSaid). openBlankFor place (a .depth) (a .window))
+    ∙ ap (λ (place : PlaceSaid). openBlankFor place (a .depth) (a .blocks))
     (ap placeSaid (sym (c .before .before .place2 .given .1)) ∙ c .before .before .before .before .last .ensures)
 
 pub open-blank-spec : {M : Type 1} → statement M

@@ -24,7 +24,7 @@ returns-2 : tie.Need-returns-2
 unfolding openWith
 returns-2 c =
     c .refuse-opening2 .ensures
-    ∙ sym (pick-t _ (either-right (eqb (c .before .before .before .args .depth) 0) _ (either-left _ (ltb 64 (c .before .before .before .args .window)) (eq-eqb _ _ (c .before .if2 .taken)))))
+    ∙ sym (pick-t _ (either-right (eqb (c .before .before .before .args .depth) 0) _ (either-left _ (ltb 64 (c .before .before .before .args .blocks)) (eq-eqb _ _ (c .before .if2 .taken)))))
 
 refuse-opening-requires-3 : tie.Need-refuse-opening-requires-3
 refuse-opening-requires-3 c κs = tt
@@ -33,7 +33,7 @@ returns-3 : tie.Need-returns-3
 unfolding openWith
 returns-3 c =
     c .refuse-opening3 .ensures
-    ∙ sym (pick-t _ (either-right (eqb (c .before .before .before .before .args .depth) 0) _ (either-right (eqb (c .before .before .before .before .args .window) 0) _ (lt-ltb _ _ (c .before .if3 .taken)))))
+    ∙ sym (pick-t _ (either-right (eqb (c .before .before .before .before .args .depth) 0) _ (either-right (eqb (c .before .before .before .before .args .blocks) 0) _ (lt-ltb _ _ (c .before .if3 .taken)))))
 
 refuse-opening-requires-4 : tie.Need-refuse-opening-requires-4
 refuse-opening-requires-4 c κs = tt

@@ -1,8 +1,10 @@
 -- Each branch is the case of the definition that its tests name. Assumes nothing.
-use Rattle.reading_state.specs.Fetch.{fetchOf}
+use Rattle.drive.specs.Command.{commandFor}
+use Rattle.drive.proofs.CaseLaws.{command-by}
+use Rattle.reading_state.specs.Fetch.{sending, fetchOf}
 use Rattle.geometry.proofs.PickLaws.{pick-t, pick-f}
 use borrow.Author.Tests.{lt-ltb, le-ltb}
-use mathlib.Core.Path.{sym, _∙_}
+use mathlib.Core.Path.{sym, ap, _∙_}
 use borrow.Author.Needs.{needs}
 use Rattle.reading_fetching.proofs.fetch.Statement.{statement}
 use Rattle.reading_fetching.proofs.fetch.Tie as tie
@@ -34,7 +36,7 @@ send-requires-2 c κs = search needs
 
 returns-5 : tie.Need-returns-5
 unfolding fetchOf
-returns-5 c = c .send2 .ensures ∙ rw (c .before .due .ensures) (sym (pick-f _ (c .before .before .before .before .before .before .if1 .left) ∙ pick-f _ (c .before .before .before .before .before .if2 .left) ∙ pick-f _ (c .before .before .before .before .if3 .left) ∙ pick-f _ (le-ltb _ _ (c .before .before .if4 .left))))
+returns-5 c = c .send2 .ensures ∙ ap (sending (c .before .before .before .before .before .before .before .before .args .s)) (sym (command-by _) ∙ ap commandFor (c .before .due .ensures)) ∙ sym (pick-f _ (c .before .before .before .before .before .before .if1 .left) ∙ pick-f _ (c .before .before .before .before .before .if2 .left) ∙ pick-f _ (c .before .before .before .before .if3 .left) ∙ pick-f _ (le-ltb _ _ (c .before .before .if4 .left)))
 
 pub fetch-spec : {M : Type 1} → statement M
 fetch-spec =

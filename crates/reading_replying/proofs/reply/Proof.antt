@@ -12,7 +12,7 @@ use Rattle.geometry.proofs.PickLaws.{pick-t, pick-f}
 use Rattle.geometry.proofs.TestLaws.{neither}
 use Rattle.drive.specs.declared.reply.Reply.{Reply}
 use Rattle.reading_state.specs.declared.state.State.{State}
-use Rattle.reading_state.specs.Reply.{nothing, TakenSaid, answering, caseOf, replyBy, replyOf}
+use Rattle.reading_state.specs.Reply.{nothing, TakenSaid, delivering, caseOf, replyBy, replyOf}
 use Rattle.reading_replying.proofs.reply.Statement.{statement}
 use Rattle.reading_replying.proofs.reply.Tie as tie
 
@@ -46,8 +46,8 @@ case-of-requires c κs = search needs
 repeated-requires : tie.Need-repeated-requires
 repeated-requires c κs = search needs
 
-taken-requires : tie.Need-taken-requires
-taken-requires c κs = search needs
+deliver-requires : tie.Need-deliver-requires
+deliver-requires c κs = search needs
 
 located-requires : tie.Need-located-requires
 located-requires c κs = search needs
@@ -71,7 +71,7 @@ returns-3 : tie.Need-returns-3
 unfolding replyBy
 returns-3 c =
     let a = c .before .before .before .before .before .before .before .before .before .before .args in
-    let answer = c .taken .ensures ∙ ap (λ s. answering s nothing) (c .before .repeated .ensures) in
+    let answer = c .deliver .ensures ∙ ap (λ s. delivering s nothing) (c .before .repeated .ensures) in
     arm-of-two (a .s) (a .reply) (now (a .frame)) (c .before .before .before .before .before .before .if1 .left) (c .before .before .before .before .before .if2 .left) (c .before .before .before .case-of .ensures) (c .before .before .match .keys1) answer answer
 
 returns-4 : tie.Need-returns-4
@@ -130,7 +130,7 @@ reply-spec =
     returns-2
     case-of-requires
     repeated-requires
-    taken-requires
+    deliver-requires
     located-requires
     judged-requires
     skipped-requires

@@ -31,8 +31,8 @@ refused R.NotFound = refl
 enum-told : tie.Need-enum-told
 enum-told c = search needs
 
-answered-requires : tie.Need-answered-requires
-answered-requires c κs = search needs
+replied-requires : tie.Need-replied-requires
+replied-requires c κs = search needs
 
 settle-requires : tie.Need-settle-requires
 settle-requires c κs = search needs
@@ -47,7 +47,7 @@ end-requires : tie.Need-end-requires
 end-requires c κs = search needs
 
 returns : tie.Need-returns
-returns c = c .accepted .ensures ∙ ap accepting (c .before .settle .ensures ∙ ap settledOf (c .before .before .answered .ensures)) ∙ sym (ap (λ v. elementReplyBy (steppedSaid (record { elements = c .before .before .before .before .before .before .args .stepped .elements; verdict = v })) (c .before .before .before .before .before .before .args .s)) (c .before .before .before .enum-told .given .1))
+returns c = c .accepted .ensures ∙ ap accepting (c .before .settle .ensures ∙ ap settledOf (c .before .before .replied .ensures)) ∙ sym (ap (λ v. elementReplyBy (steppedSaid (record { elements = c .before .before .before .before .before .before .args .stepped .elements; verdict = v })) (c .before .before .before .before .before .before .args .s)) (c .before .before .before .enum-told .given .1))
 
 returns-2 : tie.Need-returns-2
 returns-2 c = c .end .ensures ∙ sym (pick-f _ (refused (c .before .before .verdict .given .0 .0))) ∙ sym (ap (λ v. elementReplyBy (steppedSaid (record { elements = c .before .before .before .before .before .args .stepped .elements; verdict = v })) (c .before .before .before .before .before .args .s)) (c .before .before .verdict .given .1))
@@ -57,7 +57,7 @@ element-reply-spec =
     tie.close
     (tie.spec
     enum-told
-    answered-requires
+    replied-requires
     settle-requires
     accepted-requires
     enum-known-verdict

@@ -9,8 +9,8 @@ use Rattle.replying.proofs.header_reply.Tie as tie
 enum-known-progress : tie.Need-enum-known-progress
 enum-known-progress c = c .match .keys1
 
-answered-requires : tie.Need-answered-requires
-answered-requires c κs = tt
+replied-requires : tie.Need-replied-requires
+replied-requires c κs = tt
 
 accepted-requires : tie.Need-accepted-requires
 accepted-requires c κs = tt
@@ -18,8 +18,8 @@ accepted-requires c κs = tt
 enum-told : tie.Need-enum-told
 enum-told c = c .match .keys2
 
-answered-requires-2 : tie.Need-answered-requires-2
-answered-requires-2 c κs = tt
+replied-requires-2 : tie.Need-replied-requires-2
+replied-requires-2 c κs = tt
 
 complete-requires : tie.Need-complete-requires
 complete-requires c κs = tt
@@ -39,13 +39,13 @@ end-requires c κs = tt
 returns : tie.Need-returns
 returns c =
     c .accepted .ensures
-    ∙ ap accepting (c .before .answered .ensures)
+    ∙ ap accepting (c .before .replied .ensures)
     ∙ sym (ap (λ p. headerReplyBy (progressSaid p) (c .before .before .before .before .before .args .s)) (c .before .before .before .progress .given .1))
 
 returns-2 : tie.Need-returns-2
 returns-2 c =
     c .accepted2 .ensures
-    ∙ ap accepting (c .before .settle .ensures ∙ ap settledOf (c .before .before .complete .ensures ∙ ap completedOf (c .before .before .before .answered2 .ensures)))
+    ∙ ap accepting (c .before .settle .ensures ∙ ap settledOf (c .before .before .complete .ensures ∙ ap completedOf (c .before .before .before .replied2 .ensures)))
     ∙ sym (ap (λ p. headerReplyBy (progressSaid p) (c .before .before .before .before .before .before .args .s)) (c .before .before .before .before .enum-told .given .1))
 
 returns-3 : tie.Need-returns-3
@@ -58,10 +58,10 @@ header-reply-spec =
     tie.close
     (tie.spec
     enum-known-progress
-    answered-requires
+    replied-requires
     accepted-requires
     enum-told
-    answered-requires-2
+    replied-requires-2
     complete-requires
     settle-requires
     accepted-requires-2

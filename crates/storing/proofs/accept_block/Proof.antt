@@ -50,8 +50,8 @@ returns-2 c =
     (pick-f _ (sym (c .before .before .before .accepts-none .ensures) ∙ c .before .before .if1 .left)
     ∙ pick-f _ (ap (λ (b : Bool). b && eqb (length (a .window .now)) (windowLength (a .s))) (ne-eqb _ _ (c .before .if2 .taken))))
 
-window-requires : tie.Need-window-requires
-window-requires c κs = tt
+blocks-requires : tie.Need-blocks-requires
+blocks-requires c κs = tt
 
 mul-if3 : tie.Need-mul-if3
 mul-if3 c = omega arith
@@ -64,7 +64,7 @@ unfolding blockOf
 returns-3 c =
     let a = c .before .before .before .before .before .before .before .before .args in
     let unlike : length (a .window .now) ≡ windowLength (a .s) → ⊥ =
-    λ e. c .before .if3 .taken (e ∙ sym (ap (λ (n : ℕ). n * 32768) (c .before .before .window .ensures))) in
+    λ e. c .before .if3 .taken (e ∙ sym (ap (λ (n : ℕ). n * 32768) (c .before .before .blocks2 .ensures))) in
     ap (stored (a .window .now)) (c .refuse3 .ensures)
     ∙ sym
     (pick-f _ (sym (c .before .before .before .before .before .accepts-none .ensures) ∙ c .before .before .before .before .if1 .left)
@@ -80,7 +80,7 @@ returns-4 : tie.Need-returns-4
 unfolding blockOf
 returns-4 c =
     let a = c .before .before .before .before .before .before .before .before .before .before .args in
-    let alike : length (a .window .now) ≡ windowLength (a .s) = c .before .before .before .if3 .left ∙ ap (λ (n : ℕ). n * 32768) (c .before .before .before .before .window .ensures) in
+    let alike : length (a .window .now) ≡ windowLength (a .s) = c .before .before .before .if3 .left ∙ ap (λ (n : ℕ). n * 32768) (c .before .before .before .before .blocks2 .ensures) in
     ap (stored (a .window .now)) (c .refuse4 .ensures)
     ∙ sym
     (pick-f _ (sym (c .before .before .before .before .before .before .before .accepts-none .ensures) ∙ c .before .before .before .before .before .before .if1 .left)
@@ -100,7 +100,7 @@ put-block-requires : tie.Need-put-block-requires
 put-block-requires c κs =
     let number = c .before .before .number .result .0 in
     let highest = c .before .before .before .before .before .before .before .before .before .before .before .before .before .args .s .setup .highest in
-    rw (c .before .before .before .before .before .before .before .window .ensures)
+    rw (c .before .before .before .before .before .before .before .blocks2 .ensures)
     (omega (arith, place-low number highest), (omega (arith, place-inside number highest), c .before .before .before .before .before .before .before .before .if2 .left))
 
 with-element-requires : tie.Need-with-element-requires
@@ -116,12 +116,12 @@ returns-5 : tie.Need-returns-5
 unfolding blockOf
 returns-5 c =
     let a = c .before .before .before .before .before .before .before .before .before .before .before .before .before .before .before .before .before .before .args in
-    let alike : length (a .window .now) ≡ windowLength (a .s) = c .before .before .before .before .before .before .before .before .before .before .before .if3 .left ∙ ap (λ (n : ℕ). n * 32768) (c .before .before .before .before .before .before .before .before .before .before .before .before .window .ensures) in
+    let alike : length (a .window .now) ≡ windowLength (a .s) = c .before .before .before .before .before .before .before .before .before .before .before .if3 .left ∙ ap (λ (n : ℕ). n * 32768) (c .before .before .before .before .before .before .before .before .before .before .before .before .blocks2 .ensures) in
     ap (stored (c .before .before .before .before .put-block .last .0)) (c .accepted .ensures ∙ ap accepting (c .before .with-element .ensures))
     ∙ ap (λ (w : List ℕ). stored w (accepting (withElement (a .s) false)))
     (c .before .before .before .before .put-block .ensures
-    ∙ ap (λ (n : Seq). putBlock (a .window .now) (n .0 % c .before .before .before .before .before .before .before .before .before .before .before .before .window .result) (a .block .now)) (c .before .before .before .before .before .before .before .number .ensures)
-    ∙ ap (λ (w : ℕ). putBlock (a .window .now) (numberOf (a .s .elements) (a .s .elements .pending) .0 % w) (a .block .now)) (c .before .before .before .before .before .before .before .before .before .before .before .before .window .ensures))
+    ∙ ap (λ (n : Seq). putBlock (a .window .now) (n .0 % c .before .before .before .before .before .before .before .before .before .before .before .before .blocks2 .result) (a .block .now)) (c .before .before .before .before .before .before .before .number .ensures)
+    ∙ ap (λ (w : ℕ). putBlock (a .window .now) (numberOf (a .s .elements) (a .s .elements .pending) .0 % w) (a .block .now)) (c .before .before .before .before .before .before .before .before .before .before .before .before .blocks2 .ensures))
     ∙ sym
     (pick-f _ (sym (c .before .before .before .before .before .before .before .before .before .before .before .before .before .before .before .accepts-none .ensures) ∙ c .before .before .before .before .before .before .before .before .before .before .before .before .before .before .if1 .left)
     ∙ pick-t _ (both-lengths (a .s) (a .block .now) (a .window .now) (c .before .before .before .before .before .before .before .before .before .before .before .before .before .if2 .left) (eq-eqb _ _ alike))
@@ -136,7 +136,7 @@ accept-block-spec =
     returns
     refuse-requires-2
     returns-2
-    window-requires
+    blocks-requires
     mul-if3
     refuse-requires-3
     returns-3

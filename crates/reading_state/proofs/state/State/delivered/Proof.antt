@@ -10,12 +10,12 @@ wrapping-add-u32-requires c κs = search needs
 advanced-requires : tie.Need-advanced-requires
 advanced-requires c κs = search needs
 
-taken-requires : tie.Need-taken-requires
-taken-requires c κs = search needs
+deliver-requires : tie.Need-deliver-requires
+deliver-requires c κs = search needs
 
 returns : tie.Need-returns
-returns c = c .taken .ensures ∙ rw (c .before .advanced .ensures, c .before .before .wrapping-add-u32 .ensures)
+returns c = c .deliver .ensures ∙ rw (c .before .advanced .ensures, c .before .before .wrapping-add-u32 .ensures)
 
 pub delivered-spec : {M : Type 1} → statement M
 delivered-spec =
-    tie.close (tie.spec wrapping-add-u32-requires advanced-requires taken-requires returns)
+    tie.close (tie.spec wrapping-add-u32-requires advanced-requires deliver-requires returns)

@@ -16,11 +16,11 @@ wrapped-requires c κs = search needs
 moved-requires : tie.Need-moved-requires
 moved-requires c κs = search needs
 
-taken-requires : tie.Need-taken-requires
-taken-requires c κs = search needs
+deliver-requires : tie.Need-deliver-requires
+deliver-requires c κs = search needs
 
 returns : tie.Need-returns
-returns c = c .taken .ensures ∙ rw (c .before .moved .ensures, c .before .before .wrapped .ensures, c .before .before .before .past-reserved .ensures, c .before .before .before .before .address .ensures)
+returns c = c .deliver .ensures ∙ rw (c .before .moved .ensures, c .before .before .wrapped .ensures, c .before .before .before .past-reserved .ensures, c .before .before .before .before .address .ensures)
 
 pub jumped-spec : {M : Type 1} → statement M
 jumped-spec =
@@ -30,5 +30,5 @@ jumped-spec =
     past-reserved-requires
     wrapped-requires
     moved-requires
-    taken-requires
+    deliver-requires
     returns)

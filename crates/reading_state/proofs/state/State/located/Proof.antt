@@ -10,11 +10,11 @@ address-requires c κs = search needs
 moved-requires : tie.Need-moved-requires
 moved-requires c κs = search needs
 
-taken-requires : tie.Need-taken-requires
-taken-requires c κs = search needs
+deliver-requires : tie.Need-deliver-requires
+deliver-requires c κs = search needs
 
 returns : tie.Need-returns
-returns c = c .taken .ensures ∙ rw (c .before .moved .ensures, c .before .before .address .ensures)
+returns c = c .deliver .ensures ∙ rw (c .before .moved .ensures, c .before .before .address .ensures)
 
 pub located-spec : {M : Type 1} → statement M
-located-spec = tie.close (tie.spec address-requires moved-requires taken-requires returns)
+located-spec = tie.close (tie.spec address-requires moved-requires deliver-requires returns)

@@ -1,8 +1,7 @@
 // What a reply changes, and what it is answered: a step for each case that `reading_replying` tells apart.
 ghost use mathlib.Core.Path.{_≡_};
-ghost use Prim.Native.Nat.{_%_, _^_};
 ghost use Rattle.geometry.specs.Refusal.{refusalNumber};
-ghost use Rattle.reading_state.specs.Reply.{deliverySaid, takenSaid, answering, refusing, ending, repeatedOf, movedOf, advancedOf, locatedOf, skippedOf, deliveredOf, finishedOf, jumpedOf};
+ghost use Rattle.reading_state.specs.Reply.{deliverySaid, takenSaid, delivering, refusing, ending, wrapped, repeatedOf, movedOf, advancedOf, locatedOf, skippedOf, deliveredOf, finishedOf, jumpedOf};
 use crate::state::Delivery;
 use crate::state::State;
 use crate::state::Taken;
@@ -14,14 +13,15 @@ use geometry::past_reserved;
 
 // A number as an address. It wraps only in a session that no call returned.
 fn wrapped(n: u64) -> Address
-    ensures { λ r. ⌜ r .0 ≡ n % 2 ^ 32 ⌝ }
+    ensures { λ r. ⌜ r ≡ wrapped n ⌝ }
 {
     Address((n % 4294967296) as u32)
 }
 
 impl State {
-    pub fn taken(self, delivery: Delivery) -> Taken
-        ensures { λ r. ⌜ takenSaid r ≡ answering self (deliverySaid delivery) ⌝ }
+    // The session beside what it answers.
+    pub fn deliver(self, delivery: Delivery) -> Taken
+        ensures { λ r. ⌜ takenSaid r ≡ delivering self (deliverySaid delivery) ⌝ }
     {
         Taken {
             session: self,
@@ -33,7 +33,7 @@ impl State {
     pub fn refuse(self, refusal: Refusal) -> Taken
         ensures { λ r. ⌜ takenSaid r ≡ refusing self (refusalNumber refusal) ⌝ }
     {
-        self.taken(Delivery::Refused(refusal))
+        self.deliver(Delivery::Refused(refusal))
     }
 
     // Refusals 8 to 12 end the session.
@@ -41,7 +41,7 @@ impl State {
         ensures { λ r. ⌜ takenSaid r ≡ ending self (refusalNumber refusal) ⌝ }
     {
         self.ended = true;
-        self.taken(Delivery::Refused(refusal))
+        self.deliver(Delivery::Refused(refusal))
     }
 
     // Busy: the next fetch gives the same command.
@@ -58,7 +58,7 @@ impl State {
         ensures { λ r. ⌜ r ≡ movedOf self next locate ⌝ }
     {
         let exchange = self.exchange;
-        self.exchange = exchange.answered();
+        self.exchange = exchange.replied();
         self.next = next;
         self.locate = locate;
         self
@@ -80,14 +80,14 @@ impl State {
     {
         let exchange = self.exchange;
         let c = exchange.command;
-        self.moved(address(c), false).taken(Delivery::Nothing)
+        self.moved(address(c), false).deliver(Delivery::Nothing)
     }
 
     // The address is passed over.
     pub fn skipped(self) -> Taken
         ensures { λ r. ⌜ takenSaid r ≡ skippedOf self ⌝ }
     {
-        self.advanced().taken(Delivery::Nothing)
+        self.advanced().deliver(Delivery::Nothing)
     }
 
     // The expected element is delivered, and the next one expected.
@@ -97,7 +97,7 @@ impl State {
         let expected = Seq(std::num::wrapping_add_u32(self.expected.0, 1));
         let mut session = self.advanced();
         session.expected = expected;
-        session.taken(delivery)
+        session.deliver(delivery)
     }
 
     // EOD ends reading.
@@ -106,7 +106,7 @@ impl State {
     {
         let mut session = self.advanced();
         session.finished = true;
-        session.taken(Delivery::End)
+        session.deliver(Delivery::End)
     }
 
     // Nothing reads for 32 addresses: LOCATE behind them, or behind the second header group and its defect map.
@@ -116,6 +116,6 @@ impl State {
         let exchange = self.exchange;
         let c = exchange.command;
         let next = wrapped(past_reserved(address(c), 32));
-        self.moved(next, true).taken(Delivery::Nothing)
+        self.moved(next, true).deliver(Delivery::Nothing)
     }
 }
