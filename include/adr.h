@@ -329,18 +329,18 @@ struct adr_choice adr_choose(struct adr_geometry g,
 
 /* Opens a recording on a cartridge whose newest header is 'header',
    ADR_FRAME_LENGTH bytes. 'depth' is D, the frames that the drive buffers, 1
-   to 255; 'window' is W, the blocks of the window, 1 to 64. Refused with 1 to
+   to 255; 'blocks' is W, the blocks of the window, 1 to 64. Refused with 1 to
    5; the session returned is then an ended one. What was on the cartridge is
    replaced: elements go to address 10 and on. The write pass is the header's
    + 1; a recording reads back as accepted if no frame on the cartridge bears
    that pass, so always give the newest header. */
-struct adr_record_outcome adr_record_open(struct adr_geometry g, uint32_t depth, uint32_t window,
+struct adr_record_outcome adr_record_open(struct adr_geometry g, uint32_t depth, uint32_t blocks,
                                           const uint8_t *header, size_t header_length);
 
 /* The same on a cartridge without a valid header, with write pass 1. Refused
    with 2 or 4. */
 struct adr_record_outcome adr_record_open_blank(struct adr_geometry g, uint32_t depth,
-                                                uint32_t window);
+                                                uint32_t blocks);
 
 /* Accepts a block, ADR_BLOCK_LENGTH bytes, which is copied to its place in the
    window, ADR_WINDOW_LENGTH(W) bytes. The window is lent to every

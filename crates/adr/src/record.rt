@@ -29,19 +29,19 @@ fn session_of(s: AdrRecording) -> Recording
 pub extern "C" fn adr_record_open(
     g: AdrGeometry,
     depth: u32,
-    window: u32,
+    blocks: u32,
     header: &[u8],
 ) -> AdrRecordOutcome
-    ensures { λ r. ⌜ r ≡ outcomeTwin (openOf (geometryOf g) (fittingOf depth) (fittingOf window) (now (header .entry))) ⌝ }
+    ensures { λ r. ⌜ r ≡ outcomeTwin (openOf (geometryOf g) (fittingOf depth) (fittingOf blocks) (now (header .entry))) ⌝ }
 {
-    AdrRecordOutcome::of(Recording::open(g.geometry(), fitting(depth), fitting(window), header))
+    AdrRecordOutcome::of(Recording::open(g.geometry(), fitting(depth), fitting(blocks), header))
 }
 
 #[no_mangle]
-pub extern "C" fn adr_record_open_blank(g: AdrGeometry, depth: u32, window: u32) -> AdrRecordOutcome
-    ensures { λ r. ⌜ r ≡ outcomeTwin (openBlankOf (geometryOf g) (fittingOf depth) (fittingOf window)) ⌝ }
+pub extern "C" fn adr_record_open_blank(g: AdrGeometry, depth: u32, blocks: u32) -> AdrRecordOutcome
+    ensures { λ r. ⌜ r ≡ outcomeTwin (openBlankOf (geometryOf g) (fittingOf depth) (fittingOf blocks)) ⌝ }
 {
-    AdrRecordOutcome::of(Recording::open_blank(g.geometry(), fitting(depth), fitting(window)))
+    AdrRecordOutcome::of(Recording::open_blank(g.geometry(), fitting(depth), fitting(blocks)))
 }
 
 #[no_mangle]

@@ -46,23 +46,23 @@ header-2 g header h k = rw (no-geometry g h, eq-eqb _ _ k)
 fitting-0 : (n : ℕ) → 255 < n → fittingOf n ≡ 0
 fitting-0 n h = pick-f n (lt-leb n 255 h)
 
-fitting-4 : (depth window : ℕ) (exhausted : Bool) (h : Header) → (fittingOf depth ≡ 0) ⊎ (fittingOf window ≡ 0) → openWith (fittingOf depth) (fittingOf window) exhausted h ≡ openRefused 4
+fitting-4 : (depth blocks : ℕ) (exhausted : Bool) (h : Header) → (fittingOf depth ≡ 0) ⊎ (fittingOf blocks ≡ 0) → openWith (fittingOf depth) (fittingOf blocks) exhausted h ≡ openRefused 4
 unfolding openWith
-fitting-4 depth window exhausted h (inl k) = rw k
-fitting-4 depth window exhausted h (inr k) = rw k (pick-t _ (either-right (eqb (fittingOf depth) 0) _ refl))
+fitting-4 depth blocks exhausted h (inl k) = rw k
+fitting-4 depth blocks exhausted h (inr k) = rw k (pick-t _ (either-right (eqb (fittingOf depth) 0) _ refl))
 
 -- D or W above 255, where the cartridge and its header are not refused
-unfitting : (depth window : ℕ) → (255 < depth) ⊎ (255 < window) → (fittingOf depth ≡ 0) ⊎ (fittingOf window ≡ 0)
-unfitting depth window (inl k) = inl (fitting-0 depth k)
-unfitting depth window (inr k) = inr (fitting-0 window k)
+unfitting : (depth blocks : ℕ) → (255 < depth) ⊎ (255 < blocks) → (fittingOf depth ≡ 0) ⊎ (fittingOf blocks ≡ 0)
+unfitting depth blocks (inl k) = inl (fitting-0 depth k)
+unfitting depth blocks (inr k) = inr (fitting-0 blocks k)
 
-pub open-4 : (g : Geometry) (depth window : ℕ) (header : List ℕ) (old : Header) → readHeader g header ≡ valid old → (255 < depth) ⊎ (255 < window) → openOf g (fittingOf depth) (fittingOf window) header ≡ openRefused 4
+pub open-4 : (g : Geometry) (depth blocks : ℕ) (header : List ℕ) (old : Header) → readHeader g header ≡ valid old → (255 < depth) ⊎ (255 < blocks) → openOf g (fittingOf depth) (fittingOf blocks) header ≡ openRefused 4
 unfolding openOf
-open-4 g depth window header old h k = rw h (fitting-4 depth window (isExhausted old) (renewed old) (unfitting depth window k))
+open-4 g depth blocks header old h k = rw h (fitting-4 depth blocks (isExhausted old) (renewed old) (unfitting depth blocks k))
 
-pub blank-4 : (g : Geometry) (depth window last : ℕ) → lastOf g ≡ address last → (255 < depth) ⊎ (255 < window) → openBlankOf g (fittingOf depth) (fittingOf window) ≡ openRefused 4
+pub blank-4 : (g : Geometry) (depth blocks last : ℕ) → lastOf g ≡ address last → (255 < depth) ⊎ (255 < blocks) → openBlankOf g (fittingOf depth) (fittingOf blocks) ≡ openRefused 4
 unfolding openBlankOf
-blank-4 g depth window last h k = rw h (fitting-4 depth window false (openingHeader (asAddress last) 1 0) (unfitting depth window k))
+blank-4 g depth blocks last h k = rw h (fitting-4 depth blocks false (openingHeader (asAddress last) 1 0) (unfitting depth blocks k))
 
 reply-meaningless : (r : AdrReply) → 255 < r .skip → asReply r ≡ meaningless
 unfolding asReply

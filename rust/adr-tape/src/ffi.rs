@@ -67,14 +67,14 @@ mod calls {
         pub(super) fn adr_record_open(
             geometry: Geometry,
             depth: u32,
-            window: u32,
+            blocks: u32,
             header: *const u8,
             header_length: usize,
         ) -> RecordOutcome;
         pub(super) fn adr_record_open_blank(
             geometry: Geometry,
             depth: u32,
-            window: u32,
+            blocks: u32,
         ) -> RecordOutcome;
         pub(super) fn adr_record_block(
             session: Recording,
@@ -153,16 +153,16 @@ pub fn choose(geometry: Geometry, first: &[u8], second: &[u8]) -> Choice {
 
 /// `adr_record_open`: opens a recording on the newest header.
 #[must_use]
-pub fn record_open(geometry: Geometry, depth: u32, window: u32, header: &[u8]) -> RecordOutcome {
+pub fn record_open(geometry: Geometry, depth: u32, blocks: u32, header: &[u8]) -> RecordOutcome {
     // SAFETY: the slice is lent for the call and only read.
-    unsafe { calls::adr_record_open(geometry, depth, window, header.as_ptr(), header.len()) }
+    unsafe { calls::adr_record_open(geometry, depth, blocks, header.as_ptr(), header.len()) }
 }
 
 /// `adr_record_open_blank`: opens a recording on a cartridge without header.
 #[must_use]
-pub fn record_open_blank(geometry: Geometry, depth: u32, window: u32) -> RecordOutcome {
+pub fn record_open_blank(geometry: Geometry, depth: u32, blocks: u32) -> RecordOutcome {
     // SAFETY: only numbers go over.
-    unsafe { calls::adr_record_open_blank(geometry, depth, window) }
+    unsafe { calls::adr_record_open_blank(geometry, depth, blocks) }
 }
 
 /// `adr_record_block`: accepts a block into the window.

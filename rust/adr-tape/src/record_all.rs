@@ -23,12 +23,12 @@ pub fn record_all<'a, D: Drive, S>(
     drive: &mut D,
     geometry: Geometry,
     depth: u32,
-    window: u32,
+    blocks: u32,
     header: Option<&[u8]>,
     elements: impl IntoIterator<Item = Result<Element<'a>, S>>,
     mut progress: impl FnMut(&Summary),
 ) -> Result<Summary, RecordError<D::Error, S>> {
-    let mut recorder = Recorder::open(geometry, depth, window, header)?;
+    let mut recorder = Recorder::open(geometry, depth, blocks, header)?;
     let mut source = Source {
         elements: elements.into_iter(),
         waiting: None,

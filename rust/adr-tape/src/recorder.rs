@@ -56,7 +56,7 @@ pub struct Recorder {
 impl Recorder {
     /// Opens a recording on the newest header, or on none.
     ///
-    /// `depth` is the frames that the drive buffers, 1 to 255; `window` the
+    /// `depth` is the frames that the drive buffers, 1 to 255; `blocks` the
     /// blocks that may wait here, 1 to 64. The write pass is the header's + 1,
     /// or 1; a recording reads back as accepted if no frame on the cartridge
     /// bears that pass, so always give the newest header.
@@ -67,18 +67,18 @@ impl Recorder {
     pub fn open(
         geometry: Geometry,
         depth: u32,
-        window: u32,
+        blocks: u32,
         header: Option<&[u8]>,
     ) -> Result<Recorder, Refusal> {
         let opened = match header {
-            Some(header) => ffi::record_open(geometry.into(), depth, window, header),
-            None => ffi::record_open_blank(geometry.into(), depth, window),
+            Some(header) => ffi::record_open(geometry.into(), depth, blocks, header),
+            None => ffi::record_open_blank(geometry.into(), depth, blocks),
         };
         Refusal::check(opened.number)?;
-        let blocks = usize::try_from(window).map_err(|_| Refusal::Capacity)?;
+        let room = usize::try_from(blocks).map_err(|_| Refusal::Capacity)?;
         Ok(Recorder {
             session: opened.session,
-            window: vec![0; blocks.saturating_mul(BLOCK_LENGTH)],
+            window: vec![0; room.saturating_mul(BLOCK_LENGTH)],
             frame: vec![0; FRAME_LENGTH],
         })
     }
