@@ -21,7 +21,8 @@ use Rattle.judgement.specs.declared.told.Told.{Told}
 use Rattle.drive.specs.declared.command.Command.{Command}
 use Rattle.drive.specs.declared.command.Command.the-variants.{Read, Write, Locate, ReadPosition}
 use Rattle.recording_state.specs.State.{accepting}
-use Rattle.recording_state.specs.Fetch.{FetchedSaid, command, sending, fetchOf}
+use Rattle.recording_state.specs.Answer.{command}
+use Rattle.recording_state.specs.Fetch.{FetchedSaid, sending, fetchOf}
 use Rattle.recording_state.specs.Written.{amongElements, writtenFrame}
 use Rattle.recording_state.specs.declared.state.State.{State}
 use Rattle.recording_state.specs.declared.state.Stage.the-variants as S

@@ -14,7 +14,8 @@ use Rattle.frame.specs.declared.header.Header.{Header}
 use Rattle.header.specs.Valid.{headerOf}
 use Rattle.judgement.specs.Judgement.{judgeFrame, foundSaid}
 use Rattle.recording_state.specs.State.{accepting}
-use Rattle.recording_state.specs.Fetch.{command, fetchOf}
+use Rattle.recording_state.specs.Answer.{command}
+use Rattle.recording_state.specs.Fetch.{fetchOf}
 use Rattle.recording_state.specs.declared.state.State.{State}
 use Rattle.recording_state.specs.declared.state.Stage.the-variants as S
 use Rattle.reading_state.specs.Open.{toldOf}
