@@ -4,7 +4,7 @@ ghost use Rattle.geometry.specs.Cartridge.{framesOf, lastOf, isUser, headerAddr
 ghost use Rattle.header_choice.specs.Choice.{choiceOf};
 ghost use Rattle.exchange_twins.specs.Numbers.{flagNumber};
 ghost use Rattle.numbers.specs.Arguments.{geometryOf};
-ghost use Rattle.numbers.specs.Cartridge.{placeTwin, choiceTwin};
+ghost use Rattle.numbers.specs.Places.{placeTwin, choiceTwin};
 use exchange_twins::flag_number;
 use geometry::Address;
 use geometry::header_address;

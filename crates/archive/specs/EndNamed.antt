@@ -6,7 +6,7 @@ use mathlib.Core.Bool.{true}
 use mathlib.Core.List.{List, []}
 use mathlib.Core.Option.{some}
 use lib.ListN.{length}
-use Rattle.geometry.specs.Place.{address}
+use Rattle.geometry.specs.Place.{address, asSeq}
 use Rattle.geometry.specs.Cartridge.{isUser, lastOf}
 use Rattle.geometry.specs.declared.cartridge.Geometry.{Geometry}
 use Rattle.frame.specs.declared.element.Kind.the-variants.{Eod}
@@ -30,7 +30,7 @@ pub record EndsAt (h : Header) (n : ℕ) (t : Tape) : Type 0 where
   pub frame : List ℕ
   pub user : isUser (h .last .0) (h .eod .0) ≡ true
   pub reads : t (h .eod .0) ≡ some frame
-  pub judged : judgeFrame (toldOf h) (record { 0 = n }) frame ≡ foundSaid Eod
+  pub judged : judgeFrame (toldOf h) (asSeq n) frame ≡ foundSaid Eod
 
 -- after every list of a recording's calls
 pub record Ends (last : ℕ) (t : Tape) (o : Opening) (w : recordings.World) : Type 0 where

@@ -7,7 +7,7 @@ use mathlib.Core.Logic.{_⊎_}
 use mathlib.Core.Option.{Option, none, some}
 use lib.ListN.{take}
 use Rattle.geometry.specs.Pick.{pick}
-use Rattle.geometry.specs.Place.{address}
+use Rattle.geometry.specs.Place.{address, asSeq}
 use Rattle.geometry.specs.Cartridge.{lastOf, isUser}
 use Rattle.geometry.specs.declared.cartridge.Geometry.{Geometry}
 use Rattle.frame.specs.Lengths.{dataLength}
@@ -40,7 +40,7 @@ advance judgement.end f n got = finished got
 -- what an address reads as
 unfoldable pub look : Told → Option (List ℕ) → Reader → Reader
 look told none r = r
-look told (some f) (going n got) = advance (judgeFrame told (record { 0 = n }) f) f n got
+look told (some f) (going n got) = advance (judgeFrame told (asSeq n) f) f n got
 look told (some f) (finished got) = finished got
 look told (some f) (stopped m) = stopped m
 

@@ -31,7 +31,7 @@ fn header_due(s: State) -> Answer
 }
 
 // What a fetch answers, once the session is found able to: the same command after busy, else what is due in this stage.
-pub fn decide(s: State) -> Answer
+pub fn decision(s: State) -> Answer
     ensures { λ r. ⌜ answerSaid r ≡ decisionOf s ⌝ }
 {
     let exchange = s.exchange;

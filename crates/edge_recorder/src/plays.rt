@@ -22,9 +22,9 @@ fn session_of(o: Outcome) -> Recording {
 }
 
 // Prints a title and opens a recording with a window of so many blocks.
-pub fn open(title: &[u8], g: Geometry, window: u8) -> Recording {
+pub fn open(title: &[u8], g: Geometry, blocks: u8) -> Recording {
     print(title);
-    session_of(Recording::open_blank(g, 16, window))
+    session_of(Recording::open_blank(g, 16, blocks))
 }
 
 pub fn accept_filemark(session: Recording) -> Recording {

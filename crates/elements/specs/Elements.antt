@@ -4,7 +4,7 @@
 use Prim.Native.Nat.{ℕ, _+_, _-_, _%_, _^_}
 use mathlib.Core.Bool.{Bool, true, false}
 use lib.ListN.{getD, set, replicate}
-use Rattle.geometry.specs.Place.{asAddress}
+use Rattle.geometry.specs.Place.{asAddress, asSeq}
 use Rattle.geometry.specs.Pick.{pick}
 use Rattle.geometry.specs.declared.address.Address.{Address}
 use Rattle.geometry.specs.declared.address.Seq.{Seq}
@@ -31,7 +31,7 @@ startOf last a number trail = record {
 
 -- the number of the element n behind the oldest that is not known to be on tape
 abbrev pub numberOf : Elements → ℕ → Seq
-numberOf e n = record { 0 = (e .first .0 + n) % 2 ^ 32 }
+numberOf e n = asSeq ((e .first .0 + n) % 2 ^ 32)
 
 -- one element more, a filemark or not
 abbrev pub acceptedOf : Elements → Bool → Elements

@@ -19,8 +19,8 @@ noTrail = record { filemarks = 0; marker = asAddress 0xFFFFFFFF }
 abbrev pub marked : Trail → Address → Trail
 marked t a = record { filemarks = (t .filemarks + 1) % 2 ^ 32; marker = a }
 
--- what stands before element first + n, given what stands before element first, where the elements between lie from an address on;
--- addresses wrap, too, in a session that no call returned
+-- what stands before element first + n, given what stands before element first, where the elements between lie from an address on
+-- (the remainder changes nothing where n is at most the outstanding ones, and no call asks for more)
 unfoldable pub trailOf : Trail → List Bool → Seq → Address → ℕ → Trail
 trailOf start marks first base zero = start
 trailOf start marks first base (suc n) =

@@ -7,7 +7,7 @@ ghost use Rattle.geometry.specs.Refusal.{refusalNumber};
 ghost use Rattle.frame.specs.Lengths.{frameLength};
 ghost use Rattle.recording_state.specs.State.{windowLength};
 ghost use Rattle.recording_state.specs.Fetch.{fetchedSaid, sending, fetchRefused, fetchOf};
-use deciding::decide;
+use deciding::decision;
 use drive::Command;
 use drive::Exchange;
 use filling::fill;
@@ -57,7 +57,7 @@ pub fn fetch(mut s: State, window: &[u8], frame: &mut [u8]) -> Fetched
     if frame.len() != FRAME_LENGTH {
         return refuse_fetch(s, Refusal::Length);
     }
-    let answer = decide(s);
+    let answer = decision(s);
     match answer {
         Answer::Command(c) => send(s, c, window, frame),
         Answer::Idle => Fetched {

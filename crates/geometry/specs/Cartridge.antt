@@ -39,7 +39,7 @@ framesOf g = trackFrames (g .load) (g .segtrk) * g .trks
 abbrev pub lastOf : Geometry → PlaceSaid
 lastOf g = pick (ltb (framesOf g) leastFrames) (refused 2) (address (framesOf g - 1))
 
--- the definitions from here on are over numbers, since they are applied to the numbers of a tape's addresses
+-- the definitions from here on are over numbers: they are applied to the numbers of a tape's addresses or, `pastReserved`, to a sum that need not be an address
 
 -- user frames: 10 to 2,989 and 3,000 to LAST
 abbrev pub isUser : ℕ → ℕ → Bool

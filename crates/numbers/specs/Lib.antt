@@ -1,2 +1,2 @@
 pub mod Arguments
-pub mod Cartridge
+pub mod Places

@@ -2,7 +2,7 @@
 ghost use mathlib.Core.Path.{_≡_};
 ghost use Rattle.geometry.specs.Place.{placeSaid};
 ghost use Rattle.header_choice.specs.Choice.{choiceSaid};
-ghost use Rattle.numbers.specs.Cartridge.{placeTwin, choiceTwin};
+ghost use Rattle.numbers.specs.Places.{placeTwin, choiceTwin};
 use geometry::Place;
 use geometry::number;
 use header_choice::Choice;

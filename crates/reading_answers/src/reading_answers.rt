@@ -1,7 +1,7 @@
 // What the calls of a reading session return, as numbers.
 ghost use mathlib.Core.Path.{_≡_};
 ghost use Rattle.reading.specs.Reading.{openedSaid, fetchedSaid, takenSaid};
-ghost use Rattle.reading_answers.specs.Reading.{openedTwin, answering, unknownFetch, fetchedTwin, delivering, unknownReply, takenTwin};
+ghost use Rattle.reading_answers.specs.Reading.{openedTwin, withoutCommand, unknownFetch, fetchedTwin, withAnswer, unknownReply, takenTwin};
 use exchange_twins::AdrCommand;
 use exchange_twins::command_twin;
 use geometry::number;
@@ -60,7 +60,7 @@ impl AdrReadOpened {
 impl AdrReadFetched {
     // An answer without a command.
     fn without(s: AdrReading, answer: u8, number: u8) -> AdrReadFetched
-        ensures { λ r. ⌜ r ≡ answering s answer number ⌝ }
+        ensures { λ r. ⌜ r ≡ withoutCommand s answer number ⌝ }
     {
         AdrReadFetched {
             session: s,
@@ -101,7 +101,7 @@ impl AdrReadFetched {
 
 impl AdrReadTaken {
     fn with(s: AdrReading, answer: u8, number: u8) -> AdrReadTaken
-        ensures { λ r. ⌜ r ≡ delivering s answer number ⌝ }
+        ensures { λ r. ⌜ r ≡ withAnswer s answer number ⌝ }
     {
         AdrReadTaken {
             session: s,

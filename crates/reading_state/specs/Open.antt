@@ -3,7 +3,7 @@ use Prim.Native.Nat.{ℕ}
 use mathlib.Core.Bool.{true, false}
 use mathlib.Core.List.{List}
 use Rattle.geometry.specs.Refusal.{verdictNumber}
-use Rattle.geometry.specs.Place.{asAddress}
+use Rattle.geometry.specs.Place.{asAddress, asSeq}
 use Rattle.geometry.specs.Cartridge.{firstUser}
 use Rattle.geometry.specs.declared.cartridge.Geometry.{Geometry}
 use Rattle.frame.specs.declared.header.Header.{Header}
@@ -32,7 +32,7 @@ fresh told = record {
   told = told;
   next = asAddress firstUser;
   locate = true;
-  expected = record { 0 = 0 };
+  expected = asSeq 0;
   exchange = unsent;
   finished = false;
   ended = false;

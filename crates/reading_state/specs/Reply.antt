@@ -4,7 +4,7 @@ use mathlib.Core.Bool.{Bool, true, false, _||_, not}
 use mathlib.Core.List.{List}
 use lib.Dec.{eqb}
 use lib.ListN.{length}
-use Rattle.geometry.specs.Place.{asAddress}
+use Rattle.geometry.specs.Place.{asAddress, asSeq}
 use Rattle.geometry.specs.Pick.{pick}
 use Rattle.geometry.specs.Refusal.{refusalNumber}
 use Rattle.geometry.specs.Cartridge.{pastReserved}
@@ -85,7 +85,7 @@ skippedOf s = delivering (advancedOf s) nothing
 
 -- an element delivered, and the next number expected
 abbrev pub deliveredOf : State → DeliverySaid → TakenSaid
-deliveredOf s said = delivering (withExpected (advancedOf s) (record { 0 = (s .expected .0 + 1) % 2 ^ 32 })) said
+deliveredOf s said = delivering (withExpected (advancedOf s) (asSeq ((s .expected .0 + 1) % 2 ^ 32))) said
 
 -- EOD ends reading
 abbrev pub finishedOf : State → TakenSaid

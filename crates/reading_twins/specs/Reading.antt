@@ -1,6 +1,6 @@
 -- A reading session as numbers.
 use mathlib.Core.Bool.{Bool, _&&_}
-use Rattle.geometry.specs.Place.{asAddress}
+use Rattle.geometry.specs.Place.{asAddress, asSeq}
 use Rattle.reading_state.specs.declared.state.State.{State}
 use Rattle.exchange_twins.specs.Numbers.{isFlag, flagOf, flagNumber, isExchange, exchangeOf, exchangeTwin}
 use Rattle.reading_twins.specs.declared.reading_numbers.AdrReading.{AdrReading}
@@ -14,7 +14,7 @@ readingOf s = record {
   told = record { last = asAddress (s .told .last); pass = s .told .pass };
   next = asAddress (s .next);
   locate = flagOf (s .locate);
-  expected = record { 0 = s .expected };
+  expected = asSeq (s .expected);
   exchange = exchangeOf (s .exchange);
   finished = flagOf (s .finished);
   ended = flagOf (s .ended);

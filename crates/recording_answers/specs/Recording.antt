@@ -1,7 +1,7 @@
 -- What the calls of a recording session return, as numbers. Numbers that are no session's come back as they are, with 7.
 use Prim.Native.Nat.{ℕ}
 use Rattle.recording_state.specs.State.{OutcomeSaid}
-use Rattle.recording_state.specs.Answer as fetch
+use Rattle.recording_state.specs.Answer as answers
 use Rattle.recording_state.specs.Answer.{AnswerSaid}
 use Rattle.recording_twins.specs.declared.recording_numbers.AdrRecording.{AdrRecording}
 use Rattle.recording_twins.specs.Recording.{recordingTwin}
@@ -16,14 +16,14 @@ abbrev pub unknown : AdrRecording → AdrRecordOutcome
 unknown s = record { session = s; number = 7 }
 
 -- what a fetch answers, by number: 0 refused, 1 a command, 2 idle, 3 done; without a command its code and address are 0
-abbrev pub answering : AdrRecording → ℕ → ℕ → AdrRecordFetched
-answering s answer number = record { session = s; command = record { code = 0; address = 0 }; answer = answer; number = number }
+abbrev pub withoutCommand : AdrRecording → ℕ → ℕ → AdrRecordFetched
+withoutCommand s answer number = record { session = s; command = record { code = 0; address = 0 }; answer = answer; number = number }
 
 abbrev pub fetchedTwin : AnswerSaid → AdrRecording → AdrRecordFetched
-fetchedTwin (fetch.command code at) s = record { session = s; command = record { code = code; address = at }; answer = 1; number = 0 }
-fetchedTwin fetch.idle s = answering s 2 0
-fetchedTwin fetch.done s = answering s 3 0
-fetchedTwin (fetch.refused n) s = answering s 0 n
+fetchedTwin (answers.command code at) s = record { session = s; command = record { code = code; address = at }; answer = 1; number = 0 }
+fetchedTwin answers.idle s = withoutCommand s 2 0
+fetchedTwin answers.done s = withoutCommand s 3 0
+fetchedTwin (answers.refused n) s = withoutCommand s 0 n
 
 abbrev pub unknownFetch : AdrRecording → AdrRecordFetched
-unknownFetch s = answering s 0 7
+unknownFetch s = withoutCommand s 0 7

@@ -3,7 +3,7 @@ ghost use mathlib.Core.Path.{_≡_};
 ghost use Rattle.recording.specs.Recording.{outcomeSaid};
 ghost use Rattle.recording_state.specs.Answer.{answerSaid};
 ghost use Rattle.recording_twins.specs.Recording.{recordingTwin};
-ghost use Rattle.recording_answers.specs.Recording.{outcomeTwin, unknown, answering, unknownFetch, fetchedTwin};
+ghost use Rattle.recording_answers.specs.Recording.{outcomeTwin, unknown, withoutCommand, unknownFetch, fetchedTwin};
 use exchange_twins::AdrCommand;
 use exchange_twins::command_twin;
 use geometry::number;
@@ -60,7 +60,7 @@ impl AdrRecordOutcome {
 impl AdrRecordFetched {
     // An answer without a command.
     fn without(s: AdrRecording, answer: u8, number: u8) -> AdrRecordFetched
-        ensures { λ r. ⌜ r ≡ answering s answer number ⌝ }
+        ensures { λ r. ⌜ r ≡ withoutCommand s answer number ⌝ }
     {
         AdrRecordFetched {
             session: s,

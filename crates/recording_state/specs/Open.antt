@@ -5,7 +5,7 @@ use mathlib.Core.List.{List}
 use lib.Dec.{eqb, ltb}
 use Rattle.geometry.specs.Pick.{pick}
 use Rattle.geometry.specs.Place as place
-use Rattle.geometry.specs.Place.{asAddress, PlaceSaid}
+use Rattle.geometry.specs.Place.{asAddress, PlaceSaid, asSeq}
 use Rattle.geometry.specs.Cartridge.{firstUser, lastOf}
 use Rattle.geometry.specs.declared.cartridge.Geometry.{Geometry}
 use Rattle.frame.specs.declared.header.Header.{Header}
@@ -28,7 +28,7 @@ fresh depth highest h = record {
   closed = false;
   ended = false;
   copies = copies.startOf h;
-  elements = elements.startOf (h .last) (asAddress firstUser) (record { 0 = 0 }) noTrail;
+  elements = elements.startOf (h .last) (asAddress firstUser) (asSeq 0) noTrail;
 }
 
 -- a refused opening returns this session, which is ended

@@ -1,7 +1,7 @@
 -- A recording session as numbers.
 use mathlib.Core.Bool.{Bool, _&&_}
 use mathlib.Core.List.{map}
-use Rattle.geometry.specs.Place.{asAddress}
+use Rattle.geometry.specs.Place.{asAddress, asSeq}
 use Rattle.copies.specs.declared.copies.Copies.{Copies}
 use Rattle.elements.specs.declared.elements.Elements.{Elements}
 use Rattle.recording_state.specs.declared.state.State.{State}
@@ -34,7 +34,7 @@ copiesTwin c = record {
 
 abbrev pub elementsOf : AdrElements → Elements
 elementsOf e = record {
-  first = record { 0 = e .first };
+  first = asSeq (e .first);
   pending = e .pending;
   outstanding = e .outstanding;
   next = asAddress (e .next);

@@ -46,8 +46,8 @@ returns-3 c =
     c .refuse-fetch3 .ensures (a .frame .now)
     ∙ sym (fetch-wrong-length (a .s) (a .window .now) (a .frame .now) (c .before .before .before .before .if1 .left) (inr (c .before .if3 .taken)))
 
-decide-requires : tie.Need-decide-requires
-decide-requires c κs = tt
+decision-requires : tie.Need-decision-requires
+decision-requires c κs = tt
 
 enum-known-answer : tie.Need-enum-known-answer
 enum-known-answer c = c .match .keys1
@@ -75,23 +75,23 @@ returns-4 : tie.Need-returns-4
 returns-4 c =
     let a = c .before .before .before .before .before .before .before .before .before .before .before .before .before .before .before .before .before .args in
     c .before .before .send .ensures
-    ∙ sym (fetch-sends (a .s) (a .window .now) (a .frame .now) (c .before .before .before .before .before .before .before .before .before .before .before .if1 .left) (right-window (c .before .before .before .before .before .before .before .before .before .before .blocks2 .ensures) (c .before .before .before .before .before .before .before .before .before .if2 .left)) (c .before .before .before .before .before .before .before .before .if3 .left) _ (sym (c .before .before .before .before .before .before .before .decide .ensures) ∙ ap answerSaid (c .before .before .before .before .before .answer .given .1)))
+    ∙ sym (fetch-sends (a .s) (a .window .now) (a .frame .now) (c .before .before .before .before .before .before .before .before .before .before .before .if1 .left) (right-window (c .before .before .before .before .before .before .before .before .before .before .blocks2 .ensures) (c .before .before .before .before .before .before .before .before .before .if2 .left)) (c .before .before .before .before .before .before .before .before .if3 .left) _ (sym (c .before .before .before .before .before .before .before .decision .ensures) ∙ ap answerSaid (c .before .before .before .before .before .answer .given .1)))
 
 returns-5 : tie.Need-returns-5
 returns-5 c =
     let a = c .before .before .before .before .before .before .before .before .before .before .before .before .args in
-    sym (fetch-decided (a .s) (a .window .now) (a .frame .now) (c .before .before .before .before .before .before .if1 .left) (right-window (c .before .before .before .before .before .blocks2 .ensures) (c .before .before .before .before .if2 .left)) (c .before .before .before .if3 .left) (sym (c .before .before .decide .ensures) ∙ ap answerSaid (c .enum-told .given .1)))
+    sym (fetch-decided (a .s) (a .window .now) (a .frame .now) (c .before .before .before .before .before .before .if1 .left) (right-window (c .before .before .before .before .before .blocks2 .ensures) (c .before .before .before .before .if2 .left)) (c .before .before .before .if3 .left) (sym (c .before .before .decision .ensures) ∙ ap answerSaid (c .enum-told .given .1)))
 
 returns-6 : tie.Need-returns-6
 returns-6 c =
     let a = c .before .before .before .before .before .before .before .before .before .before .before .before .args in
-    sym (fetch-decided (a .s) (a .window .now) (a .frame .now) (c .before .before .before .before .before .before .if1 .left) (right-window (c .before .before .before .before .before .blocks2 .ensures) (c .before .before .before .before .if2 .left)) (c .before .before .before .if3 .left) (sym (c .before .before .decide .ensures) ∙ ap answerSaid (c .enum-told2 .given .1)))
+    sym (fetch-decided (a .s) (a .window .now) (a .frame .now) (c .before .before .before .before .before .before .if1 .left) (right-window (c .before .before .before .before .before .blocks2 .ensures) (c .before .before .before .before .if2 .left)) (c .before .before .before .if3 .left) (sym (c .before .before .decision .ensures) ∙ ap answerSaid (c .enum-told2 .given .1)))
 
 returns-7 : tie.Need-returns-7
 returns-7 c =
     let a = c .before .before .before .before .before .before .before .before .before .before .before .before .before .before .args in
     c .refuse-fetch4 .ensures (a .frame .now)
-    ∙ sym (fetch-decided (a .s) (a .window .now) (a .frame .now) (c .before .before .before .before .before .before .before .before .if1 .left) (right-window (c .before .before .before .before .before .before .before .blocks2 .ensures) (c .before .before .before .before .before .before .if2 .left)) (c .before .before .before .before .before .if3 .left) (sym (c .before .before .before .before .decide .ensures) ∙ ap answerSaid (c .before .before .answer2 .given .1)))
+    ∙ sym (fetch-decided (a .s) (a .window .now) (a .frame .now) (c .before .before .before .before .before .before .before .before .if1 .left) (right-window (c .before .before .before .before .before .before .before .blocks2 .ensures) (c .before .before .before .before .before .before .if2 .left)) (c .before .before .before .before .before .if3 .left) (sym (c .before .before .before .before .decision .ensures) ∙ ap answerSaid (c .before .before .answer2 .given .1)))
 
 pub fetch-spec : {M : Type 1} → statement M
 fetch-spec =
@@ -105,7 +105,7 @@ fetch-spec =
     returns-2
     refuse-fetch-requires-3
     returns-3
-    decide-requires
+    decision-requires
     enum-known-answer
     send-requires
     enum-told

@@ -2,7 +2,7 @@
 use mathlib.Core.Path.{ap, _∙_}
 use Rattle.geometry.specs.declared.cartridge.Geometry.{Geometry}
 use Rattle.header_choice.specs.Choice.{choiceOf}
-use Rattle.numbers.specs.Cartridge.{choiceTwin}
+use Rattle.numbers.specs.Places.{choiceTwin}
 use Rattle.adr.proofs.cartridge.adr_choose.Statement.{statement}
 use Rattle.adr.proofs.cartridge.adr_choose.Tie as tie
 

@@ -1,7 +1,7 @@
 -- `adr::cartridge::adr_last` meets its contract: by what the geometry promises. Assumes nothing.
 use mathlib.Core.Path.{ap, _∙_}
 use Rattle.geometry.specs.Cartridge.{lastOf}
-use Rattle.numbers.specs.Cartridge.{placeTwin}
+use Rattle.numbers.specs.Places.{placeTwin}
 use Rattle.adr.proofs.cartridge.adr_last.Statement.{statement}
 use Rattle.adr.proofs.cartridge.adr_last.Tie as tie
 

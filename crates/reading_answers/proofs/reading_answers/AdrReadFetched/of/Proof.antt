@@ -2,7 +2,7 @@
 use mathlib.Core.Path.{ap, _∙_}
 use borrow.Author.Needs.{needs}
 use Rattle.reading_twins.specs.declared.reading_numbers.AdrReading.{AdrReading}
-use Rattle.reading_answers.specs.Reading.{answering}
+use Rattle.reading_answers.specs.Reading.{withoutCommand}
 use Rattle.reading_answers.proofs.reading_answers.AdrReadFetched.of.Statement.{statement}
 use Rattle.reading_answers.proofs.reading_answers.AdrReadFetched.of.Tie as tie
 
@@ -34,7 +34,7 @@ returns : tie.Need-returns
 returns c = rw (c .before .before .answer .given .1, c .command-twin .ensures, c .before .before .before .before .reading-twin .ensures)
 
 returns-2 : tie.Need-returns-2
-returns-2 c = rw (c .before .enum-told .given .1) (c .without .ensures ∙ ap (λ (s : AdrReading). answering s 4 0) (c .before .before .before .reading-twin .ensures))
+returns-2 c = rw (c .before .enum-told .given .1) (c .without .ensures ∙ ap (λ (s : AdrReading). withoutCommand s 4 0) (c .before .before .before .reading-twin .ensures))
 
 returns-3 : tie.Need-returns-3
 returns-3 c = rw (c .before .before .before .answer2 .given .1) (c .without2 .ensures ∙ rw (c .before .number .ensures, c .before .before .before .before .before .reading-twin .ensures))

@@ -2,7 +2,7 @@
 use mathlib.Core.Path.{ap, _∙_}
 use borrow.Author.Needs.{needs}
 use Rattle.reading_twins.specs.declared.reading_numbers.AdrReading.{AdrReading}
-use Rattle.reading_answers.specs.Reading.{delivering}
+use Rattle.reading_answers.specs.Reading.{withAnswer}
 use Rattle.reading_answers.proofs.reading_answers.AdrReadTaken.of.Statement.{statement}
 use Rattle.reading_answers.proofs.reading_answers.AdrReadTaken.of.Tie as tie
 
@@ -43,16 +43,16 @@ with-requires-5 : tie.Need-with-requires-5
 with-requires-5 c κs = tt
 
 returns : tie.Need-returns
-returns c = rw (c .before .enum-told .given .1) (c .«with» .ensures ∙ ap (λ (s : AdrReading). delivering s 5 0) (c .before .before .before .reading-twin .ensures))
+returns c = rw (c .before .enum-told .given .1) (c .«with» .ensures ∙ ap (λ (s : AdrReading). withAnswer s 5 0) (c .before .before .before .reading-twin .ensures))
 
 returns-2 : tie.Need-returns-2
-returns-2 c = rw (c .before .enum-told2 .given .1) (c .with2 .ensures ∙ ap (λ (s : AdrReading). delivering s 6 0) (c .before .before .before .reading-twin .ensures))
+returns-2 c = rw (c .before .enum-told2 .given .1) (c .with2 .ensures ∙ ap (λ (s : AdrReading). withAnswer s 6 0) (c .before .before .before .reading-twin .ensures))
 
 returns-3 : tie.Need-returns-3
-returns-3 c = rw (c .before .enum-told3 .given .1) (c .with3 .ensures ∙ ap (λ (s : AdrReading). delivering s 7 0) (c .before .before .before .reading-twin .ensures))
+returns-3 c = rw (c .before .enum-told3 .given .1) (c .with3 .ensures ∙ ap (λ (s : AdrReading). withAnswer s 7 0) (c .before .before .before .reading-twin .ensures))
 
 returns-4 : tie.Need-returns-4
-returns-4 c = rw (c .before .enum-told4 .given .1) (c .with4 .ensures ∙ ap (λ (s : AdrReading). delivering s 4 0) (c .before .before .before .reading-twin .ensures))
+returns-4 c = rw (c .before .enum-told4 .given .1) (c .with4 .ensures ∙ ap (λ (s : AdrReading). withAnswer s 4 0) (c .before .before .before .reading-twin .ensures))
 
 returns-5 : tie.Need-returns-5
 returns-5 c = rw (c .before .before .before .delivery .given .1) (c .with5 .ensures ∙ rw (c .before .number .ensures, c .before .before .before .before .before .reading-twin .ensures))

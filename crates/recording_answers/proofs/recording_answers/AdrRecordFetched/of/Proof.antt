@@ -2,7 +2,7 @@
 use mathlib.Core.Path.{ap, _∙_}
 use borrow.Author.Needs.{needs}
 use Rattle.recording_twins.specs.declared.recording_numbers.AdrRecording.{AdrRecording}
-use Rattle.recording_answers.specs.Recording.{answering}
+use Rattle.recording_answers.specs.Recording.{withoutCommand}
 use Rattle.recording_answers.proofs.recording_answers.AdrRecordFetched.of.Statement.{statement}
 use Rattle.recording_answers.proofs.recording_answers.AdrRecordFetched.of.Tie as tie
 
@@ -40,10 +40,10 @@ returns : tie.Need-returns
 returns c = rw (c .before .before .answer .given .1, c .command-twin .ensures, c .before .before .before .before .recording-twin .ensures)
 
 returns-2 : tie.Need-returns-2
-returns-2 c = rw (c .before .enum-told .given .1) (c .without .ensures ∙ ap (λ (s : AdrRecording). answering s 2 0) (c .before .before .before .recording-twin .ensures))
+returns-2 c = rw (c .before .enum-told .given .1) (c .without .ensures ∙ ap (λ (s : AdrRecording). withoutCommand s 2 0) (c .before .before .before .recording-twin .ensures))
 
 returns-3 : tie.Need-returns-3
-returns-3 c = rw (c .before .enum-told2 .given .1) (c .without2 .ensures ∙ ap (λ (s : AdrRecording). answering s 3 0) (c .before .before .before .recording-twin .ensures))
+returns-3 c = rw (c .before .enum-told2 .given .1) (c .without2 .ensures ∙ ap (λ (s : AdrRecording). withoutCommand s 3 0) (c .before .before .before .recording-twin .ensures))
 
 returns-4 : tie.Need-returns-4
 returns-4 c = rw (c .before .before .before .answer2 .given .1) (c .without3 .ensures ∙ rw (c .before .number .ensures, c .before .before .before .before .before .recording-twin .ensures))

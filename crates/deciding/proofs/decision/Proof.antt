@@ -1,10 +1,10 @@
--- `deciding::decide` meets its contract: the command after busy, else each stage is its case of the definition. Assumes nothing.
+-- `deciding::decision` meets its contract: the command after busy, else each stage is its case of the definition. Assumes nothing.
 use mathlib.Core.Path.{_∙_, sym, ap}
 use borrow.Author.Needs.{needs}
 use Rattle.recording_state.specs.Due.{decisionBy, decisionOf}
 use Rattle.geometry.proofs.PickLaws.{pick-t, pick-f}
-use Rattle.deciding.proofs.decide.Statement.{statement}
-use Rattle.deciding.proofs.decide.Tie as tie
+use Rattle.deciding.proofs.decision.Statement.{statement}
+use Rattle.deciding.proofs.decision.Tie as tie
 
 returns : tie.Need-returns
 unfolding decisionOf
@@ -47,8 +47,8 @@ returns-5 : tie.Need-returns-5
 unfolding decisionOf
 returns-5 c = sym (pick-f _ (c .before .before .if1 .left) ∙ ap (λ k. decisionBy k (c .before .before .before .before .args .s)) (c .enum-told4 .given .1))
 
-pub decide-spec : {M : Type 1} → statement M
-decide-spec =
+pub decision-spec : {M : Type 1} → statement M
+decision-spec =
     tie.close
     (tie.spec
     returns
