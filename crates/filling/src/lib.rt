@@ -2,13 +2,18 @@
 mod window;
 
 ghost use mathlib.Core.Path.{_≡_};
+ghost use mathlib.Core.Bool.{_&&_};
+ghost use lib.Dec.{eqb};
 ghost use lib.ListN.{length};
+ghost use Rattle.geometry.specs.Pick.{pick};
 ghost use Rattle.frame.specs.Lengths.{frameLength};
 ghost use Rattle.recording_state.specs.State.{windowLength};
 ghost use Rattle.recording_state.specs.Written.{elementOf, elementPlace, writtenElement, writtenHeader, writtenFrame};
 use crate::window::block_at;
 use element_building::build_element;
+use frame::DATA_LENGTH;
 use frame::Element;
+use frame::FRAME_LENGTH;
 use header_building::build_header;
 use recording_state::Stage;
 use recording_state::State;
@@ -60,8 +65,7 @@ fn fill_header(s: State, frame: &mut [u8])
     build_header(frame, header);
 }
 
-// Fills the frame of a WRITE.
-pub fn fill(s: State, window: &[u8], frame: &mut [u8])
+fn fill_stage(s: State, window: &[u8], frame: &mut [u8])
     requires { ⌜ length (now window) ≡ windowLength s ⌝ }
     requires { ⌜ length (now frame) ≡ frameLength ⌝ }
     ensures { λ _. ⌜ now (frame .exit) ≡ writtenFrame s (now (window .entry)) ⌝ }
@@ -71,4 +75,17 @@ pub fn fill(s: State, window: &[u8], frame: &mut [u8])
         Stage::Elements => fill_element(s, window, frame),
         _ => fill_header(s, frame),
     }
+}
+
+// Fills the frame of a WRITE; where the window or the frame has another length, the frame is left alone.
+pub fn fill(s: State, window: &[u8], frame: &mut [u8])
+    ensures { λ _. ⌜ now (frame .exit) ≡ pick (eqb (length (now (window .entry))) (windowLength s) && eqb (length (now (frame .entry))) frameLength) (writtenFrame s (now (window .entry))) (now (frame .entry)) ⌝ }
+{
+    if window.len() != s.blocks() * DATA_LENGTH {
+        return;
+    }
+    if frame.len() != FRAME_LENGTH {
+        return;
+    }
+    fill_stage(s, window, frame);
 }

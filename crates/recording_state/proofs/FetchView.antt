@@ -1,5 +1,5 @@
 -- By which case of 01 a fetch is answered, and what is known there. Assumes nothing.
-use Prim.Native.Nat.{ℕ}
+use Prim.Native.Nat.{ℕ, _*_}
 use mathlib.Core.Path.{_≡_, refl, sym, ap, subst, _∙_}
 use mathlib.Core.Bool.{Bool, true, false, _&&_, _||_}
 use mathlib.Core.List.{List}
@@ -43,13 +43,17 @@ pub data FetchView (s : State) (window frame : List ℕ) : FetchedSaid → Type 
   stopping : Ready s window frame → s .exchange .again ≡ false → ElementStage s → (n : ℕ) → due.dueOf (s .setup .depth) (s .elements) ≡ due.refused n → FetchView s window frame (record { session = endedOf s; said = refused n; frame = frame })
   finished : Ready s window frame → s .exchange .again ≡ false → s .stage ≡ S.Done → FetchView s window frame (record { session = s; said = done; frame = frame })
 
-both : {a b : Bool} → a ≡ true → b ≡ true → (a && b) ≡ true
+-- the window's length, by what W is promised to be
+pub right-window : {length window blocks : ℕ} → window ≡ blocks → length ≡ window * 32768 → length ≡ blocks * 32768
+right-window e f = f ∙ ap (λ n. n * 32768) e
+
+pub both : {a b : Bool} → a ≡ true → b ≡ true → (a && b) ≡ true
 both p q = rw (p, q)
 
-not-first : {a : Bool} (b : Bool) → a ≡ false → (a && b) ≡ false
+pub not-first : {a : Bool} (b : Bool) → a ≡ false → (a && b) ≡ false
 not-first b p = rw p
 
-not-second : (a : Bool) {b : Bool} → b ≡ false → (a && b) ≡ false
+pub not-second : (a : Bool) {b : Bool} → b ≡ false → (a && b) ≡ false
 not-second true p = p
 not-second false p = refl
 

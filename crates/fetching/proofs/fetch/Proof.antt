@@ -1,17 +1,14 @@
 -- `fetching::fetch` meets its contract: along its tests, then by the cases of what is decided. Assumes nothing.
-use Prim.Native.Nat.{ℕ, _*_}
+use Prim.Native.Nat.{_*_}
 use mathlib.Core.Logic.{inl, inr}
-use mathlib.Core.Path.{_≡_, _∙_, sym, ap}
+use mathlib.Core.Path.{_∙_, sym, ap}
 use native.Mathlib.Omega.{arith}
 use Rattle.geometry.proofs.PickLaws.{pick-t}
 use Rattle.recording_state.specs.Answer.{answerSaid}
 use Rattle.recording_state.specs.Fetch.{fetchOf}
-use Rattle.recording_state.proofs.FetchView.{fetch-wrong-length, fetch-decided, fetch-sends}
+use Rattle.recording_state.proofs.FetchView.{right-window, fetch-wrong-length, fetch-decided, fetch-sends}
 use Rattle.fetching.proofs.fetch.Statement.{statement}
 use Rattle.fetching.proofs.fetch.Tie as tie
-
-right-window : {length window blocks : ℕ} → window ≡ blocks → length ≡ window * 32768 → length ≡ blocks * 32768
-right-window e f = f ∙ ap (λ n. n * 32768) e
 
 refuse-fetch-requires : tie.Need-refuse-fetch-requires
 refuse-fetch-requires c κs = tt

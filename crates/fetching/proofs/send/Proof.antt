@@ -5,7 +5,9 @@ use mathlib.Core.List.{List, [], _∷_}
 use mathlib.Core.Path.{_≡_, _∙_, refl, sym, ap}
 use denote.Enum.Declared.{tagOf}
 use types.Run.{OneOf, miss}
+use borrow.Author.Tests.{eq-eqb}
 use lib.ListN.{length}
+use Rattle.geometry.proofs.PickLaws.{pick-t}
 use Rattle.drive.specs.Command.{commandSaid}
 use Rattle.drive.proofs.command.Command.{the-type}
 use Rattle.drive.specs.declared.command.Command.the-variants.{Read, Write, Locate, ReadPosition}
@@ -16,6 +18,7 @@ use Rattle.recording_state.specs.State.{withExchange}
 use Rattle.recording_state.specs.Answer.{giving}
 use Rattle.recording_state.specs.Fetch.{FetchedSaid, awaits, frameFor, sending}
 use Rattle.recording_state.specs.declared.state.State.{State}
+use Rattle.recording_state.proofs.FetchView.{both}
 use Rattle.fetching.proofs.send.Statement.{statement}
 use Rattle.fetching.proofs.send.Tie as tie
 
@@ -34,7 +37,7 @@ enum-told : tie.Need-enum-told
 enum-told c = c .match .keys1
 
 fill-requires : tie.Need-fill-requires
-fill-requires c κs = c .before .before .before .before .before .pre
+fill-requires c κs = tt
 
 sent-requires : tie.Need-sent-requires
 sent-requires c κs = tt
@@ -46,9 +49,10 @@ returns : tie.Need-returns
 unfolding sending
 returns c =
     let a = c .before .before .before .before .args in
+    let p = c .before .before .before .before .pre in
     sent-alike (a .s) (a .c) (c .sent .ensures)
     (⊎-elim
-    (λ l. l .6 ∙ l .3 .ensures ∙ sym (ap (λ k. frameFor k (a .s) (a .window .now) (a .frame .now)) (l .1 .given .1)))
+    (λ l. l .6 ∙ l .3 .ensures ∙ pick-t _ (both (eq-eqb _ _ (p .0)) (eq-eqb _ _ (p .1))) ∙ sym (ap (λ k. frameFor k (a .s) (a .window .now) (a .frame .now)) (l .1 .given .1)))
     (λ r. r .1 ∙ sym (unless-write (a .c) (a .s) (a .window .now) (a .frame .now) (r .0 .keys2)))
     (c .before .match .came))
 

@@ -1,49 +1,43 @@
--- `filling::fill` meets its contract: an element in the stage of elements, a header in every other. Assumes nothing.
-use mathlib.Core.Path.{_≡_, refl, _∙_, sym, ap}
-use mathlib.Core.Bool.{false}
+-- `filling::fill` meets its contract: along its two tests. Assumes nothing.
+use Prim.Native.Nat.{_*_}
+use mathlib.Core.Path.{_∙_, sym, ap}
+use native.Mathlib.Omega.{arith}
 use borrow.Author.Needs.{needs}
-use Rattle.recording_state.proofs.Stages.{outside}
-use Rattle.recording_state.specs.Written.{amongElements, writtenFrame}
-use Rattle.recording_state.specs.declared.state.Stage.{Stage}
+use borrow.Author.Tests.{eq-eqb, ne-eqb}
+use lib.Dec.{eqb}
+use lib.ListN.{length}
 use Rattle.geometry.proofs.PickLaws.{pick-t, pick-f}
+use Rattle.recording_state.specs.State.{windowLength}
+use Rattle.recording_state.proofs.FetchView.{right-window, both, not-first, not-second}
 use Rattle.filling.proofs.fill.Statement.{statement}
 use Rattle.filling.proofs.fill.Tie as tie
 
-enum-told : tie.Need-enum-told
-enum-told c = search needs
+blocks-requires : tie.Need-blocks-requires
+blocks-requires c κs = tt
 
-fill-element-requires : tie.Need-fill-element-requires
-unfolding writtenFrame
-fill-element-requires c κs = c .before .before .before .before .before .pre
-
-fill-header-requires : tie.Need-fill-header-requires
-unfolding writtenFrame
-fill-header-requires c κs = c .before .before .before .before .pre .1
-
-same-length : tie.Need-same-length
-unfolding writtenFrame
-same-length c = c .before .frame .given
+mul-if1 : tie.Need-mul-if1
+mul-if1 c = omega arith
 
 returns : tie.Need-returns
-unfolding writtenFrame
-returns c = c .before .before .fill-element .ensures ∙ sym (pick-t _ (ap amongElements (c .before .before .before .before .enum-told .given .1)))
-
-same-length-2 : tie.Need-same-length-2
-unfolding writtenFrame
-same-length-2 c = c .before .frame2 .given
+returns c =
+    sym (pick-f _ (not-first _ (ne-eqb _ _ (λ e. c .if1 .taken (e ∙ ap (λ n. n * 32768) (sym (c .before .blocks2 .ensures)))))))
 
 returns-2 : tie.Need-returns-2
-unfolding writtenFrame
-returns-2 c = c .before .before .fill-header .ensures ∙ sym (pick-f _ (outside (λ (k : Stage). amongElements k ≡ false) (c .before .before .before .before .before .before .before .args .s .stage) (c .before .before .before .before .match .keys2) refl refl refl))
+returns-2 c =
+    let a = c .before .before .before .before .before .args in
+    sym (pick-f _ (not-second (eqb (length (a .window .now)) (windowLength (a .s))) (ne-eqb _ _ (c .if2 .taken))))
+
+fill-stage-requires : tie.Need-fill-stage-requires
+fill-stage-requires c κs =
+    (right-window (c .before .before .before .blocks2 .ensures) (c .before .before .if1 .left), c .before .if2 .left)
+
+same-length : tie.Need-same-length
+same-length c = search needs
+
+returns-3 : tie.Need-returns-3
+returns-3 c =
+    c .before .before .fill-stage .ensures
+    ∙ sym (pick-t _ (both (eq-eqb _ _ (right-window (c .before .before .before .before .before .before .blocks2 .ensures) (c .before .before .before .before .before .if1 .left))) (eq-eqb _ _ (c .before .before .before .before .if2 .left))))
 
 pub fill-spec : {M : Type 1} → statement M
-fill-spec =
-    tie.close
-    (tie.spec
-    enum-told
-    fill-element-requires
-    fill-header-requires
-    same-length
-    returns
-    same-length-2
-    returns-2)
+fill-spec = tie.close (tie.spec blocks-requires mul-if1 returns returns-2 fill-stage-requires same-length returns-3)
