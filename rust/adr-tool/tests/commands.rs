@@ -1,6 +1,5 @@
 //! The tool, run as people run it.
 
-#[path = "tool_place/mod.rs"]
 mod place;
 
 use std::fs;

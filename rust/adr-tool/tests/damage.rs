@@ -1,7 +1,6 @@
 //! The tool on images that are damaged, cut off or not images, and after
 //! recordings that did not come to their end.
 
-#[path = "tool_place/mod.rs"]
 mod place;
 
 use std::fs::OpenOptions;
