@@ -135,8 +135,8 @@ struct adr_geometry {
 };
 
 /* The drive's reply to a command: its sense triple as the drive gave it, and
-   the numbers that belong to it. Other numbers are not looked at, but for a
-   skip above 255, which is refused with 8.
+   the numbers that belong to it. Other numbers are not looked at. A write
+   error's skip above 255 is refused with 8.
 
        every command
          00/00/00  good; on READ POSITION with 'buffered', on READ with a frame

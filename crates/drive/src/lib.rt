@@ -27,4 +27,5 @@ pub use command::code;
 pub use exchange::Exchange;
 pub use reply::Reply;
 pub use senses::Sense;
+pub use senses::WRITE_ERROR;
 pub use senses::meaning;

@@ -10,61 +10,78 @@ pub struct Sense {
     pub meaning: u8,
 }
 
-// In the order of 01. The meanings: 1 good, 2 busy, 3 write error, 4 volume overflow, 5 recovered data, 6 unreadable, 7 end of data, 8 end of medium.
+// The meanings, after table 4-20 of the standard; 0 is that of every triple that is not listed.
+const GOOD: u8 = 1;
+
+const BUSY: u8 = 2;
+
+pub const WRITE_ERROR: u8 = 3;
+
+const VOLUME_OVERFLOW: u8 = 4;
+
+const RECOVERED: u8 = 5;
+
+const UNREADABLE: u8 = 6;
+
+const END_OF_DATA: u8 = 7;
+
+const END_OF_MEDIUM: u8 = 8;
+
+// In the order of 01.
 const SENSES: [Sense; 9] = [
     Sense {
         key: 0x00,
         asc: 0x00,
         ascq: 0x00,
-        meaning: 1,
+        meaning: GOOD,
     },
     Sense {
         key: 0x02,
         asc: 0x04,
         ascq: 0x01,
-        meaning: 2,
+        meaning: BUSY,
     },
     Sense {
         key: 0x02,
         asc: 0x04,
         ascq: 0x08,
-        meaning: 2,
+        meaning: BUSY,
     },
     Sense {
         key: 0x03,
         asc: 0x0C,
         ascq: 0x00,
-        meaning: 3,
+        meaning: WRITE_ERROR,
     },
     Sense {
         key: 0x0D,
         asc: 0x00,
         ascq: 0x02,
-        meaning: 4,
+        meaning: VOLUME_OVERFLOW,
     },
     Sense {
         key: 0x01,
         asc: 0x17,
         ascq: 0x01,
-        meaning: 5,
+        meaning: RECOVERED,
     },
     Sense {
         key: 0x03,
         asc: 0x11,
         ascq: 0x00,
-        meaning: 6,
+        meaning: UNREADABLE,
     },
     Sense {
         key: 0x08,
         asc: 0x00,
         ascq: 0x05,
-        meaning: 7,
+        meaning: END_OF_DATA,
     },
     Sense {
         key: 0x00,
         asc: 0x00,
         ascq: 0x02,
-        meaning: 8,
+        meaning: END_OF_MEDIUM,
     },
 ];
 

@@ -1,11 +1,11 @@
--- Numbers that do not fit are refused as they must be: a geometry with 2, D and W with 4, a skip with 8. Assumes nothing.
+-- Numbers that do not fit are refused as they must be: a geometry with 2, D and W with 4, a write error's skip with 8; another reply's skip is not looked at. Assumes nothing.
 use Prim.Native.Nat.{ℕ, _<_}
-use mathlib.Core.Path.{_≡_, refl, ap, _∙_}
-use mathlib.Core.Bool.{Bool, false, _||_, not}
+use mathlib.Core.Path.{_≡_, refl, ap, sym, _∙_}
+use mathlib.Core.Bool.{Bool, true, false, _||_, not}
 use mathlib.Core.List.{List}
 use mathlib.Core.Logic.{_⊎_, inl, inr}
 use borrow.Author.Tests.{lt-leb, eq-eqb}
-use lib.Dec.{eqb}
+use lib.Dec.{eqb, leb}
 use lib.ListN.{length}
 use Rattle.geometry.proofs.PickLaws.{pick-t, pick-f}
 use Rattle.geometry.proofs.TestLaws.{either-right}
@@ -29,7 +29,11 @@ use Rattle.reading_state.specs.declared.state.State as reading
 use Rattle.reading_state.specs.Reply as reading-reply
 use Rattle.numbers.specs.declared.arguments.AdrReply.{AdrReply}
 use Rattle.numbers.specs.declared.arguments.AdrGeometry.{AdrGeometry}
-use Rattle.numbers.specs.Arguments.{isGeometry, withoutFrames, geometryOf, fittingOf, meaningless, asReply}
+use Rattle.numbers.specs.Arguments.{isGeometry, withoutFrames, geometryOf, fittingOf, meaningless, isWriteError, asReply}
+
+-- these numbers with another skip
+abbrev skipping : AdrReply → ℕ → AdrReply
+skipping r n = record { buffered = r .buffered; position = r .position; skip = n; key = r .key; asc = r .asc; ascq = r .ascq }
 
 -- numbers that are no geometry's
 no-geometry : (g : AdrGeometry) → isGeometry g ≡ false → geometryOf g ≡ withoutFrames
@@ -64,9 +68,9 @@ pub blank-4 : (g : Geometry) (depth blocks last : ℕ) → lastOf g ≡ address 
 unfolding openBlankOf
 blank-4 g depth blocks last h k = rw h (fitting-4 depth blocks false (openingHeader (asAddress last) 1 0) (unfitting depth blocks k))
 
-reply-meaningless : (r : AdrReply) → 255 < r .skip → asReply r ≡ meaningless
+reply-meaningless : (r : AdrReply) → isWriteError r ≡ true → 255 < r .skip → asReply r ≡ meaningless
 unfolding asReply
-reply-meaningless r h = pick-f _ (lt-leb (r .skip) 255 h)
+reply-meaningless r e h = pick-f _ (ap (λ n. leb n 255) (pick-t _ e) ∙ lt-leb (r .skip) 255 h)
 
 no-case : (c : Command) (s : State) → replyBy s (caseOf c meaningless) meaningless ≡ ending s 8
 unfolding replyBy meaningIn
@@ -75,9 +79,14 @@ no-case (Write a) s = refl
 no-case (Locate a) s = refl
 no-case ReadPosition s = refl
 
-pub skip-8 : (s : State) (r : AdrReply) → 255 < r .skip → s .ended || not (s .exchange .awaiting) ≡ false → replyOf s (asReply r) ≡ ending s 8
+-- a reply that is no write error is the same whichever skip it has
+pub skip-unread : (r : AdrReply) (n : ℕ) → isWriteError r ≡ false → asReply r ≡ asReply (skipping r n)
+unfolding asReply
+skip-unread r n h = rw h
+
+pub skip-8 : (s : State) (r : AdrReply) → isWriteError r ≡ true → 255 < r .skip → s .ended || not (s .exchange .awaiting) ≡ false → replyOf s (asReply r) ≡ ending s 8
 unfolding replyOf
-skip-8 s r h k = ap (replyOf s) (reply-meaningless r h) ∙ pick-f _ k ∙ no-case (s .exchange .command) s
+skip-8 s r e h k = ap (replyOf s) (reply-meaningless r e h) ∙ pick-f _ k ∙ no-case (s .exchange .command) s
 
 no-reading-case : (c : Command) (s : reading.State) (frame : List ℕ) → reading-reply.replyBy s (caseOf c meaningless) frame ≡ reading-reply.ending s 8
 unfolding reading-reply.replyBy meaningIn
@@ -86,10 +95,10 @@ no-reading-case (Write a) s frame = refl
 no-reading-case (Locate a) s frame = refl
 no-reading-case ReadPosition s frame = refl
 
-pub reading-skip-8 : (s : reading.State) (r : AdrReply) (frame : List ℕ) → 255 < r .skip → s .ended || not (s .exchange .awaiting) ≡ false → length frame ≡ frameLength → reading-reply.replyOf s (asReply r) frame ≡ reading-reply.ending s 8
+pub reading-skip-8 : (s : reading.State) (r : AdrReply) (frame : List ℕ) → isWriteError r ≡ true → 255 < r .skip → s .ended || not (s .exchange .awaiting) ≡ false → length frame ≡ frameLength → reading-reply.replyOf s (asReply r) frame ≡ reading-reply.ending s 8
 unfolding reading-reply.replyOf
-reading-skip-8 s r frame h k l =
-    ap (λ x. reading-reply.replyOf s x frame) (reply-meaningless r h)
+reading-skip-8 s r frame e h k l =
+    ap (λ x. reading-reply.replyOf s x frame) (reply-meaningless r e h)
     ∙ pick-f _ k
     ∙ pick-t _ (eq-eqb _ _ l)
     ∙ no-reading-case (s .exchange .command) s frame

@@ -7,6 +7,7 @@ use Rattle.geometry.specs.Place.{asAddress}
 use Rattle.geometry.specs.declared.cartridge.Geometry.{Geometry}
 use Rattle.geometry.specs.declared.cartridge.LoadPoint.{LoadPoint}
 use Rattle.geometry.specs.declared.cartridge.LoadPoint.the-variants.{Beginning, Centre}
+use Rattle.drive.specs.Senses.{meaningOf, writeError}
 use Rattle.drive.specs.declared.reply.Reply.{Reply}
 use Rattle.numbers.specs.declared.arguments.AdrGeometry.{AdrGeometry}
 use Rattle.numbers.specs.declared.arguments.AdrReply.{AdrReply}
@@ -33,9 +34,16 @@ fittingOf n = pick (leb n 255) n 0
 abbrev pub meaningless : Reply
 meaningless = record { key = 0xFF; asc = 0xFF; ascq = 0xFF; buffered = 0; position = asAddress 0; skip = 0 }
 
+abbrev pub isWriteError : AdrReply → Bool
+isWriteError r = eqb (meaningOf (r .key) (r .asc) (r .ascq)) writeError
+
+-- 01, "Replies": a skip comes with a write error, and with no other reply
+abbrev pub skipOf : AdrReply → ℕ
+skipOf r = pick (isWriteError r) (r .skip) 0
+
 -- skip is 0 to 255
 unfoldable pub asReply : AdrReply → Reply
 asReply r =
-    pick (leb (r .skip) 255)
-    (record { key = r .key; asc = r .asc; ascq = r .ascq; buffered = r .buffered; position = asAddress (r .position); skip = r .skip })
+    pick (leb (skipOf r) 255)
+    (record { key = r .key; asc = r .asc; ascq = r .ascq; buffered = r .buffered; position = asAddress (r .position); skip = skipOf r })
     meaningless

@@ -1,7 +1,9 @@
 // What C gives as numbers: geometries, sizes and replies. One that does not fit counts as one that is refused.
 ghost use mathlib.Core.Path.{_≡_};
-ghost use Rattle.numbers.specs.Arguments.{loadOf, withoutFrames, geometryOf, fittingOf, asReply};
+ghost use Rattle.numbers.specs.Arguments.{loadOf, withoutFrames, geometryOf, fittingOf, skipOf, asReply};
 use drive::Reply;
+use drive::WRITE_ERROR;
+use drive::meaning;
 use geometry::Address;
 use geometry::Geometry;
 use geometry::LoadPoint;
@@ -78,18 +80,29 @@ pub fn fitting(n: u32) -> u8
 }
 
 impl AdrReply {
+    // The skip that is brought: in any other reply than a write error it is not looked at.
+    fn brought_skip(self) -> u32
+        ensures { λ r. ⌜ r ≡ skipOf self ⌝ }
+    {
+        if meaning(self.key, self.asc, self.ascq) != WRITE_ERROR {
+            return 0;
+        }
+        self.skip
+    }
+
     // The reply of these numbers. One with a skip that does not fit has a triple that means nothing: refusal 8.
     pub fn reply(self) -> Reply
         ensures { λ r. ⌜ r ≡ asReply self ⌝ }
     {
-        if self.skip <= 255 {
+        let skip = self.brought_skip();
+        if skip <= 255 {
             return Reply {
                 key: self.key,
                 asc: self.asc,
                 ascq: self.ascq,
                 buffered: self.buffered,
                 position: Address(self.position),
-                skip: self.skip as u8,
+                skip: skip as u8,
             };
         }
         Reply {

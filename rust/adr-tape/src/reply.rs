@@ -72,7 +72,7 @@ impl fmt::Display for Sense {
 }
 
 /// What the drive answered to a command. Numbers that do not belong to the
-/// triple's meaning are not looked at, but for a skip above 255, which is
+/// triple's meaning are not looked at. A write error's skip above 255 is
 /// refused with [`Refusal::Reply`](crate::Refusal::Reply).
 #[derive(Clone, Copy, Debug, PartialEq, Eq, Hash)]
 pub struct Reply {

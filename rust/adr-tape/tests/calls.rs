@@ -504,29 +504,45 @@ fn any_reading() {
     );
 }
 
-/// A skip that does not fit 8 bits is refused with 8 where a reply is awaited,
-/// whatever the triple, and with 7 where none is.
+/// A skip that does not fit 8 bits is refused with 8 in a write error that is
+/// otherwise lawful, and looked at in no other reply.
 #[test]
 fn skips_too_wide() {
     let geometry = geometry_of(&Geometry::beginning(3_001, 1));
-    let opened = ffi::record_open_blank(geometry, 1, 1).session;
+    let window = [0; BLOCK_LENGTH];
+    let fetch = |session| ffi::record_fetch(session, &window, &mut [0; FRAME_LENGTH]).session;
+    let good = |session| ffi::record_reply(session, ffi::Reply::default()).session;
+    let opened = ffi::record_open_blank(geometry, 2, 1).session;
+    let located = fetch(opened);
+    let second_write = fetch(good(fetch(good(located))));
+    assert_eq!(second_write.exchange.command.code, ffi::WRITE);
     let header = valid_header(1, 1, 3_000);
     let reading = ffi::read_open(geometry, header.as_slice()).session;
-    let frame = [0; FRAME_LENGTH];
-    let window = [0; BLOCK_LENGTH];
-    let asked = ffi::record_fetch(opened, &window, &mut [0; FRAME_LENGTH]);
     let read = ffi::read_fetch(reading).session;
-    assert_eq!(asked.command.code, ffi::LOCATE);
+    let frame = [0; FRAME_LENGTH];
     for (skip, number) in [(255, 0), (256, 8), (511, 8), (65_536, 8), (u32::MAX, 8)] {
-        let reply = ffi::Reply {
+        let error = ffi::Reply {
+            position: 5,
+            skip,
+            key: WRITE_ERROR.key,
+            asc: WRITE_ERROR.asc,
+            ascq: WRITE_ERROR.ascq,
+            ..ffi::Reply::default()
+        };
+        assert_eq!(ffi::record_reply(opened, error).number, 7);
+        assert_eq!(ffi::record_reply(second_write, error).number, number);
+        assert_eq!(ffi::read_reply(reading, error, &frame).number, 7);
+        assert_eq!(ffi::read_reply(read, error, &frame[1..]).number, 1);
+        assert_eq!(ffi::read_reply(read, error, &frame).number, 8);
+        let left_over = ffi::Reply {
             skip,
             ..ffi::Reply::default()
         };
-        assert_eq!(ffi::record_reply(opened, reply).number, 7);
-        assert_eq!(ffi::read_reply(reading, reply, &frame).number, 7);
-        assert_eq!(ffi::record_reply(asked.session, reply).number, number);
-        assert_eq!(ffi::read_reply(read, reply, &frame).number, number);
-        assert_eq!(ffi::read_reply(read, reply, &frame[1..]).number, 1);
+        for session in [located, second_write] {
+            let outcome = ffi::record_reply(session, left_over);
+            assert_eq!((outcome.number, outcome.session), (0, good(session)));
+        }
+        assert_eq!(ffi::read_reply(read, left_over, &frame).number, 0);
     }
 }
 

@@ -337,7 +337,6 @@ fn recordings_that_no_call_returned() {
         let mut reply = Bytes(|| bytes.byte()).reply();
         if random.chance(800) {
             (reply.key, reply.asc, reply.ascq) = (0, 0, 0);
-            reply.skip %= 256;
         } else if random.chance(800) {
             (reply.key, reply.asc, reply.ascq) = (3, 0x0C, 0);
             reply.skip %= 256;
@@ -411,7 +410,6 @@ fn readings_that_no_call_returned() {
             let senses = adr_model::reply::SENSES;
             let (sense, _) = senses[usize::from(random.byte()) % senses.len()];
             (reply.key, reply.asc, reply.ascq) = (sense.key, sense.asc, sense.ascq);
-            reply.skip %= 256;
         }
         let taken = lend(
             seed,

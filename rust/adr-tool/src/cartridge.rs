@@ -271,13 +271,11 @@ impl Cartridge {
     }
 }
 
-/// The reply, without the numbers that mean nothing in it: the simulated
-/// drive brings any, and the layer takes no skip above 255.
 fn of_model(reply: adr_model::Reply) -> Reply {
-    let sense = Sense::new(reply.sense.key, reply.sense.asc, reply.sense.ascq);
-    match sense {
-        Sense::WRITE_ERROR => Reply::write_error(Address(reply.position.0), reply.skip),
-        Sense::GOOD => Reply::buffered(reply.buffered),
-        sense => Reply::sense(sense),
+    Reply {
+        sense: Sense::new(reply.sense.key, reply.sense.asc, reply.sense.ascq),
+        buffered: reply.buffered,
+        position: Address(reply.position.0),
+        skip: reply.skip,
     }
 }

@@ -10,7 +10,6 @@ use std::cell::RefCell;
 
 use adr_model::check::guarded::Guarded;
 use adr_model::check::layer::{Layer, ReadingCalls, RecordingCalls};
-use adr_model::reply::WRITE_ERROR;
 use adr_model::{
     Address, Answer, Command, Fault, Geometry, Outcome, ReadAnswer, ReadOutcome, Reading,
     Recording, Reply,
@@ -52,18 +51,11 @@ pub fn geometry_of(geometry: &Geometry) -> ffi::Geometry {
     }
 }
 
-/// The reply for the layer. It refuses a skip above 255 with any triple, the
-/// model only where skips are looked at; a test of its own shows that.
 pub fn reply_of(reply: &Reply) -> ffi::Reply {
-    let skip = if reply.sense == WRITE_ERROR {
-        reply.skip
-    } else {
-        reply.skip % 256
-    };
     ffi::Reply {
         buffered: reply.buffered,
         position: reply.position.0,
-        skip,
+        skip: reply.skip,
         key: reply.sense.key,
         asc: reply.sense.asc,
         ascq: reply.sense.ascq,

@@ -19,8 +19,7 @@ fn reply_of(reply: &adr_model::Reply) -> Reply {
         sense: Sense::new(reply.sense.key, reply.sense.asc, reply.sense.ascq),
         buffered: reply.buffered,
         position: Address(reply.position.0),
-        // A drive's skip has 8 bits.
-        skip: reply.skip % 256,
+        skip: reply.skip,
     }
 }
 
