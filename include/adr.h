@@ -87,6 +87,12 @@
 extern "C" {
 #endif
 
+/* The version of this header and of the library that it belongs to. */
+#define ADR_VERSION "0.1.0"
+#define ADR_VERSION_MAJOR 0
+#define ADR_VERSION_MINOR 1
+#define ADR_VERSION_PATCH 0
+
 /* Lengths in bytes. A frame is 32,768 bytes of data, then 512 of AUX. A window
    of W blocks is W times a block. */
 #define ADR_BLOCK_LENGTH 32768
@@ -389,6 +395,78 @@ struct adr_read_fetched adr_read_fetch(struct adr_reading s);
    (none is awaited), 1, 8, 10, 11 or 12. */
 struct adr_read_taken adr_read_reply(struct adr_reading s, struct adr_reply reply,
                                      const uint8_t *frame, size_t frame_length);
+
+/* IN WORDS. Constant strings, for messages and logs. */
+
+/* What a refusal means and what to do about it, without a full stop. */
+static inline const char *adr_refusal_text(uint8_t number)
+{
+    switch (number) {
+    case 0:
+        return "nothing was refused";
+    case ADR_WRONG_LENGTH:
+        return "a buffer has the wrong length: lend 32,768 bytes for a block, "
+               "33,280 for a frame or header, 32,768 for each block of the window";
+    case ADR_NO_CARTRIDGE:
+        return "the geometry is no cartridge's, or has fewer than 3,001 frames: "
+               "check frames per track, tracks and load point";
+    case ADR_BAD_HEADER:
+        return "the header is not valid, or two headers of the same age differ: "
+               "read the ten copies again, or use another cartridge";
+    case ADR_BAD_SIZE:
+        return "give 1 to 255 frames for the drive's buffer and 1 to 64 blocks for the window";
+    case ADR_EXHAUSTED:
+        return "the cartridge was recorded as often as its format can count: use another";
+    case ADR_WINDOW_FULL:
+        return "the window is full: fetch and reply until an element is on tape, then try again";
+    case ADR_WRONG_PHASE:
+        return "the call does not fit here: bring a reply once after each command, "
+               "accept nothing after close, and open anew after a session has ended";
+    case ADR_BAD_REPLY:
+        return "the drive's reply is unlawful for its command: check the transport and the drive";
+    case ADR_TAPE_FULL:
+        return "the tape is full: record on another cartridge";
+    case ADR_MISSING:
+        return "an element is missing on tape: "
+               "what was delivered so far is whole, the rest is not";
+    case ADR_FOREIGN:
+        return "a frame on tape was not written in this format: "
+               "what was delivered so far is whole, the rest is not";
+    case ADR_NOT_FOUND:
+        return "no header copy could be written, or no end of data was found: "
+               "clean the drive and read again, or record on another cartridge";
+    default:
+        return "no refusal has this number";
+    }
+}
+
+/* The name of an answer. */
+static inline const char *adr_answer_name(uint8_t answer)
+{
+    switch (answer) {
+    case ADR_REFUSED: return "refused";
+    case ADR_COMMAND: return "command";
+    case ADR_IDLE: return "idle";
+    case ADR_DONE: return "done";
+    case ADR_END: return "end";
+    case ADR_NOTHING: return "nothing";
+    case ADR_BLOCK: return "block";
+    case ADR_FILEMARK: return "filemark";
+    default: return "unknown answer";
+    }
+}
+
+/* The name of a command, by its operation code. */
+static inline const char *adr_command_name(uint8_t code)
+{
+    switch (code) {
+    case ADR_READ: return "READ";
+    case ADR_WRITE: return "WRITE";
+    case ADR_LOCATE: return "LOCATE";
+    case ADR_READ_POSITION: return "READ POSITION";
+    default: return "unknown command";
+    }
+}
 
 /* The layout that the library was compiled for. */
 #ifdef __cplusplus
