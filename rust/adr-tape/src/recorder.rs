@@ -63,9 +63,11 @@ impl Recorder {
     /// Opens a recording on the newest header, or on none.
     ///
     /// `depth` is the frames that the drive buffers, 1 to 255; `blocks` the
-    /// blocks that may wait here, 1 to 64. The write pass is the header's + 1,
-    /// or 1; a recording reads back as accepted if no frame on the cartridge
-    /// bears that pass, so always give the newest header.
+    /// blocks that may wait here, 1 to 64, and at least `depth`, or the drive's
+    /// buffer is never filled. The write pass is the header's + 1, or 1; a
+    /// recording reads back as accepted if no user frame on the cartridge bears
+    /// that pass, so always give the newest header. `include/adr.h` tells,
+    /// under WRITE PASSES, where that is not enough and what helps.
     ///
     /// # Errors
     /// [`Refusal::Length`], [`Refusal::Geometry`], [`Refusal::Header`],
