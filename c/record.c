@@ -131,7 +131,7 @@ static void fill_block(uint8_t *block, unsigned element, unsigned turn)
 
 static int failed(const char *what, uint8_t number)
 {
-    printf("\n%s was refused with %u\n", what, number);
+    printf("\n%s was refused with %u: %s\n", what, number, adr_refusal_text(number));
     return 0;
 }
 

@@ -76,7 +76,72 @@
        }
 
    After it t.number is 0 if everything was read, else the refusal. c/record.c
-   is a whole program; it also finds the newest header. */
+   is a whole program; it also finds the newest header.
+
+   THE DRIVE'S NUMBERS come from these commands of the standard, 'ADR Commands
+   and Logical Tape Format 1.3'. Page codes are hexadecimal; the bytes of a mode
+   page count from its page code, behind the four of the mode page header:
+
+       segtrk, trks    MODE SENSE, page 2B: SEGTRK in bytes 6 and 7, TRKS in 8
+                       and 9
+       load            no field has it: 19,239 and 24 are the 15 GB cartridge,
+                       loaded at its beginning; larger ones load at the centre
+       D               MODE SENSE, page 33: byte 2, Maximum Number of Frames in
+                       Buffer
+       buffered        READ POSITION: byte 15, Blocks in Buffer
+       key, asc, ascq  REQUEST SENSE: byte 2 (low half), bytes 12 and 13;
+                       zeros where the drive reports no error
+       position, skip  REQUEST SENSE: Information, bytes 3 to 6; byte 9
+
+   Page 2B holds once TEST UNIT READY is answered good. Before a session the
+   host gives the drive its pages 36 (vendor identification) and 30 (byte 3 A2:
+   frames cross with their AUX) by MODE SELECT, and takes in what the drive has
+   to say of a new cartridge or a reset (06/28/00, 06/29/00): in a session
+   these are refused with 8.
+
+   D AND W. At most D frames and at most W elements are with the drive and not
+   known on tape. So let W be at least D (64, where D is above that), or the
+   drive's buffer is never filled; with more, the host can accept elements while
+   it is full.
+
+   LOCATE empties the drive's buffer; its SKIP bit is 0. The layer gives one
+   only when nothing of the session is buffered, or after a write error, and
+   then gives again what is still to be written. In a session the host sends no
+   command of its own that moves the tape or empties the buffer.
+
+   WAITING. While the drive is busy, and while its buffer is full or is being
+   emptied, the layer gives the same command again, at once and without end. A
+   host pauses before it sends it again (the drive writes a frame in about
+   16 ms) and sets a limit, in minutes, for a LOCATE may cross the whole tape.
+   Past the limit it does as without a reply.
+
+   NO REPLY. Where the transport fails and a reply can't be had, the command
+   may have been carried out or not, and the session can't go on: make no reply
+   up, don't send the command again, and leave the session; there is nothing to
+   release. The cartridge is as after a power cut, and a recording that did not
+   come to ADR_DONE is not whole. Find the newest header again, open anew, and
+   record or read from the first element on; if the recording was closed, see
+   WRITE PASSES first.
+
+   WRITE PASSES. A reading knows the frames of a recording by their write pass:
+   that of the header it was opened on, + 1, or 1 without a header. If a user
+   frame already bears that pass, the recording may read back wrong, and no call
+   notices. None does on a new cartridge, nor on one whose every recording was
+   opened on the newest header and left a header of its own pass that reads. So
+   the newest header is not enough on a cartridge
+     - of which a recording was closed and did not come to ADR_DONE. Closing
+       headers replace the opening ones; if all fail (12), or the session is cut
+       short there, an older header may be the newest again, a closed one even,
+       and the next recording takes the lost one's pass;
+     - that was recorded before and has no valid header any more.
+   That a reading comes to its end on such a header shows that its recording is
+   still there, not that no frame bears the next pass. What helps is a higher
+   pass: a recording without elements, opened on the newest header, closed and
+   brought to ADR_DONE, raises it by 1. Make as many as it takes for the newest
+   header to have the highest pass on the cartridge, which the host has noted
+   when it opened recordings, or finds by reading every user frame; or use
+   another cartridge. The pass is in bytes 22 and 23 of a header, and in bytes
+   32,790 and 32,791 of a user frame, the high byte first. */
 #ifndef ADR_H
 #define ADR_H
 
@@ -86,6 +151,12 @@
 #ifdef __cplusplus
 extern "C" {
 #endif
+
+/* The version of this header and of the library that it belongs to. */
+#define ADR_VERSION "0.1.0"
+#define ADR_VERSION_MAJOR 0
+#define ADR_VERSION_MINOR 1
+#define ADR_VERSION_PATCH 0
 
 /* Lengths in bytes. A frame is 32,768 bytes of data, then 512 of AUX. A window
    of W blocks is W times a block. */
@@ -120,7 +191,7 @@ extern "C" {
 /* Commands, by operation code. */
 #define ADR_READ 0x08          /* read the frame where the drive stands */
 #define ADR_WRITE 0x0A         /* take the frame of adr_record_fetch, all of it */
-#define ADR_LOCATE 0x2B        /* go to the address */
+#define ADR_LOCATE 0x2B        /* go to the address and forget what is buffered */
 #define ADR_READ_POSITION 0x34 /* tell how many frames are still buffered */
 
 /* Load points. */
@@ -320,7 +391,8 @@ uint32_t adr_header_address(uint32_t group, uint32_t copy);
    would then be one that is on tape already. Choose pairwise among the valid
    frames. Two that are refused with 3 leave it undecided: give up unless a
    later copy is newer than both. If no copy is valid, record with
-   adr_record_open_blank. */
+   adr_record_open_blank (on a cartridge that was recorded before see WRITE
+   PASSES above). */
 struct adr_choice adr_choose(struct adr_geometry g,
                              const uint8_t *first, size_t first_length,
                              const uint8_t *second, size_t second_length);
@@ -332,8 +404,9 @@ struct adr_choice adr_choose(struct adr_geometry g,
    to 255; 'blocks' is W, the blocks of the window, 1 to 64. Refused with 1 to
    5; the session returned is then an ended one. What was on the cartridge is
    replaced: elements go to address 10 and on. The write pass is the header's
-   + 1; a recording reads back as accepted if no frame on the cartridge bears
-   that pass, so always give the newest header. */
+   + 1; a recording reads back as accepted if no user frame on the cartridge
+   bears that pass, so always give the newest header (and see WRITE PASSES
+   above). */
 struct adr_record_outcome adr_record_open(struct adr_geometry g, uint32_t depth, uint32_t blocks,
                                           const uint8_t *header, size_t header_length);
 
@@ -389,6 +462,78 @@ struct adr_read_fetched adr_read_fetch(struct adr_reading s);
    (none is awaited), 1, 8, 10, 11 or 12. */
 struct adr_read_taken adr_read_reply(struct adr_reading s, struct adr_reply reply,
                                      const uint8_t *frame, size_t frame_length);
+
+/* IN WORDS. Constant strings, for messages and logs. */
+
+/* What a refusal means and what to do about it, without a full stop. */
+static inline const char *adr_refusal_text(uint8_t number)
+{
+    switch (number) {
+    case 0:
+        return "nothing was refused";
+    case ADR_WRONG_LENGTH:
+        return "a buffer has the wrong length: lend 32,768 bytes for a block, "
+               "33,280 for a frame or header, 32,768 for each block of the window";
+    case ADR_NO_CARTRIDGE:
+        return "the geometry is no cartridge's, or has fewer than 3,001 frames: "
+               "check frames per track, tracks and load point";
+    case ADR_BAD_HEADER:
+        return "the header is not valid, or two headers of the same age differ: "
+               "read the ten copies again, or use another cartridge";
+    case ADR_BAD_SIZE:
+        return "give 1 to 255 frames for the drive's buffer and 1 to 64 blocks for the window";
+    case ADR_EXHAUSTED:
+        return "the cartridge was recorded as often as its format can count: use another";
+    case ADR_WINDOW_FULL:
+        return "the window is full: fetch and reply until an element is on tape, then try again";
+    case ADR_WRONG_PHASE:
+        return "the call does not fit here: bring a reply once after each command, "
+               "accept nothing after close, and open anew after a session has ended";
+    case ADR_BAD_REPLY:
+        return "the drive's reply is unlawful for its command: check the transport and the drive";
+    case ADR_TAPE_FULL:
+        return "the tape is full: record on another cartridge";
+    case ADR_MISSING:
+        return "an element is missing on tape: "
+               "what was delivered so far is whole, the rest is not";
+    case ADR_FOREIGN:
+        return "a frame on tape was not written in this format: "
+               "what was delivered so far is whole, the rest is not";
+    case ADR_NOT_FOUND:
+        return "no header copy could be written, or no end of data was found: "
+               "clean the drive and read again, or record on another cartridge";
+    default:
+        return "no refusal has this number";
+    }
+}
+
+/* The name of an answer. */
+static inline const char *adr_answer_name(uint8_t answer)
+{
+    switch (answer) {
+    case ADR_REFUSED: return "refused";
+    case ADR_COMMAND: return "command";
+    case ADR_IDLE: return "idle";
+    case ADR_DONE: return "done";
+    case ADR_END: return "end";
+    case ADR_NOTHING: return "nothing";
+    case ADR_BLOCK: return "block";
+    case ADR_FILEMARK: return "filemark";
+    default: return "unknown answer";
+    }
+}
+
+/* The name of a command, by its operation code. */
+static inline const char *adr_command_name(uint8_t code)
+{
+    switch (code) {
+    case ADR_READ: return "READ";
+    case ADR_WRITE: return "WRITE";
+    case ADR_LOCATE: return "LOCATE";
+    case ADR_READ_POSITION: return "READ POSITION";
+    default: return "unknown command";
+    }
+}
 
 /* The layout that the library was compiled for. */
 #ifdef __cplusplus

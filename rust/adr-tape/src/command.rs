@@ -64,3 +64,26 @@ impl fmt::Display for Command {
         }
     }
 }
+
+#[cfg(test)]
+mod tests {
+    use super::*;
+
+    /// `c/check` compares the same file with what `adr.h` says.
+    #[test]
+    fn the_names_of_the_c_header() {
+        let names = include_str!("../../../c/texts.expected");
+        let at = Address(7);
+        for command in [
+            Command::Read(at),
+            Command::Write(at),
+            Command::Locate(at),
+            Command::ReadPosition,
+        ] {
+            let shown = command.to_string();
+            let name = shown.trim_end_matches(" 7");
+            let line = format!("command {:02X}: {name}", command.code());
+            assert!(names.lines().any(|word| word == line), "{line}");
+        }
+    }
+}

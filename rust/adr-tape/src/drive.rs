@@ -6,14 +6,21 @@ use crate::reply::Reply;
 /// A drive behind the host's own transport.
 ///
 /// Each method sends one command and brings the drive's reply to it, its
-/// sense triple among them: a triple is no error of the transport. Busy
-/// replies are replies too; the same command then comes again, as often as the
-/// drive is busy, so a drive that waits or gives up does so here.
+/// sense triple among them: a triple is no error of the transport. An error
+/// says that no reply can be had: the command may have been carried out or not,
+/// the session can't go on, and the cartridge is as after a power cut.
+///
+/// Busy replies are replies too: the same command then comes again, at once and
+/// as often as the drive is busy, and READ POSITION as long as the drive's
+/// buffer is full. So a drive pauses here, and gives up past a limit.
+///
+/// `include/adr.h` tells which commands of the standard bring the geometry, the
+/// drive's buffer size and the numbers of a [`Reply`].
 pub trait Drive {
     /// What the transport fails with.
     type Error;
 
-    /// LOCATE: goes to an address.
+    /// LOCATE: goes to an address and empties the drive's buffer.
     ///
     /// # Errors
     /// The transport's.

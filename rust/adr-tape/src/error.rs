@@ -6,6 +6,8 @@ use std::fmt;
 use crate::refusal::Refusal;
 
 /// Why the newest header could not be found.
+///
+/// It is shown as what failed; [`Error::source`] gives the error in it.
 #[derive(Clone, Copy, Debug, PartialEq, Eq)]
 pub enum HeaderError<D> {
     /// The layer refused, or the drive's reply was unlawful.
@@ -15,6 +17,8 @@ pub enum HeaderError<D> {
 }
 
 /// Why a recording did not become whole.
+///
+/// It is shown as what failed; [`Error::source`] gives the error in it.
 #[derive(Clone, Copy, Debug, PartialEq, Eq)]
 pub enum RecordError<D, S> {
     /// The layer refused.
@@ -26,6 +30,8 @@ pub enum RecordError<D, S> {
 }
 
 /// Why a reading did not come to its end.
+///
+/// It is shown as what failed; [`Error::source`] gives the error in it.
 #[derive(Clone, Copy, Debug, PartialEq, Eq)]
 pub enum ReadError<D, S> {
     /// The layer refused.
@@ -54,35 +60,60 @@ impl<D, S> From<Refusal> for ReadError<D, S> {
     }
 }
 
-impl<D: fmt::Display> fmt::Display for HeaderError<D> {
+impl<D> fmt::Display for HeaderError<D> {
     fn fmt(&self, formatter: &mut fmt::Formatter<'_>) -> fmt::Result {
-        match self {
-            HeaderError::Refused(refusal) => refusal.fmt(formatter),
-            HeaderError::Drive(error) => error.fmt(formatter),
-        }
+        formatter.write_str(match self {
+            HeaderError::Refused(_) => "no newest header was found",
+            HeaderError::Drive(_) => "the drive failed while the headers were read",
+        })
     }
 }
 
-impl<D: fmt::Display, S: fmt::Display> fmt::Display for RecordError<D, S> {
+impl<D, S> fmt::Display for RecordError<D, S> {
     fn fmt(&self, formatter: &mut fmt::Formatter<'_>) -> fmt::Result {
-        match self {
-            RecordError::Refused(refusal) => refusal.fmt(formatter),
-            RecordError::Drive(error) => error.fmt(formatter),
-            RecordError::Source(error) => error.fmt(formatter),
-        }
+        formatter.write_str(match self {
+            RecordError::Refused(_) => "the recording was refused",
+            RecordError::Drive(_) => "the drive failed while it recorded",
+            RecordError::Source(_) => "the source of the recording failed",
+        })
     }
 }
 
-impl<D: fmt::Display, S: fmt::Display> fmt::Display for ReadError<D, S> {
+impl<D, S> fmt::Display for ReadError<D, S> {
     fn fmt(&self, formatter: &mut fmt::Formatter<'_>) -> fmt::Result {
-        match self {
-            ReadError::Refused(refusal) => refusal.fmt(formatter),
-            ReadError::Drive(error) => error.fmt(formatter),
-            ReadError::Sink(error) => error.fmt(formatter),
-        }
+        formatter.write_str(match self {
+            ReadError::Refused(_) => "the reading was refused",
+            ReadError::Drive(_) => "the drive failed while it read",
+            ReadError::Sink(_) => "what was read could not be handed on",
+        })
     }
 }
 
-impl<D: Error> Error for HeaderError<D> {}
-impl<D: Error, S: Error> Error for RecordError<D, S> {}
-impl<D: Error, S: Error> Error for ReadError<D, S> {}
+impl<D: Error + 'static> Error for HeaderError<D> {
+    fn source(&self) -> Option<&(dyn Error + 'static)> {
+        Some(match self {
+            HeaderError::Refused(refusal) => refusal,
+            HeaderError::Drive(error) => error,
+        })
+    }
+}
+
+impl<D: Error + 'static, S: Error + 'static> Error for RecordError<D, S> {
+    fn source(&self) -> Option<&(dyn Error + 'static)> {
+        Some(match self {
+            RecordError::Refused(refusal) => refusal,
+            RecordError::Drive(error) => error,
+            RecordError::Source(error) => error,
+        })
+    }
+}
+
+impl<D: Error + 'static, S: Error + 'static> Error for ReadError<D, S> {
+    fn source(&self) -> Option<&(dyn Error + 'static)> {
+        Some(match self {
+            ReadError::Refused(refusal) => refusal,
+            ReadError::Drive(error) => error,
+            ReadError::Sink(error) => error,
+        })
+    }
+}

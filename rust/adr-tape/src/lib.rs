@@ -90,6 +90,9 @@ mod recorder;
 mod refusal;
 mod reply;
 mod summary;
+mod unclosed;
+#[cfg(doctest)]
+mod unused;
 
 pub use command::Command;
 pub use drive::Drive;

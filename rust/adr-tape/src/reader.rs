@@ -63,6 +63,7 @@ pub enum Delivery<'f> {
 /// # Ok::<(), adr_tape::Refusal>(())
 /// ```
 #[derive(Clone, Debug, PartialEq, Eq)]
+#[must_use = "nothing is read until its commands are fetched and sent"]
 pub struct Reader {
     session: ffi::Reading,
 }
@@ -72,6 +73,7 @@ impl Reader {
     ///
     /// # Errors
     /// [`Refusal::Length`], [`Refusal::Geometry`] or [`Refusal::Header`].
+    #[must_use = "nothing is read by opening alone"]
     pub fn open(geometry: Geometry, header: &[u8]) -> Result<Reader, Refusal> {
         let opened = ffi::read_open(geometry.into(), header);
         Refusal::check(opened.number)?;

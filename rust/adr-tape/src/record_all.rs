@@ -29,14 +29,29 @@ pub fn record_all<'a, D: Drive, S>(
     mut progress: impl FnMut(&Summary),
 ) -> Result<Summary, RecordError<D::Error, S>> {
     let mut recorder = Recorder::open(geometry, depth, blocks, header)?;
-    let mut source = Source {
+    let source = Source {
         elements: elements.into_iter(),
         waiting: None,
         closed: false,
     };
+    let recorded = record(drive, &mut recorder, source, &mut progress);
+    if recorded.is_err() {
+        // The error tells that the recording is not whole.
+        recorder.abandon();
+    }
+    recorded
+}
+
+/// Records what the source has, to the end.
+fn record<'a, D: Drive, S>(
+    drive: &mut D,
+    recorder: &mut Recorder,
+    mut source: Source<'a, impl Iterator<Item = Result<Element<'a>, S>>>,
+    progress: &mut impl FnMut(&Summary),
+) -> Result<Summary, RecordError<D::Error, S>> {
     let mut summary = Summary::default();
     loop {
-        source.fill(&mut recorder, &mut summary)?;
+        source.fill(recorder, &mut summary)?;
         match recorder.fetch()? {
             Next::Send(command, frame) => {
                 let reply = send(drive, command, frame).map_err(RecordError::Drive)?;

@@ -7,6 +7,7 @@ use crate::ffi;
 use crate::geometry::{Geometry, BLOCK_LENGTH, FRAME_LENGTH};
 use crate::refusal::Refusal;
 use crate::reply::Reply;
+use crate::unclosed::Unclosed;
 
 /// What a recording wants next.
 #[derive(Clone, Copy, Debug, PartialEq, Eq)]
@@ -23,7 +24,10 @@ pub enum Next<'a> {
 /// A recording session, with the window and the frame that it needs.
 ///
 /// Fetch a command, send it, bring the reply; accept elements at any time
-/// between, and close.
+/// between, and close. A recorder that is dropped after it has begun and
+/// before [`Next::Done`] leaves a cartridge that is not whole; a debug build
+/// tells it on standard error, but for one that was refused or
+/// [abandoned](Recorder::abandon). Of clones the last one tells.
 ///
 /// ```
 /// use adr_tape::{Command, Geometry, Next, Recorder, Refusal, Reply};
@@ -47,23 +51,28 @@ pub enum Next<'a> {
 /// # Ok::<(), Refusal>(())
 /// ```
 #[derive(Clone)]
+#[must_use = "a recording is whole only when it was closed and a fetch answered done"]
 pub struct Recorder {
     session: ffi::Recording,
     window: Vec<u8>,
     frame: Vec<u8>,
+    unclosed: Unclosed,
 }
 
 impl Recorder {
     /// Opens a recording on the newest header, or on none.
     ///
     /// `depth` is the frames that the drive buffers, 1 to 255; `blocks` the
-    /// blocks that may wait here, 1 to 64. The write pass is the header's + 1,
-    /// or 1; a recording reads back as accepted if no frame on the cartridge
-    /// bears that pass, so always give the newest header.
+    /// blocks that may wait here, 1 to 64, and at least `depth`, or the drive's
+    /// buffer is never filled. The write pass is the header's + 1, or 1; a
+    /// recording reads back as accepted if no user frame on the cartridge bears
+    /// that pass, so always give the newest header. `include/adr.h` tells,
+    /// under WRITE PASSES, where that is not enough and what helps.
     ///
     /// # Errors
     /// [`Refusal::Length`], [`Refusal::Geometry`], [`Refusal::Header`],
     /// [`Refusal::Capacity`] or [`Refusal::Exhausted`].
+    #[must_use = "nothing is recorded by opening alone"]
     pub fn open(
         geometry: Geometry,
         depth: u32,
@@ -80,6 +89,7 @@ impl Recorder {
             session: opened.session,
             window: vec![0; room.saturating_mul(BLOCK_LENGTH)],
             frame: vec![0; FRAME_LENGTH],
+            unclosed: Unclosed::default(),
         })
     }
 
@@ -116,11 +126,15 @@ impl Recorder {
     pub fn fetch(&mut self) -> Result<Next<'_>, Refusal> {
         let fetched = ffi::record_fetch(self.session, &self.window, &mut self.frame);
         self.session = fetched.session;
-        Refusal::check(fetched.number)?;
+        self.check(fetched.number)?;
         Ok(match fetched.answer {
             ffi::IDLE => Next::Idle,
-            ffi::DONE => Next::Done,
+            ffi::DONE => {
+                self.unclosed.over();
+                Next::Done
+            }
             _ => {
+                self.unclosed.begun();
                 let command = Command::given(fetched.command);
                 let writes = matches!(command, Command::Write(_));
                 Next::Send(command, writes.then_some(self.frame.as_slice()))
@@ -137,9 +151,25 @@ impl Recorder {
         self.keep(ffi::record_reply(self.session, reply.into()))
     }
 
+    /// Gives the recording up, because the drive can't be reached or the
+    /// elements can't be had. The cartridge is as after a power cut.
+    pub fn abandon(self) {
+        self.unclosed.over();
+    }
+
     fn keep(&mut self, outcome: ffi::RecordOutcome) -> Result<(), Refusal> {
         self.session = outcome.session;
-        Refusal::check(outcome.number)
+        self.check(outcome.number)?;
+        self.unclosed.begun();
+        Ok(())
+    }
+
+    fn check(&self, number: u8) -> Result<(), Refusal> {
+        Refusal::check(number).inspect_err(|refusal| {
+            if refusal.ends_session() {
+                self.unclosed.over();
+            }
+        })
     }
 }
 

@@ -93,7 +93,10 @@ impl Refusal {
         }
     }
 
-    const fn text(self) -> &'static str {
+    /// What it means and what to do about it: the words of `adr_refusal_text`
+    /// in `include/adr.h`.
+    #[must_use]
+    pub const fn text(self) -> &'static str {
         match self {
             Refusal::Length => {
                 "a buffer has the wrong length: lend 32,768 bytes for a block, \
@@ -133,7 +136,7 @@ impl Refusal {
             }
             Refusal::NotFound => {
                 "no header copy could be written, or no end of data was found: \
-                 clean the drive and try again, or use another cartridge"
+                 clean the drive and read again, or record on another cartridge"
             }
         }
     }
@@ -162,5 +165,15 @@ mod tests {
                 .ends_with(&format!("(refusal {number})")));
         }
         assert_eq!(Refusal::check(0), Ok(()));
+    }
+
+    /// `c/check` compares the same file with what `adr.h` says.
+    #[test]
+    fn the_words_of_the_c_header() {
+        let words = include_str!("../../../c/texts.expected");
+        for refusal in REFUSALS {
+            let line = format!("refusal {}: {}", refusal.number(), refusal.text());
+            assert!(words.lines().any(|word| word == line), "{line}");
+        }
     }
 }
