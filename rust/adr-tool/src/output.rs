@@ -1,11 +1,26 @@
 //! Standard output, line by line, and messages on standard error.
 
+mod closed;
+
 use std::fmt::Display;
 use std::io::Write;
+use std::sync::OnceLock;
 
 use crate::failure::Failure;
 use crate::progress;
 use crate::text::printable;
+
+/// Refuses standard output that is closed, where everything would be lost.
+pub fn require_open() -> Result<(), Failure> {
+    static CLOSED: OnceLock<bool> = OnceLock::new();
+    if *CLOSED.get_or_init(closed::is_closed) {
+        return Err(Failure::new(
+            "standard output is closed, or is /dev/null opened for reading too: \
+             give it a file, a pipe, or /dev/null opened for writing alone",
+        ));
+    }
+    Ok(())
+}
 
 /// Prints a line.
 pub fn line(text: impl Display) -> Result<(), Failure> {
@@ -14,6 +29,7 @@ pub fn line(text: impl Display) -> Result<(), Failure> {
 
 /// Prints a text as it is.
 pub fn plain(text: &str) -> Result<(), Failure> {
+    require_open()?;
     progress::clear();
     let mut output = std::io::stdout().lock();
     output
