@@ -132,7 +132,7 @@ impl Arguments {
 }
 
 /// Refuses operands behind those that are known.
-pub fn nothing_more(rest: &[OsString]) -> Result<(), Failure> {
+fn nothing_more(rest: &[OsString]) -> Result<(), Failure> {
     match rest.first() {
         None => Ok(()),
         Some(word) => {

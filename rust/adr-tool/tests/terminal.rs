@@ -62,4 +62,5 @@ fn progress_gives_way() {
         expected.push("");
         assert_eq!(screen(&sent), expected, "{line}: {sent:?}");
     }
+    assert_eq!(on_a_terminal(&place, "restore a.adr 2 -o -"), "x");
 }
