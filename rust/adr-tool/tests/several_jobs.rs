@@ -126,6 +126,8 @@ fn names_that_come_twice() {
     let ran = restore(&place, &["kyrie"]).failed();
     assert!(ran.output == content(1));
     told(&ran, &[twice]);
+    told(&restore(&place, &["kyrie", "-oone"]).failed(), &[twice]);
+    assert!(place.read("one") == content(1));
     let ran = restore(&place, &["3", "kyrie"]).failed();
     assert!(ran.output == contents(&[1, 3]));
     told(&ran, &[twice, "1 job was not restored"]);
