@@ -10,12 +10,12 @@ use crate::failure::Failure;
 use crate::progress;
 use crate::text::printable;
 
-/// Refuses standard output that is closed, where everything would be lost.
+/// Refuses standard output that is closed, where all that is printed is lost.
 pub fn require_open() -> Result<(), Failure> {
     static CLOSED: OnceLock<bool> = OnceLock::new();
     if *CLOSED.get_or_init(closed::is_closed) {
         return Err(Failure::new(
-            "standard output is closed, or is /dev/null opened for reading too: \
+            "standard output is closed or opened for reading: \
              give it a file, a pipe, or /dev/null opened for writing alone",
         ));
     }

@@ -24,11 +24,15 @@ fn what_nobody_gets() {
         "map a.adr --svg -",
         "--version",
     ] {
-        let refused = place.shell(&format!("$ADR {line} >&-")).failed();
-        let told = "standard output is closed";
-        assert!(refused.error.contains(told), "{line}: {}", refused.error);
-        // Nobody gets this either, but that is asked for.
-        place.shell(&format!("$ADR {line} >/dev/null")).succeeded();
+        for closed in [">&-", "1</dev/null", "1<file"] {
+            let refused = place.shell(&format!("$ADR {line} {closed}")).failed();
+            let told = "adr: standard output is closed or opened for reading: ";
+            assert!(refused.error.starts_with(told), "{line}: {}", refused.error);
+        }
+        // Nobody gets the first of these either, but that is asked for.
+        for open in [">/dev/null", ">new", "1<>new", "| cat"] {
+            place.shell(&format!("$ADR {line} {open}")).succeeded();
+        }
     }
 }
 

@@ -4,20 +4,27 @@ use std::fs;
 use std::path::Path;
 
 /// The bits of a descriptor's flags that tell what it was opened for, and
-/// their value for reading and writing.
+/// two of their values.
 const ACCESS_MODE: u32 = 0o3;
+const READ_ALONE: u32 = 0o0;
 const READ_AND_WRITE: u32 = 0o2;
 
-/// Whether standard output was closed when the tool was started.
+/// Whether standard output was closed when the tool was started, or cannot be
+/// written to. Where the system does not tell, it counts as open.
 ///
-/// Rust's runtime then puts /dev/null in its place, opened for reading and
-/// writing, and every write succeeds. A shell's `>/dev/null` is opened for
-/// writing alone. Where the system does not tell, it counts as open.
+/// Rust lets writes succeed in both cases. In place of a closed one it opens
+/// /dev/null for reading and writing; a shell's `>/dev/null` is opened for
+/// writing alone.
 pub fn is_closed() -> bool {
-    let file = fs::read_link("/proc/self/fd/1");
-    let is_null = file.is_ok_and(|file| file == Path::new("/dev/null"));
     let told = fs::read_to_string("/proc/self/fdinfo/1").unwrap_or_default();
-    is_null && flags(&told).is_some_and(|flags| flags & ACCESS_MODE == READ_AND_WRITE)
+    match flags(&told).map(|flags| flags & ACCESS_MODE) {
+        Some(READ_ALONE) => true,
+        Some(READ_AND_WRITE) => {
+            let file = fs::read_link("/proc/self/fd/1");
+            file.is_ok_and(|file| file == Path::new("/dev/null"))
+        }
+        _ => false,
+    }
 }
 
 /// A descriptor's flags, which the system tells in octal.
