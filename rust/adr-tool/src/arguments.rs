@@ -17,6 +17,12 @@ pub struct Options {
     pub plain: &'static [&'static str],
 }
 
+impl Options {
+    fn has(self, name: &str) -> bool {
+        self.valued.contains(&name) || self.plain.contains(&name)
+    }
+}
+
 /// A command's operands and options.
 #[derive(Debug, Default)]
 pub struct Arguments {
@@ -43,7 +49,7 @@ impl Arguments {
                 arguments.operands.extend(words);
                 break;
             }
-            let (name, value) = split(&word);
+            let (name, value) = attached(&word, options).unwrap_or_else(|| split(&word));
             arguments.take(&name.to_string_lossy(), value, &mut words, options)?;
         }
         Ok(arguments)
@@ -69,6 +75,10 @@ impl Arguments {
             if self.values.insert(known, value).is_some() {
                 return Err(Failure::usage(format!("option {name} is given twice")));
             }
+        } else if options.has(&format!("-{name}")) {
+            return Err(Failure::usage(format!(
+                "unknown option {name}: write -{name}"
+            )));
         } else {
             return Err(Failure::usage(format!("unknown option {name}")));
         }
@@ -122,7 +132,7 @@ impl Arguments {
 }
 
 /// Refuses operands behind those that are known.
-pub fn nothing_more(rest: &[OsString]) -> Result<(), Failure> {
+fn nothing_more(rest: &[OsString]) -> Result<(), Failure> {
     match rest.first() {
         None => Ok(()),
         Some(word) => {
@@ -134,6 +144,21 @@ pub fn nothing_more(rest: &[OsString]) -> Result<(), Failure> {
 
 fn is_option(word: &OsStr) -> bool {
     word.len() > 1 && word.as_bytes().starts_with(b"-")
+}
+
+/// A one-letter option and the value right behind it, if that is what the
+/// word is. A long option that lacks a dash is none: `-overwrite` would write
+/// to the file `verwrite`.
+fn attached(word: &OsStr, options: Options) -> Option<(&OsStr, Option<OsString>)> {
+    let (name, _) = split(word);
+    if options.has(&format!("-{}", name.to_string_lossy())) {
+        return None;
+    }
+    let (letter, value) = word.as_bytes().split_at_checked(2)?;
+    let letter = OsStr::from_bytes(letter);
+    let known = options.valued.iter().any(|known| letter == *known);
+    let behind = !value.is_empty() && !value.starts_with(b"=");
+    (known && behind).then(|| (letter, Some(OsStr::from_bytes(value).to_os_string())))
 }
 
 /// An option's name and the value behind `=`, which may be any bytes.
@@ -150,7 +175,7 @@ mod tests {
     use super::*;
 
     const OPTIONS: Options = Options {
-        valued: &["--faults", "-o"],
+        valued: &["--faults", "--output", "-o"],
         plain: &["--overwrite"],
     };
 
@@ -187,6 +212,11 @@ mod tests {
             &["--faults"],
             &["--overwrite=1"],
             &["--faults", "1", "--faults=2"],
+            &["-ox", "-o", "y"],
+            &["-overwrite"],
+            &["-output", "x"],
+            &["-output=x"],
+            &["-faults7"],
         ] {
             assert!(matches!(parse(words), Err(Failure::Usage(_))), "{words:?}");
         }
@@ -197,10 +227,12 @@ mod tests {
 
     #[test]
     fn values_of_any_bytes() {
-        let word = OsStr::from_bytes(b"-o=\xFF=x").to_os_string();
-        let arguments = Arguments::parse([word], OPTIONS).expect("a value");
-        assert_eq!(arguments.value("-o"), Some(OsStr::from_bytes(b"\xFF=x")));
-        assert!(arguments.no_operands().is_ok());
+        for word in [&b"-o=\xFF=x"[..], b"-o\xFF=x"] {
+            let word = OsStr::from_bytes(word).to_os_string();
+            let arguments = Arguments::parse([word], OPTIONS).expect("a value");
+            assert_eq!(arguments.value("-o"), Some(OsStr::from_bytes(b"\xFF=x")));
+            assert!(arguments.no_operands().is_ok());
+        }
         let word = OsStr::from_bytes(b"-\xFF").to_os_string();
         assert!(Arguments::parse([word], OPTIONS).is_err());
     }

@@ -82,7 +82,7 @@ impl Cartridge {
         &self.write_errors
     }
 
-    /// The newest header, none on an empty cartridge.
+    /// The newest header, none where no copy is valid.
     pub fn header(&mut self) -> Result<Option<Vec<u8>>, Failure> {
         let geometry = self.geometry;
         let header = newest_header(self, geometry).map_err(|error| match error {
@@ -95,19 +95,25 @@ impl Cartridge {
         Ok(header)
     }
 
+    /// The newest header, none where nothing was recorded. A cartridge that
+    /// holds frames but no header is refused, with what is to be done.
+    fn header_of_frames(&mut self, remedy: &str) -> Result<Option<Vec<u8>>, Failure> {
+        let header = self.header()?;
+        if header.is_none() && self.holds_frames() {
+            return Err(Failure::new(format!(
+                "{}: the cartridge holds frames but no header; nothing was changed: {remedy}",
+                self.image().path().display()
+            )));
+        }
+        Ok(header)
+    }
+
     /// The header that a recording opens on. Only on the newest of all, or on
     /// none where nothing was recorded, is a recording's write pass a new
     /// one; so every copy must be whole.
     fn header_for_recording(&mut self) -> Result<Option<Vec<u8>>, Failure> {
-        let header = self.header()?;
+        let header = self.header_of_frames("'adr format --overwrite' makes an empty one")?;
         self.image().require_whole_headers()?;
-        if header.is_none() && self.holds_frames() {
-            return Err(Failure::new(format!(
-                "{}: the cartridge holds frames but no header; \
-                 nothing was changed: 'adr format --overwrite' makes an empty one",
-                self.image().path().display()
-            )));
-        }
         Ok(header)
     }
 
@@ -152,7 +158,8 @@ impl Cartridge {
         sink: impl FnMut(Element<'_>) -> Result<ControlFlow<()>, Failure>,
         progress: &mut Progress,
     ) -> Result<Summary, ReadError<Failure, Failure>> {
-        let Some(header) = self.header().map_err(ReadError::Drive)? else {
+        let header = self.header_of_frames("use a copy of the file");
+        let Some(header) = header.map_err(ReadError::Drive)? else {
             return Ok(Summary::default());
         };
         let end = header

@@ -68,7 +68,12 @@ pub fn run(arguments: &Arguments) -> Result<(), Failure> {
         let foreign = count(findings.foreign, "job has", "jobs have");
         told.push_str(&format!(" ({foreign} none, not being of this tool)"));
     }
-    output::line(told)
+    // The exit status tells it too, and alone to programs that give /dev/null
+    // opened for reading and writing, which is taken for closed.
+    match output::require_open() {
+        Ok(()) => output::line(told),
+        Err(_) => Ok(()),
+    }
 }
 
 fn read_jobs(

@@ -24,6 +24,8 @@ pub const OPTIONS: Options = Options {
 pub fn run(arguments: &Arguments) -> Result<(), Failure> {
     let path = arguments.only_image()?;
     let seed = arguments.number("--faults")?;
+    // Told before the tape is read to the first job's end.
+    output::require_open()?;
     let mut cartridge = Cartridge::load(path, Access::Read, DEPTH, seed)?;
     let mut progress = Progress::new("reading", arguments.has("--quiet"));
     let checksums = arguments.has("--checksums");

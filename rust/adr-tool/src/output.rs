@@ -1,19 +1,36 @@
-//! Standard output, line by line.
+//! Standard output, line by line, and messages on standard error.
+
+mod closed;
 
 use std::fmt::Display;
 use std::io::Write;
+use std::sync::OnceLock;
 
 use crate::failure::Failure;
+use crate::progress;
 use crate::text::printable;
+
+/// Refuses standard output that is closed, where all that is printed is lost.
+pub fn require_open() -> Result<(), Failure> {
+    static CLOSED: OnceLock<bool> = OnceLock::new();
+    if *CLOSED.get_or_init(closed::is_closed) {
+        return Err(Failure::new(
+            "standard output is closed or opened for reading: \
+             give it a file, a pipe, or /dev/null opened for writing alone",
+        ));
+    }
+    Ok(())
+}
 
 /// Prints a line.
 pub fn line(text: impl Display) -> Result<(), Failure> {
-    let mut output = std::io::stdout().lock();
-    writeln!(output, "{text}").map_err(|error| Failure::of_output(&error))
+    plain(&format!("{text}\n"))
 }
 
 /// Prints a text as it is.
 pub fn plain(text: &str) -> Result<(), Failure> {
+    require_open()?;
+    progress::clear();
     let mut output = std::io::stdout().lock();
     output
         .write_all(text.as_bytes())
@@ -24,6 +41,7 @@ pub fn plain(text: &str) -> Result<(), Failure> {
 /// Prints a message on standard error. Names from a tape are among its words:
 /// none of them gives the terminal orders.
 pub fn message(text: impl Display) {
+    progress::clear();
     let text = printable(text.to_string().as_bytes());
     // Where messages cannot be printed there is nobody to be told so.
     let _ = writeln!(std::io::stderr(), "adr: {text}");

@@ -1,11 +1,23 @@
 //! How far the work is, on a terminal.
 
 use std::io::{IsTerminal, Write};
+use std::sync::atomic::{AtomicBool, Ordering};
 use std::time::{Duration, Instant};
 
 use crate::text::{amount, duration};
 
 const BETWEEN: Duration = Duration::from_millis(200);
+
+/// Whether the line stands on the terminal, where other output would run
+/// into it. There is one terminal for all that prints.
+static STANDING: AtomicBool = AtomicBool::new(false);
+
+/// Clears the line, if it stands, for what is printed next.
+pub fn clear() {
+    if STANDING.swap(false, Ordering::Relaxed) {
+        let _ = write!(std::io::stderr(), "\r\x1b[K");
+    }
+}
 
 /// A line on standard error that is kept up to date; nothing at all if that
 /// is no terminal.
@@ -42,14 +54,13 @@ impl Progress {
         // A terminal that went away is no reason to stop.
         let _ = write!(output, "\r{line}\x1b[K");
         let _ = output.flush();
+        STANDING.store(true, Ordering::Relaxed);
     }
 }
 
 impl Drop for Progress {
     fn drop(&mut self) {
-        if self.shown && self.latest.is_some() {
-            let _ = write!(std::io::stderr(), "\r\x1b[K");
-        }
+        clear();
     }
 }
 

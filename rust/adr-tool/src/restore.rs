@@ -1,14 +1,16 @@
 //! `adr restore`: jobs from a cartridge back to files.
 
+mod wanted;
+
 use std::collections::BTreeMap;
-use std::ffi::{OsStr, OsString};
+use std::ffi::OsStr;
 use std::fs::OpenOptions;
 use std::io::{ErrorKind, IsTerminal};
 use std::ops::ControlFlow;
 use std::os::unix::ffi::OsStrExt;
 use std::path::{Path, PathBuf};
 
-use crate::arguments::{nothing_more, Arguments, Options};
+use crate::arguments::{Arguments, Options};
 use crate::cartridge::Cartridge;
 use crate::failure::Failure;
 use crate::image::{refuse_itself, Access};
@@ -19,6 +21,7 @@ use crate::progress::Progress;
 use crate::record::DEPTH;
 use crate::text::{count, printable};
 use crate::writer::{is_device, NewFile, Writer};
+use wanted::Wanted;
 
 /// The options of `restore`.
 pub const OPTIONS: Options = Options {
@@ -38,137 +41,146 @@ enum Target {
 
 /// Runs the command.
 pub fn run(arguments: &Arguments) -> Result<(), Failure> {
-    let (path, rest) = arguments.image()?;
-    let wanted = job_number(rest)?;
-    let target = target(arguments, wanted)?;
-    target.require_directory()?;
+    let (path, words) = arguments.image()?;
+    let wanted = Wanted::parse(words)?;
+    let target = target(arguments, &wanted)?;
+    target.require()?;
     let seed = arguments.number("--faults")?;
     let mut cartridge = Cartridge::load(path, Access::Read, DEPTH, seed)?;
-    let mut progress = Progress::new("reading", arguments.has("--quiet"));
+    let quiet = arguments.has("--quiet") || target.is_terminal();
+    let mut progress = Progress::new("reading", quiet);
     let mut restoring = Restoring {
         image: path,
         wanted,
         target,
         overwrite: arguments.has("--overwrite"),
-        writer: None,
-        restored: 0,
+        current: None,
         written: BTreeMap::new(),
-        passed_over: Vec::new(),
+        passed_over: 0,
     };
     let mut taker = |number: u64, event: Event<'_>| restoring.take(number, &event);
-    let read = cartridge.read_jobs(&mut taker, &mut progress);
+    let jobs = cartridge.read_jobs(&mut taker, &mut progress)?;
     drop(progress);
-    let told = restoring.tell();
-    let jobs = read?;
-    match wanted {
-        Some(job) if restoring.restored == 0 => Err(Failure::new(format!(
-            "{}: there is no job {job}; the cartridge holds {}",
-            path.display(),
-            count(jobs, "job", "jobs")
-        ))),
-        _ => told,
-    }
+    restoring.finish(jobs)
 }
 
-fn job_number(rest: &[OsString]) -> Result<Option<u64>, Failure> {
-    let Some((job, rest)) = rest.split_first() else {
-        return Ok(None);
-    };
-    nothing_more(rest)?;
-    let number = job.to_str().and_then(|text| text.parse().ok());
-    match number {
-        Some(number) if number > 0 => Ok(Some(number)),
-        _ => Err(Failure::usage(format!(
-            "'{}' is no job's number: 'adr list' shows them",
-            job.to_string_lossy()
-        ))),
-    }
-}
-
-fn target(arguments: &Arguments, wanted: Option<u64>) -> Result<Target, Failure> {
+fn target(arguments: &Arguments, wanted: &Wanted) -> Result<Target, Failure> {
     let output = match (arguments.value("--output"), arguments.value("-o")) {
         (Some(_), Some(_)) => return Err(Failure::usage("give --output or -o, not both")),
         (long, short) => long.or(short),
     };
-    match (arguments.value("--into"), output, wanted) {
-        (Some(_), Some(_), _) => Err(Failure::usage("give --into or --output, not both")),
-        (Some(directory), None, _) => Ok(Target::Directory(PathBuf::from(directory))),
-        (None, _, None) => Err(Failure::usage(
-            "name a job, or '--into DIRECTORY' for all of them",
+    match (arguments.value("--into"), output) {
+        (Some(_), Some(_)) => Err(Failure::usage("give --into or --output, not both")),
+        (Some(directory), None) => Ok(Target::Directory(PathBuf::from(directory))),
+        (None, _) if wanted.is_all() => Err(Failure::usage(
+            "name jobs, or '--into DIRECTORY' for all of them",
         )),
-        (None, Some(file), Some(_)) if file == "-" => Ok(Target::Output),
-        (None, Some(file), Some(_)) => Ok(Target::File(PathBuf::from(file))),
-        (None, None, Some(_)) if std::io::stdout().is_terminal() => Err(Failure::usage(
+        (None, Some(file)) if file == "-" => Ok(Target::Output),
+        (None, Some(_)) if !wanted.is_one() => Err(Failure::usage(
+            "--output takes one job: use '--into DIRECTORY' for several",
+        )),
+        (None, Some(file)) => Ok(Target::File(PathBuf::from(file))),
+        (None, None) if std::io::stdout().is_terminal() => Err(Failure::usage(
             "a job's bytes are not for a terminal: redirect them, or use '--into' or '--output'",
         )),
-        (None, None, Some(_)) => Ok(Target::Output),
+        (None, None) => Ok(Target::Output),
     }
 }
 
 impl Target {
-    /// Refuses a directory that is not there.
-    fn require_directory(&self) -> Result<(), Failure> {
-        let Target::Directory(directory) = self else {
-            return Ok(());
-        };
-        let shown = directory.display();
-        match directory.metadata() {
-            Ok(metadata) if metadata.is_dir() => Ok(()),
-            Ok(_) => Err(Failure::new(format!("{shown}: not a directory"))),
-            Err(error) if error.kind() == ErrorKind::NotFound => Err(Failure::new(format!(
-                "{shown}: no such directory; make it with 'mkdir {shown}'"
-            ))),
-            Err(error) => Err(Failure::of_file(directory, &error)),
+    /// Refuses what nothing can be written to.
+    fn require(&self) -> Result<(), Failure> {
+        match self {
+            Target::Output => output::require_open(),
+            Target::File(_) => Ok(()),
+            Target::Directory(directory) => require_directory(directory),
         }
+    }
+
+    /// Whether the bytes of jobs go where progress would be shown.
+    fn is_terminal(&self) -> bool {
+        matches!(self, Target::Output) && std::io::stdout().is_terminal()
+    }
+
+    fn is_directory(&self) -> bool {
+        matches!(self, Target::Directory(_))
+    }
+}
+
+fn require_directory(directory: &Path) -> Result<(), Failure> {
+    let shown = directory.display();
+    match directory.metadata() {
+        Ok(metadata) if metadata.is_dir() => Ok(()),
+        Ok(_) => Err(Failure::new(format!("{shown}: not a directory"))),
+        Err(error) if error.kind() == ErrorKind::NotFound => Err(Failure::new(format!(
+            "{shown}: no such directory; make it with 'mkdir {shown}'"
+        ))),
+        Err(error) => Err(Failure::of_file(directory, &error)),
     }
 }
 
 /// Jobs on their way to files.
 struct Restoring<'a> {
     image: &'a Path,
-    wanted: Option<u64>,
+    wanted: Wanted,
     target: Target,
     overwrite: bool,
-    writer: Option<Writer>,
-    restored: u64,
-    /// The names written to the target directory, and by which jobs.
+    /// The job that is being written, if the present one is.
+    current: Option<Current>,
+    /// The names restored, and by which jobs.
     written: BTreeMap<Vec<u8>, u64>,
-    /// Why jobs were not restored, beside others that were.
-    passed_over: Vec<String>,
+    /// How many jobs were not restored, beside others that were.
+    passed_over: u64,
+}
+
+struct Current {
+    name: Vec<u8>,
+    writer: Writer,
 }
 
 impl Restoring<'_> {
     fn take(&mut self, number: u64, event: &Event<'_>) -> Result<ControlFlow<()>, Failure> {
-        if self.wanted.is_some_and(|wanted| wanted != number) {
-            return Ok(ControlFlow::Continue(()));
-        }
         match event {
             Event::Begin(description) => self.begin(number, description)?,
             Event::Data(data) => {
-                if let Some(writer) = &mut self.writer {
-                    writer.write(data)?;
+                if let Some(current) = &mut self.current {
+                    current.writer.write(data)?;
                 }
             }
-            Event::End(verdict) => return self.end(number, verdict),
+            Event::End(verdict) => {
+                self.end(number, verdict)?;
+                if self.wanted.ends(number) {
+                    return Ok(ControlFlow::Break(()));
+                }
+            }
         }
         Ok(ControlFlow::Continue(()))
     }
 
     fn begin(&mut self, number: u64, description: &Description) -> Result<(), Failure> {
-        self.writer = None;
-        if let Some(first) = self.written.get(&description.name) {
-            self.passed_over.push(format!(
-                "job {number}, '{}': job {first} has that name too: \
-                 restore it by number with '--output FILE'",
-                printable(&description.name)
-            ));
+        self.current = None;
+        let name = &description.name;
+        if !self.wanted.begins(number, name) {
             return Ok(());
         }
-        self.writer = Some(self.open(description)?);
-        if let Target::Directory(_) = self.target {
-            self.written.insert(description.name.clone(), number);
+        // A name stands for its first job, and a directory has it once.
+        let once = self.target.is_directory() || !self.wanted.has_number(number);
+        if let Some(first) = self.written.get(name).filter(|_| once) {
+            let why = format!(
+                "job {number}, '{}': job {first} has that name too: \
+                 restore it by number with '--output FILE'",
+                printable(name)
+            );
+            return self.pass_over(self.failure(why));
         }
-        Ok(())
+        match self.open(description) {
+            Ok(writer) => {
+                let name = name.clone();
+                self.current = Some(Current { name, writer });
+                Ok(())
+            }
+            Err(failure) => self.pass_over(failure),
+        }
     }
 
     fn open(&self, description: &Description) -> Result<Writer, Failure> {
@@ -186,45 +198,71 @@ impl Restoring<'_> {
         NewFile::open(&path, self.overwrite, description.time).map(Writer::File)
     }
 
-    fn end(&mut self, number: u64, verdict: &Verdict) -> Result<ControlFlow<()>, Failure> {
+    fn end(&mut self, number: u64, verdict: &Verdict) -> Result<(), Failure> {
+        let current = self.current.take();
         match verdict {
-            Verdict::Whole(_) => {
-                if let Some(writer) = self.writer.take() {
-                    writer.finish()?;
+            Verdict::Whole(_) => match current {
+                Some(current) => self.keep(number, current),
+                None => Ok(()),
+            },
+            Verdict::Broken(why) if current.is_some() => {
+                let broken = self.failure(format!("job {number} is not whole: {why}"));
+                // Bytes that went elsewhere cannot be taken back, and others
+                // behind them would not stand where they are looked for.
+                if self.target.is_directory() {
+                    self.pass_over(broken)
+                } else {
+                    Err(broken)
                 }
             }
-            Verdict::Broken(why) => {
-                return Err(Failure::new(format!("job {number} is not whole: {why}")));
-            }
-            Verdict::Foreign => {
+            Verdict::Foreign if self.wanted.is_all() || self.wanted.has_number(number) => {
                 let foreign = format!("job {number} was not recorded by this tool");
-                if self.wanted.is_some() {
-                    return Err(Failure::new(foreign));
-                }
-                self.passed_over.push(foreign);
+                self.pass_over(self.failure(foreign))
             }
+            Verdict::Broken(_) | Verdict::Foreign => Ok(()),
         }
-        self.restored += 1;
-        Ok(if self.wanted.is_some() {
-            ControlFlow::Break(())
-        } else {
-            ControlFlow::Continue(())
-        })
     }
 
-    /// Tells which jobs were passed over; it failed if any were.
-    fn tell(&self) -> Result<(), Failure> {
-        let shown = self.image.display();
-        for why in &self.passed_over {
-            output::message(format!("{shown}: {why}"));
-        }
-        match u64::try_from(self.passed_over.len()) {
-            Ok(0) => Ok(()),
-            number => {
-                let jobs = count(number.unwrap_or(u64::MAX), "job was", "jobs were");
-                Err(Failure::new(format!("{shown}: {jobs} not restored")))
+    /// Ends a job that was whole.
+    fn keep(&mut self, number: u64, current: Current) -> Result<(), Failure> {
+        match current.writer.finish() {
+            Ok(()) => {
+                self.written.insert(current.name, number);
+                Ok(())
             }
+            Err(failure) if self.target.is_directory() => self.pass_over(failure),
+            Err(failure) => Err(failure),
         }
+    }
+
+    fn failure(&self, why: String) -> Failure {
+        Failure::new(format!("{}: {why}", self.image.display()))
+    }
+
+    /// Tells why a job is not restored and goes on to others, if there may be
+    /// others.
+    fn pass_over(&mut self, failure: Failure) -> Result<(), Failure> {
+        match failure {
+            Failure::Failed(message) if !self.wanted.is_one() => {
+                output::message(message);
+                self.passed_over += 1;
+                Ok(())
+            }
+            failure => Err(failure),
+        }
+    }
+
+    /// Tells which jobs the cartridge, with so many, does not hold; it failed
+    /// if any was not restored.
+    fn finish(mut self, jobs: u64) -> Result<(), Failure> {
+        for missing in self.wanted.missing(jobs) {
+            self.pass_over(self.failure(missing))?;
+        }
+        if self.passed_over == 0 {
+            return Ok(());
+        }
+        let jobs = count(self.passed_over, "job was", "jobs were");
+        Err(self.failure(format!("{jobs} not restored")))
     }
 }
 

@@ -68,6 +68,11 @@ usage: adr list [OPTION...] IMAGE
 
 Lists the jobs: number, bytes, when the file was last changed (UTC), name.
 
+A tape has no directory: the whole recording is read, to the end of data. A
+drive would take 8 minutes for each GB, 2 hours for a full cartridge of 15 GB,
+at the 2,097,000 bytes a second that these drives sustain at most (Maximum
+Speed Supported in ADR Commands and Logical Tape Format 1.3, 4.3.2.4).
+
   --checksums     the SHA-256 of each job too, as sha256sum prints it
   --faults SEED   let the drive have faults, picked by this number
   --quiet         no progress on a terminal
@@ -75,17 +80,24 @@ Lists the jobs: number, bytes, when the file was last changed (UTC), name.
 
 /// The help of `restore`.
 pub const RESTORE: &str = "\
-usage: adr restore [OPTION...] IMAGE JOB
-       adr restore [OPTION...] --into DIRECTORY IMAGE [JOB]
+usage: adr restore [OPTION...] IMAGE JOB...
+       adr restore [OPTION...] --into DIRECTORY IMAGE [JOB...]
 
-Writes a job to standard output, or jobs to files, with the time when they
-were last changed. A file gets its name when it is whole; on standard output
-only the exit status tells. With --into, jobs of another program and jobs with
-the name of an earlier one are passed over, and the exit status is then 1.
+Writes jobs to standard output, one behind the other in the order of the tape,
+or to files, with the time when they were last changed. A JOB is a number or a
+name. A word of digits is a number, never a name; a name stands for the first
+job that has it. Reading ends behind the last job asked for, but a name is
+looked for to the end of data.
 
-  --into DIRECTORY        write the job, or all jobs, under their own names;
+A file gets its name when it is whole; on standard output only the exit status
+tells. What cannot be restored is told and passed over, and the exit status is
+then 1: jobs that are not there, jobs of another program, jobs with the name
+of an earlier one and, with --into, files that exist and jobs that are not
+whole.
+
+  --into DIRECTORY        write the jobs, or all jobs, under their own names;
                           a name that leads out of the directory is refused
-  -o, --output FILE       write the job to this file; '-' is standard output
+  -o, --output FILE       write one job to this file; '-' is standard output
   --overwrite             replace files that exist
   --faults SEED           let the drive have faults, picked by this number
   --quiet                 no progress on a terminal

@@ -72,8 +72,7 @@ fn wrong_command_lines() {
         &["list", "a.adr", "--into", "x"],
         &["restore", "a.adr"],
         &["restore", "a.adr", "0"],
-        &["restore", "a.adr", "x"],
-        &["restore", "a.adr", "1", "2"],
+        &["restore", "a.adr", "1", "2", "-o", "x"],
         &["restore", "a.adr", "1", "--into", "x", "-o", "y"],
         &["restore", "a.adr", "1", "--output", "x", "-o", "y"],
         &["restore", "a.adr", "1", "-o", "x", "-o", "y"],
@@ -360,7 +359,7 @@ fn names_of_any_bytes() {
         place.adr(&into).succeeded();
         let exists = place.adr(&into).failed();
         let told = format!("adr: out/{shown}: exists; use '--overwrite' to replace it\n");
-        assert_eq!(exists.error, told);
+        assert!(exists.error.starts_with(&told), "{}", exists.error);
     }
     assert_eq!(place.names("out").len(), 3);
 }

@@ -25,11 +25,7 @@ pub fn open(path: &Path, access: Access) -> Result<(File, u64), Failure> {
         )),
         _ => Failure::of_file(path, &error),
     };
-    let record = access == Access::Record;
-    let file = OpenOptions::new().read(true).write(record).open(path);
-    let file = file.map_err(of_file)?;
-    let metadata = file.metadata().map_err(of_file)?;
-    require_regular(path, &metadata)?;
+    let (file, _) = open_regular(path, access).map_err(of_file)?;
     lock(&file, path, access)?;
     // What another process wrote before this lock counts; one that replaced
     // the file left this one without a name.
@@ -44,13 +40,23 @@ pub fn open(path: &Path, access: Access) -> Result<(File, u64), Failure> {
     Ok((file, metadata.len()))
 }
 
-/// Refuses directories and devices.
-pub fn require_regular(path: &Path, metadata: &Metadata) -> Result<(), Failure> {
+/// Opens a file that is no directory, pipe, socket or device. It is looked at
+/// before it is opened too, for that alone waits at a pipe and sets a tape
+/// drive going.
+pub fn open_regular(path: &Path, access: Access) -> io::Result<(File, Metadata)> {
+    require_regular(&std::fs::metadata(path)?)?;
+    let record = access == Access::Record;
+    let file = OpenOptions::new().read(true).write(record).open(path)?;
+    let metadata = file.metadata()?;
+    require_regular(&metadata)?;
+    Ok((file, metadata))
+}
+
+fn require_regular(metadata: &Metadata) -> io::Result<()> {
     if metadata.is_file() {
         return Ok(());
     }
-    let shown = path.display();
-    Err(Failure::new(format!("{shown}: not a regular file")))
+    Err(io::Error::other("not a regular file"))
 }
 
 /// Locks a file until it is closed.

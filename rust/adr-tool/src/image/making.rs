@@ -6,7 +6,7 @@ use std::path::Path;
 
 use adr_tape::Geometry;
 
-use super::file::{lock, require_regular, Access};
+use super::file::{lock, open_regular, Access};
 use super::layout::{self, Root};
 use crate::checksum::checksum;
 use crate::failure::Failure;
@@ -50,13 +50,10 @@ fn look_at_present_file(
     overwrite: bool,
 ) -> Result<Option<(File, Permissions)>, Failure> {
     let shown = path.display();
-    let file = match File::open(path) {
+    let (file, metadata) = match open_regular(path, Access::Read) {
         Err(error) if error.kind() == io::ErrorKind::NotFound => return Ok(None),
         other => other.map_err(|error| Failure::of_file(path, &error))?,
     };
-    let metadata = file.metadata();
-    let metadata = metadata.map_err(|error| Failure::of_file(path, &error))?;
-    require_regular(path, &metadata)?;
     if metadata.len() == 0 {
         return Ok(Some((file, metadata.permissions())));
     }

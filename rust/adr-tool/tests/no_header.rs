@@ -1,0 +1,60 @@
+//! Cartridges that hold frames but no header.
+
+mod place;
+
+use place::image::{cells_with, entries, number, seal_frame, seal_index, CELL, CELLS};
+use place::{bytes, Place};
+
+/// Commands that read, and one that records.
+const COMMANDS: [(&[&str], &str); 5] = [
+    (&["list", "a.adr"], "use a copy"),
+    (&["check", "a.adr"], "use a copy"),
+    (&["restore", "--into", "out", "a.adr"], "use a copy"),
+    (&["restore", "a.adr", "1"], "use a copy"),
+    (
+        &["record", "--overwrite", "a.adr", "file"],
+        "'adr format --overwrite'",
+    ),
+];
+
+/// Where an entry of the index tells whether a frame reads.
+const MARKS: std::ops::Range<usize> = 4..8;
+
+#[test]
+fn frames_without_a_header() {
+    let place = Place::new("no-header");
+    place.directory("out");
+    place.write("file", &bytes(100_000, 1));
+    place.adr(&["format", "a.adr"]).succeeded();
+    place.adr(&["record", "a.adr", "file"]).succeeded();
+    let image = place.read("a.adr");
+    let headers = cells_with(&image, b"ADR_SEQ\0");
+    assert_eq!(headers.len(), 10);
+
+    let mut invalid = image.clone();
+    for header in &headers {
+        invalid[*header] = b'X';
+        seal_frame(&mut invalid, *header);
+    }
+    let mut missing = image.clone();
+    for entry in entries(&image) {
+        let start = CELLS + number(&image, entry + 8) * CELL;
+        if headers.contains(&start) {
+            missing[entry..][MARKS].fill(0);
+        }
+    }
+    seal_index(&mut missing);
+
+    for altered in [invalid, missing] {
+        place.write("a.adr", &altered);
+        for (words, remedy) in COMMANDS {
+            let told = "the cartridge holds frames but no header; nothing was changed: ";
+            let refused = place.adr(words).failed();
+            let told = format!("a.adr: {told}{remedy}");
+            assert!(refused.error.contains(&told), "{}", refused.error);
+            assert_eq!(refused.output, b"", "{words:?}");
+        }
+        assert!(place.read("a.adr") == altered, "the image was changed");
+        assert!(place.names("out").is_empty());
+    }
+}

@@ -1,0 +1,66 @@
+//! What a terminal shows: progress is never mixed with what is printed.
+
+mod place;
+
+use place::{bytes, Place};
+
+/// Runs a command line on a pseudo-terminal, and gives what was sent to it.
+fn on_a_terminal(place: &Place, line: &str) -> String {
+    let script = format!("script -qec \"$ADR {line}\" /dev/null");
+    let ran = place.shell(&script);
+    String::from_utf8(ran.output).expect("text")
+}
+
+/// What stands on the screen in the end.
+fn screen(sent: &str) -> Vec<String> {
+    const CLEAR_TO_THE_END: &str = "\x1b[K";
+    let mut lines = vec![String::new()];
+    let mut column = 0;
+    let mut rest = sent;
+    while let Some(letter) = rest.chars().next() {
+        let line = lines.last_mut().expect("one at least");
+        if let Some(behind) = rest.strip_prefix(CLEAR_TO_THE_END) {
+            line.truncate(column);
+            rest = behind;
+            continue;
+        }
+        match letter {
+            '\r' => column = 0,
+            '\n' => lines.push(String::new()),
+            letter => {
+                assert!(letter.is_ascii() && !letter.is_control(), "{letter:?}");
+                let end = line.len().min(column + 1);
+                line.replace_range(column..end, letter.encode_utf8(&mut [0; 4]));
+                column += 1;
+            }
+        }
+        rest = &rest[letter.len_utf8()..];
+    }
+    lines
+}
+
+#[test]
+fn progress_gives_way() {
+    let place = Place::new("terminal");
+    place.directory("out");
+    place.write("large", &bytes(300_000, 1));
+    place.write("small", b"x");
+    place.adr(&["format", "a.adr"]).succeeded();
+    place
+        .adr(&["record", "a.adr", "large", "small"])
+        .succeeded();
+    place.write("out/large", b"kept");
+    for line in ["list a.adr", "check a.adr", "restore --into out a.adr"] {
+        // The same commands without a terminal have no progress.
+        place.shell("rm -f out/small").succeeded();
+        let plain = place.shell(&format!("$ADR {line} 2>&1"));
+        place.shell("rm -f out/small").succeeded();
+        let sent = on_a_terminal(&place, line);
+        assert!(sent.contains("\rreading "), "no progress: {sent:?}");
+        let mut expected: Vec<&str> = plain.output_text().lines().collect();
+        assert!(!expected.is_empty(), "{line}");
+        expected.push("");
+        assert_eq!(screen(&sent), expected, "{line}: {sent:?}");
+    }
+    assert_eq!(on_a_terminal(&place, "restore a.adr 2 -o -"), "x");
+}
