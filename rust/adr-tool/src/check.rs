@@ -10,6 +10,7 @@ use crate::cartridge::Cartridge;
 use crate::failure::Failure;
 use crate::image::Access;
 use crate::job::reading::{Event, Verdict};
+use crate::job::Description;
 use crate::output;
 use crate::progress::Progress;
 use crate::record::DEPTH;
@@ -79,14 +80,20 @@ fn read_jobs(
     let mut progress = Progress::new("reading", quiet);
     let mut broken = Vec::new();
     let (mut foreign, mut bytes) = (0, 0);
+    let mut description: Option<Description> = None;
     let mut taker = |number: u64, event: Event<'_>| {
         match event {
-            Event::End(Verdict::Whole(closing)) => bytes += closing.length,
+            Event::End(Verdict::Whole(closing)) => {
+                bytes += closing.length;
+                let tear = description.take().and_then(|begun| begun.tear(closing));
+                broken.extend(tear.map(|tear| format!("job {number} is torn: its file {tear}")));
+            }
             Event::End(Verdict::Broken(why)) => {
                 broken.push(format!("job {number} is not whole: {why}"));
             }
             Event::End(Verdict::Foreign) => foreign += 1,
-            Event::Begin(_) | Event::Data(_) => {}
+            Event::Begin(begun) => description = Some(begun.clone()),
+            Event::Data(_) => {}
         }
         Ok(ControlFlow::Continue(()))
     };

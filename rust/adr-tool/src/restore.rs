@@ -13,7 +13,7 @@ use crate::cartridge::Cartridge;
 use crate::failure::Failure;
 use crate::image::{refuse_itself, Access};
 use crate::job::reading::{Event, Verdict};
-use crate::job::{is_plain_name, Description};
+use crate::job::{is_plain_name, Closing, Description};
 use crate::output;
 use crate::progress::Progress;
 use crate::record::DEPTH;
@@ -54,6 +54,8 @@ pub fn run(arguments: &Arguments) -> Result<(), Failure> {
         restored: 0,
         written: BTreeMap::new(),
         passed_over: Vec::new(),
+        description: None,
+        torn: Vec::new(),
     };
     let mut taker = |number: u64, event: Event<'_>| restoring.take(number, &event);
     let read = cartridge.read_jobs(&mut taker, &mut progress);
@@ -135,6 +137,10 @@ struct Restoring<'a> {
     written: BTreeMap<Vec<u8>, u64>,
     /// Why jobs were not restored, beside others that were.
     passed_over: Vec<String>,
+    /// What the job under way is described as.
+    description: Option<Description>,
+    /// Restored jobs whose files changed while they were recorded.
+    torn: Vec<String>,
 }
 
 impl Restoring<'_> {
@@ -165,6 +171,7 @@ impl Restoring<'_> {
             return Ok(());
         }
         self.writer = Some(self.open(description)?);
+        self.description = Some(description.clone());
         if let Target::Directory(_) = self.target {
             self.written.insert(description.name.clone(), number);
         }
@@ -183,14 +190,15 @@ impl Restoring<'_> {
             Target::Directory(directory) => directory.join(own_name(&description.name)?),
         };
         refuse_itself(self.image, &path)?;
-        NewFile::open(&path, self.overwrite, description.time).map(Writer::File)
+        NewFile::open(&path, self.overwrite, description).map(Writer::File)
     }
 
     fn end(&mut self, number: u64, verdict: &Verdict) -> Result<ControlFlow<()>, Failure> {
         match verdict {
-            Verdict::Whole(_) => {
+            Verdict::Whole(closing) => {
                 if let Some(writer) = self.writer.take() {
                     writer.finish()?;
+                    self.note_tear(number, closing);
                 }
             }
             Verdict::Broken(why) => {
@@ -212,11 +220,28 @@ impl Restoring<'_> {
         })
     }
 
-    /// Tells which jobs were passed over; it failed if any were.
+    /// The bytes of a torn job are restored all the same: they are what was
+    /// recorded.
+    fn note_tear(&mut self, number: u64, closing: &Closing) {
+        let description = self.description.take();
+        let tear = description.and_then(|description| description.tear(closing));
+        if let Some(tear) = tear {
+            self.torn
+                .push(format!("job {number} is torn: its file {tear}"));
+        }
+    }
+
+    /// Tells which jobs were passed over, and which are torn; it failed if
+    /// any were.
     fn tell(&self) -> Result<(), Failure> {
         let shown = self.image.display();
-        for why in &self.passed_over {
+        for why in self.passed_over.iter().chain(&self.torn) {
             output::message(format!("{shown}: {why}"));
+        }
+        if self.passed_over.is_empty() && !self.torn.is_empty() {
+            return Err(Failure::new(format!(
+                "{shown}: what was recorded is restored, but not every file as it was"
+            )));
         }
         match u64::try_from(self.passed_over.len()) {
             Ok(0) => Ok(()),
