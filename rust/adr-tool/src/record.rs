@@ -16,7 +16,7 @@ use crate::job::source::{Elements, Input};
 use crate::output;
 use crate::progress::Progress;
 use crate::room::{frames_of_job, Room};
-use crate::text::{amount, count, printable};
+use crate::text::{amount, count, grouped, printable};
 
 /// The options of `record`.
 pub const OPTIONS: Options = Options {
@@ -73,20 +73,26 @@ fn known_length(inputs: &[Input]) -> Option<u64> {
 fn refuse_too_much(cartridge: &Cartridge, path: &Path, inputs: &[Input]) -> Result<(), Failure> {
     let room = Room::new(cartridge.image().geometry(), None).map_err(Failure::new)?;
     let mut needed = 0u64;
+    let mut full = None;
     for input in inputs {
         let length = input.description().length.unwrap_or(0);
         needed = needed.saturating_add(frames_of_job(length));
         if needed > room.frames {
-            return Err(Failure::new(format!(
-                "{}: the cartridge has room for {} at most, which ends in '{}'; nothing was \
-                 changed: record fewer or smaller files, or use a larger cartridge",
-                path.display(),
-                amount(bytes_in(room.frames)),
-                input.shown().display(),
-            )));
+            full.get_or_insert(input.shown().display());
         }
     }
-    Ok(())
+    match full {
+        None => Ok(()),
+        Some(file) => Err(Failure::new(format!(
+            "{}: the files take {} frames, and the cartridge has at most {} ({}): \
+             it would be full in '{file}'; nothing was changed: \
+             record fewer or smaller files, or use a larger cartridge",
+            path.display(),
+            grouped(needed),
+            grouped(room.frames),
+            amount(bytes_in(room.frames)),
+        ))),
+    }
 }
 
 /// Tells jobs that have the name of an earlier one: they are recorded, but

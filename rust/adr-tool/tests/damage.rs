@@ -4,14 +4,13 @@
 mod place;
 
 use std::fs::OpenOptions;
-use std::io::Write;
-use std::process::{Child, Stdio};
+use std::process::Stdio;
 
 use place::image::{
     cells_with, crc, entries, index_of, newer_root, number, seal_description, seal_index,
     seal_roots, set_number, CELL, CELLS, PAGE, ROOTS,
 };
-use place::{bytes, Place};
+use place::{bytes, feed, Place};
 
 /// Commands that have nothing but an image to work on.
 const ON_AN_IMAGE: [&[&str]; 5] = [
@@ -354,18 +353,6 @@ fn killed_while_recording() {
     let restored = place.adr(&["restore", "a.adr", "1"]).succeeded();
     assert_eq!(restored.output, place.read("new"));
     place.adr(&["check", "a.adr"]).succeeded();
-}
-
-/// Gives a child some bytes, and keeps its input open.
-fn feed(child: &mut Child, amount: usize) {
-    let input = child.stdin.as_mut().expect("a pipe");
-    let some = bytes(40_000, 7);
-    let mut left = amount;
-    while left > 0 {
-        let part = &some[..left.min(some.len())];
-        input.write_all(part).expect("it reads");
-        left -= part.len();
-    }
 }
 
 #[track_caller]
