@@ -52,8 +52,15 @@ holds jobs is not recorded without --overwrite, which replaces all of them.
 
 The old content stays in force until the new is whole: after a power cut, on a
 full disk or when this is interrupted, the image holds what it held before.
+Room in the file that the cartridge does not need is then given back.
+
+Files that cannot fit are told before anything is written. A file that changes
+while it is recorded is told, and the exit status is then 1: the recording is
+in force, its other jobs are whole. Names that come again are told.
 
   --overwrite     replace the jobs on the cartridge
+  --allow-empty   record standard input or a pipe even if there is nothing to
+                  read, which otherwise is an error, and nothing is replaced
   --name NAME     the name of the job from standard input (stdin); it is that
                   of a file, without directories
   --faults SEED   let the drive have faults, picked by this number
@@ -66,11 +73,14 @@ full disk or when this is interrupted, the image holds what it held before.
 pub const LIST: &str = "\
 usage: adr list [OPTION...] IMAGE
 
-Lists the jobs: number, bytes, when the file was last changed (UTC), name.
+Lists the jobs: number, bytes, when the file was last changed (UTC), name. A
+job whose file shrank or grew while it was recorded is marked. Standard error
+tells the capacity and what is free; bad spots make both less. A new recording
+has all of the capacity, for it replaces the jobs.
 
   --checksums     the SHA-256 of each job too, as sha256sum prints it
   --faults SEED   let the drive have faults, picked by this number
-  --quiet         no progress on a terminal
+  --quiet         no progress on a terminal, and nothing about capacity
 ";
 
 /// The help of `restore`.
@@ -82,6 +92,9 @@ Writes a job to standard output, or jobs to files, with the time when they
 were last changed. A file gets its name when it is whole; on standard output
 only the exit status tells. With --into, jobs of another program and jobs with
 the name of an earlier one are passed over, and the exit status is then 1.
+
+Files get the mode that was recorded, under the umask. A job whose file shrank
+or grew while it was recorded is restored and told; the exit status is then 1.
 
   --into DIRECTORY        write the job, or all jobs, under their own names;
                           a name that leads out of the directory is refused
@@ -96,7 +109,8 @@ pub const CHECK: &str = "\
 usage: adr check [OPTION...] IMAGE
 
 Reads every job and every frame and verifies their checksums. The exit status
-is 1 if anything is wrong; the image is never changed.
+is 1 if anything is wrong, also if a file shrank or grew while it was recorded;
+the image is never changed.
 
   --faults SEED   let the drive have faults, picked by this number
   --quiet         no progress on a terminal

@@ -77,6 +77,9 @@ fn ended_by(number: i32, output: &Output) {
 #[test]
 fn waiting_for_input() {
     let place = recorded("interrupted");
+    // The old content lies behind free cells, which are written to first.
+    let words = ["record", "--overwrite", "a.adr", "new"];
+    place.adr(&words).succeeded();
     let image = place.read("a.adr");
     for (signal, number) in SIGNALS {
         let mut child = waiting(&place, 5_000_000);
@@ -87,7 +90,7 @@ fn waiting_for_input() {
         ended_by(number, &output);
         assert!(place.read("a.adr") == image, "{signal}");
         nothing_more_is_taken(&place);
-        holds(&place, "file");
+        holds(&place, "new");
     }
 }
 
