@@ -278,7 +278,7 @@ impl Elements {
         Some(input.open())
     }
 
-    fn take(&mut self, mut job: Job) -> Result<Element<'static>, Failure> {
+    fn element_of(&mut self, mut job: Job) -> Result<Element<'static>, Failure> {
         interruption::check()?;
         let element = job.next(self.allow_empty)?;
         if let Some(change) = job.change.take() {
@@ -298,7 +298,7 @@ impl Iterator for Elements {
 
     fn next(&mut self) -> Option<Self::Item> {
         let job = self.current()?;
-        Some(job.and_then(|job| self.take(job)))
+        Some(job.and_then(|job| self.element_of(job)))
     }
 }
 
