@@ -13,8 +13,10 @@ use adr_tape::{
 use crate::failure::Failure;
 use crate::faults::hostility;
 use crate::image::{Access, Image};
+use crate::interruption;
 use crate::job::reading::{Jobs, Taker};
 use crate::progress::Progress;
+use crate::room::Room;
 
 /// Where an EOD address stands in a header.
 const EOD_ADDRESS: std::ops::Range<usize> = 32..36;
@@ -22,6 +24,14 @@ const EOD_ADDRESS: std::ops::Range<usize> = 32..36;
 /// The bytes of so many blocks.
 pub fn bytes_in(blocks: u64) -> u64 {
     blocks.saturating_mul(BLOCK_LENGTH as u64)
+}
+
+/// The address of the end of data that a header tells.
+fn end_of_data(header: &[u8]) -> Address {
+    let end = header
+        .get(EOD_ADDRESS)
+        .and_then(|part| part.try_into().ok());
+    Address(u32::from_be_bytes(end.unwrap_or([0; 4])))
 }
 
 /// A write error that the drive reported.
@@ -117,6 +127,12 @@ impl Cartridge {
         Ok(header)
     }
 
+    /// How much the cartridge holds, and how much of that is free.
+    pub fn room(&mut self) -> Result<Room, Failure> {
+        let end = self.header()?.as_deref().map(end_of_data);
+        Room::new(self.geometry, end).map_err(Failure::new)
+    }
+
     /// Whether anything was ever recorded.
     pub fn holds_frames(&self) -> bool {
         self.image().known().any(|(_, reads, _)| reads)
@@ -132,6 +148,7 @@ impl Cartridge {
         let header = self.header_for_recording()?;
         let header = header.as_deref();
         let geometry = self.geometry;
+        self.image_mut().give_back_leavings();
         let recorded = record_all(
             self,
             geometry,
@@ -146,6 +163,7 @@ impl Cartridge {
             RecordError::Refused(refusal) => self.refused("recording stopped", refusal),
             RecordError::Drive(failure) | RecordError::Source(failure) => failure,
         });
+        let recorded = recorded.and_then(|summary| interruption::check().map(|()| summary));
         let summary = recorded.map_err(Failure::unrecorded)?;
         self.image_mut().commit()?;
         Ok(summary)
@@ -162,10 +180,7 @@ impl Cartridge {
         let Some(header) = header.map_err(ReadError::Drive)? else {
             return Ok(Summary::default());
         };
-        let end = header
-            .get(EOD_ADDRESS)
-            .and_then(|part| part.try_into().ok());
-        let end = u64::from(u32::from_be_bytes(end.unwrap_or([0; 4])));
+        let end = u64::from(end_of_data(&header).0);
         let geometry = self.geometry;
         read_all(self, geometry, &header, sink, |summary| {
             let bytes = bytes_in(summary.blocks);

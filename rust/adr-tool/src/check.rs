@@ -10,6 +10,7 @@ use crate::cartridge::Cartridge;
 use crate::failure::Failure;
 use crate::image::Access;
 use crate::job::reading::{Event, Verdict};
+use crate::job::{torn, Description};
 use crate::output;
 use crate::progress::Progress;
 use crate::record::DEPTH;
@@ -38,6 +39,8 @@ pub fn run(arguments: &Arguments) -> Result<(), Failure> {
     let path = arguments.only_image()?;
     let seed = arguments.number("--faults")?;
     let quiet = arguments.has("--quiet");
+    // Told before the whole tape is read.
+    output::require_open()?;
     let mut cartridge = Cartridge::load(path, Access::Read, DEPTH, seed)?;
     let mut findings = Findings::default();
     if !cartridge.image().has_both_roots() {
@@ -68,12 +71,7 @@ pub fn run(arguments: &Arguments) -> Result<(), Failure> {
         let foreign = count(findings.foreign, "job has", "jobs have");
         told.push_str(&format!(" ({foreign} none, not being of this tool)"));
     }
-    // The exit status tells it too, and alone to programs that give /dev/null
-    // opened for reading and writing, which is taken for closed.
-    match output::require_open() {
-        Ok(()) => output::line(told),
-        Err(_) => Ok(()),
-    }
+    output::line(told)
 }
 
 fn read_jobs(
@@ -84,14 +82,20 @@ fn read_jobs(
     let mut progress = Progress::new("reading", quiet);
     let mut broken = Vec::new();
     let (mut foreign, mut bytes) = (0, 0);
+    let mut description: Option<Description> = None;
     let mut taker = |number: u64, event: Event<'_>| {
         match event {
-            Event::End(Verdict::Whole(closing)) => bytes += closing.length,
+            Event::End(Verdict::Whole(closing)) => {
+                bytes += closing.length;
+                let tear = description.take().and_then(|begun| begun.tear(closing));
+                broken.extend(tear.map(|tear| torn(number, &tear)));
+            }
             Event::End(Verdict::Broken(why)) => {
                 broken.push(format!("job {number} is not whole: {why}"));
             }
             Event::End(Verdict::Foreign) => foreign += 1,
-            Event::Begin(_) | Event::Data(_) => {}
+            Event::Begin(begun) => description = Some(begun.clone()),
+            Event::Data(_) => {}
         }
         Ok(ControlFlow::Continue(()))
     };

@@ -19,6 +19,7 @@ use crate::output;
 use crate::progress::Progress;
 use crate::record::told;
 use crate::text::grouped;
+use crate::timestamp::Timestamp;
 
 /// The options of `demo`.
 pub const OPTIONS: Options = Options {
@@ -35,7 +36,7 @@ const GEOMETRY: Geometry = Geometry {
     load: LoadPoint::Beginning,
 };
 /// 2001-02-03 04:05, so that every run is the same.
-const TIME: u64 = 981_173_100;
+const TIME: Timestamp = Timestamp::of_seconds(981_173_100);
 
 struct Made {
     name: &'static str,
@@ -97,6 +98,7 @@ fn inputs(files: &[Made]) -> Vec<Input> {
                 name: file.name.as_bytes().to_vec(),
                 time: TIME,
                 length: u64::try_from(file.bytes.len()).ok(),
+                mode: None,
             };
             Input::bytes(description, Cursor::new(file.bytes.clone()))
         })
@@ -105,7 +107,7 @@ fn inputs(files: &[Made]) -> Vec<Input> {
 
 fn record(path: &Path, files: &[Made], seed: Option<u64>) -> Result<(), Failure> {
     let mut cartridge = Cartridge::load(path, Access::Record, DEPTH, seed)?;
-    let elements = Elements::new(inputs(files));
+    let elements = Elements::new(inputs(files), false);
     let summary = cartridge.record((DEPTH, WINDOW), elements, |_: &Summary| {})?;
     for error in cartridge.write_errors() {
         let address = grouped(u64::from(error.position.0));

@@ -11,6 +11,8 @@ pub enum Failure {
     Usage(String),
     /// The work failed: exit status 1.
     Failed(String),
+    /// A signal ended the work: the program ends by that signal.
+    Interrupted(i32, String),
     /// Whoever read the output went away: exit status 1, no message.
     OutputClosed,
 }
@@ -42,10 +44,12 @@ impl Failure {
 
     /// This failure, of a recording that was not put in force.
     pub fn unrecorded(self) -> Failure {
+        let told = |message| {
+            format!("{message}; nothing was recorded, the cartridge holds what it held before")
+        };
         match self {
-            Failure::Failed(message) => Failure::Failed(format!(
-                "{message}; nothing was recorded, the cartridge holds what it held before"
-            )),
+            Failure::Failed(message) => Failure::Failed(told(message)),
+            Failure::Interrupted(signal, message) => Failure::Interrupted(signal, told(message)),
             other => other,
         }
     }
@@ -55,6 +59,7 @@ impl Failure {
         match self {
             Failure::Usage(_) => 2,
             Failure::Failed(_) | Failure::OutputClosed => 1,
+            Failure::Interrupted(signal, _) => u8::try_from(128 + signal).unwrap_or(1),
         }
     }
 }

@@ -7,7 +7,8 @@
 //! other root is in force, and everything it leads to is as it was. So a
 //! power cut, a full disk or a killed process leaves the old content, and
 //! nothing needs to be repaired at the next opening. At last the other root
-//! is written too, so that both lead to the same content.
+//! is written too, so that both lead to the same content. Cells that it does
+//! not use are then given back to the file system.
 
 mod cells;
 mod content;
@@ -28,6 +29,7 @@ use adr_tape::{Geometry, FRAME_LENGTH};
 
 use crate::checksum::checksum;
 use crate::failure::{reason, Failure};
+use crate::system::punch_hole;
 use cells::Cells;
 use content::Content;
 use index::{Entry, Place};
@@ -59,7 +61,7 @@ impl Image {
         Ok(Image {
             path: path.to_path_buf(),
             file,
-            cells: Cells::new(used, content.root.cells),
+            cells: Cells::new(used),
             content,
             length_before: length,
             unfinished: false,
@@ -154,7 +156,9 @@ impl Image {
             return Err(failure.unrecorded());
         }
         let prepared = self.prepare_root();
-        let root = prepared.map_err(|error| Failure::of_file(&self.path, &error).unrecorded())?;
+        let (root, used) =
+            prepared.map_err(|error| Failure::of_file(&self.path, &error).unrecorded())?;
+        self.require_name("nothing was recorded: put it back, or 'adr format' another")?;
         // From here on either root may come into force: cut nothing off.
         self.unfinished = false;
         let (spare, present) = (1 - self.content.slot, self.content.slot);
@@ -167,13 +171,59 @@ impl Image {
         })?;
         // The recording is in force. The other root is made to lead to it
         // too, so that damage to one of them brings no older content back;
-        // if that fails, the next recording does it.
+        // if that fails, the next recording does it, and until then nothing
+        // is given back that the other root leads to.
+        (self.content.root, self.content.slot) = (root, spare);
+        self.cells = Cells::new(used);
         let again = Root {
             generation: root.generation.saturating_add(1),
             ..root
         };
-        let _ = self.write_root(&again, present);
-        Ok(())
+        if self.write_root(&again, present).is_ok() {
+            (self.content.root, self.content.slot) = (again, present);
+            self.give_back(again.cells, offset_of(again.cells).ok());
+        }
+        self.require_name("the recording is in the file that had the name: look for that one")
+    }
+
+    /// Refuses a recording in a file that its name does not lead to any more.
+    fn require_name(&self, remedy: &str) -> Result<(), Failure> {
+        match file::has_name(&self.file, &self.path) {
+            Ok(true) => Ok(()),
+            Err(error) if error.kind() != io::ErrorKind::NotFound => {
+                Err(Failure::of_file(&self.path, &error))
+            }
+            _ => Err(Failure::new(format!(
+                "{}: the image was removed, renamed or replaced meanwhile; {remedy}",
+                self.path.display()
+            ))),
+        }
+    }
+
+    /// Gives back what a recording left behind that was killed, unless the
+    /// other root leads there.
+    pub fn give_back_leavings(&mut self) {
+        let cells = self.content.root.cells;
+        let needed = offset_of(cells).ok();
+        if self.content.roots_agree {
+            self.give_back(cells, needed.filter(|needed| *needed < self.length_before));
+        }
+    }
+
+    /// Gives the cells below `end` that the content in force does not use back
+    /// to the file system, and all that is behind a length. What cannot be
+    /// given back is used by the next recording.
+    fn give_back(&mut self, end: u64, length: Option<u64>) {
+        if let Some(length) = length {
+            if self.file.set_len(length).is_ok() {
+                self.length_before = length;
+            }
+        }
+        for cells in self.cells.unused(end) {
+            if let (Ok(start), Ok(end)) = (offset_of(cells.start), offset_of(cells.end)) {
+                punch_hole(&self.file, start, end.saturating_sub(start));
+            }
+        }
     }
 
     fn write_root(&self, root: &Root, slot: usize) -> io::Result<()> {
@@ -182,8 +232,9 @@ impl Image {
         self.file.sync_all()
     }
 
-    /// Writes the index beside the present content.
-    fn prepare_root(&mut self) -> io::Result<Root> {
+    /// Writes the index beside the present content, and tells the cells that
+    /// the new content uses.
+    fn prepare_root(&mut self) -> io::Result<(Root, BTreeSet<u64>)> {
         let entries = u64::try_from(self.content.index.len()).unwrap_or(u64::MAX);
         let cells: Vec<u64> = (0..index::cells_for(entries))
             .map(|_| self.cells.take())
@@ -193,13 +244,17 @@ impl Image {
             self.write_cell(*cell, content)?;
         }
         self.file.sync_all()?;
-        Ok(Root {
+        let index = cells.first().copied().unwrap_or(0);
+        let mut used = BTreeSet::from_iter(cells);
+        used.extend(index::frame_cells(&self.content.index));
+        let root = Root {
             generation: self.content.root.generation.saturating_add(1),
-            cells: self.cells.end(),
-            index: cells.first().copied().unwrap_or(0),
+            cells: used.last().map_or(0, |last| last.saturating_add(1)),
+            index,
             entries,
             sum,
-        })
+        };
+        Ok((root, used))
     }
 
     /// Gives back the cell of a frame that this recording wrote over.
@@ -302,7 +357,7 @@ impl Drop for Image {
     /// content in force lies below the length that the file had.
     fn drop(&mut self) {
         if self.unfinished {
-            let _ = self.file.set_len(self.length_before);
+            self.give_back(self.cells.taken_end(), Some(self.length_before));
         }
     }
 }

@@ -13,6 +13,8 @@ use adr_tape::BLOCK_LENGTH;
 
 use crate::checksum::checksum;
 use crate::digest::Digest;
+use crate::text::{count, grouped};
+use crate::timestamp::Timestamp;
 
 /// A block of a job.
 pub type Block = Vec<u8>;
@@ -26,21 +28,34 @@ pub fn is_plain_name(name: &[u8]) -> bool {
     !leads_on && !matches!(name, b"" | b"." | b"..")
 }
 
-const BEGIN_MAGIC: [u8; 8] = *b"ADRJOB 1";
+const BEGIN_MAGIC: [u8; 8] = *b"ADRJOB 2";
+/// The first version told whole seconds since 1970 and no mode.
+const FIRST_BEGIN_MAGIC: [u8; 8] = *b"ADRJOB 1";
 const END_MAGIC: [u8; 8] = *b"ADREND 1";
 const SUM: usize = BLOCK_LENGTH - 8;
+const SECONDS: usize = 8;
+const LENGTH: usize = 16;
+const NAME_LENGTH: usize = 24;
 const NAME: usize = 26;
+/// Behind the longest name.
+const NANOSECONDS: usize = 288;
+const MODE: usize = 292;
 const UNKNOWN: u64 = u64::MAX;
+const NO_MODE: u16 = u16::MAX;
+/// The bits of a mode that are recorded.
+pub const PERMISSIONS: u16 = 0o7777;
 
 /// What a job's first block tells.
 #[derive(Clone, Debug, PartialEq, Eq)]
 pub struct Description {
     /// The file's name, without directories.
     pub name: Vec<u8>,
-    /// When the file was last changed, in seconds since 1970.
-    pub time: u64,
+    /// When the file was last changed.
+    pub time: Timestamp,
     /// The file's length, if it was known when recording began.
     pub length: Option<u64>,
+    /// The file's permission bits, if it was a file.
+    pub mode: Option<u16>,
 }
 
 /// What a job's last block tells.
@@ -60,25 +75,55 @@ impl Description {
         let name_length = u16::try_from(name.len()).unwrap_or(0);
         let mut content = Vec::with_capacity(BLOCK_LENGTH);
         content.extend(BEGIN_MAGIC);
-        content.extend(self.time.to_be_bytes());
+        content.extend(self.time.seconds.to_be_bytes());
         content.extend(length.to_be_bytes());
         content.extend(name_length.to_be_bytes());
         content.extend_from_slice(name);
+        content.resize(NANOSECONDS, 0);
+        content.extend(self.time.nanoseconds.to_be_bytes());
+        content.extend(self.mode.unwrap_or(NO_MODE).to_be_bytes());
         sealed(content)
     }
 
     /// The description in a block, none if there is none.
     pub fn read(block: &[u8]) -> Option<Description> {
-        let block = unsealed(block, BEGIN_MAGIC)?;
-        let length = number(block, 16)?;
-        let name_length = block.get(24..NAME)?.try_into().ok()?;
-        let name_length = usize::from(u16::from_be_bytes(name_length));
+        let (block, first) = match unsealed(block, BEGIN_MAGIC) {
+            Some(block) => (block, false),
+            None => (unsealed(block, FIRST_BEGIN_MAGIC)?, true),
+        };
+        let length = u64::from_be_bytes(bytes(block, LENGTH)?);
+        let name_length = usize::from(u16::from_be_bytes(bytes(block, NAME_LENGTH)?));
+        let mode = u16::from_be_bytes(bytes(block, MODE)?);
         Some(Description {
             name: block.get(NAME..)?.get(..name_length)?.to_vec(),
-            time: number(block, 8)?,
+            time: Timestamp {
+                seconds: i64::from_be_bytes(bytes(block, SECONDS)?),
+                nanoseconds: u32::from_be_bytes(bytes(block, NANOSECONDS)?),
+            },
             length: (length != UNKNOWN).then_some(length),
+            mode: (!first && mode != NO_MODE).then_some(mode),
         })
     }
+
+    /// How the file's length changed while it was recorded, if it did.
+    pub fn tear(&self, closing: &Closing) -> Option<String> {
+        let before = self.length.filter(|before| *before != closing.length)?;
+        let how = if closing.length < before {
+            "shrank"
+        } else {
+            "grew"
+        };
+        Some(format!(
+            "{how} from {} to {} while it was recorded",
+            grouped(before),
+            count(closing.length, "byte", "bytes")
+        ))
+    }
+}
+
+/// What is told of a job whose file changed so while it was recorded.
+pub fn torn(number: u64, tear: &str) -> String {
+    format!("job {number} is torn: its file {tear}")
 }
 
 impl Closing {
@@ -95,8 +140,8 @@ impl Closing {
     pub fn read(block: &[u8]) -> Option<Closing> {
         let block = unsealed(block, END_MAGIC)?;
         Some(Closing {
-            length: number(block, 8)?,
-            digest: *block.get(16..)?.first_chunk()?,
+            length: u64::from_be_bytes(bytes(block, 8)?),
+            digest: bytes(block, 16)?,
         })
     }
 }
@@ -114,27 +159,37 @@ fn unsealed(block: &[u8], magic: [u8; 8]) -> Option<&[u8]> {
     whole.then_some(content)
 }
 
-fn number(from: &[u8], at: usize) -> Option<u64> {
-    let bytes = from.get(at..)?.first_chunk()?;
-    Some(u64::from_be_bytes(*bytes))
+fn bytes<const N: usize>(from: &[u8], at: usize) -> Option<[u8; N]> {
+    from.get(at..)?.first_chunk().copied()
 }
 
 #[cfg(test)]
 mod tests {
     use super::*;
 
+    fn description(name: &[u8], length: Option<u64>) -> Description {
+        Description {
+            name: name.to_vec(),
+            time: Timestamp {
+                seconds: -1_700_000_000,
+                nanoseconds: 999_999_999,
+            },
+            length,
+            mode: Some(PERMISSIONS),
+        }
+    }
+
     #[test]
     fn blocks_and_back() {
         for (name, length) in [
-            (b"parts.tar".to_vec(), Some(0)),
-            (vec![0xFF; LONGEST_NAME], None),
-            (Vec::new(), Some(UNKNOWN - 1)),
+            (&b"parts.tar"[..], Some(0)),
+            (&[0xFF; LONGEST_NAME], None),
+            (b"", Some(UNKNOWN - 1)),
         ] {
-            let description = Description {
-                name,
-                time: 1_700_000_000,
-                length,
-            };
+            let mut description = description(name, length);
+            if length.is_none() {
+                description.mode = None;
+            }
             let mut block = description.block();
             assert_eq!(block.len(), BLOCK_LENGTH);
             assert_eq!(Description::read(&block), Some(description));
@@ -151,5 +206,35 @@ mod tests {
         assert_eq!(Closing::read(&block), Some(closing));
         assert_eq!(Closing::read(&block[1..]), None);
         assert_eq!(Description::read(&block), None);
+    }
+
+    /// As the tool wrote it that knew the first version alone.
+    #[test]
+    fn the_first_version() {
+        let mut content = FIRST_BEGIN_MAGIC.to_vec();
+        content.extend(1_700_000_000u64.to_be_bytes());
+        content.extend(5u64.to_be_bytes());
+        content.extend(b"\0\x04file");
+        let read = Description {
+            name: b"file".to_vec(),
+            time: Timestamp::of_seconds(1_700_000_000),
+            length: Some(5),
+            mode: None,
+        };
+        assert_eq!(Description::read(&sealed(content)), Some(read));
+    }
+
+    #[test]
+    fn tears() {
+        let closing = Closing {
+            length: 1_000,
+            digest: [0; 32],
+        };
+        let tear = |length| description(b"file", length).tear(&closing);
+        assert_eq!((tear(None), tear(Some(1_000))), (None, None));
+        let shrank = "shrank from 1,001 to 1,000 bytes while it was recorded";
+        assert_eq!(tear(Some(1_001)).as_deref(), Some(shrank));
+        let grew = "grew from 0 to 1,000 bytes while it was recorded";
+        assert_eq!(tear(Some(0)).as_deref(), Some(grew));
     }
 }

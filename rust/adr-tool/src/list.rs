@@ -45,6 +45,10 @@ pub fn run(arguments: &Arguments) -> Result<(), Failure> {
     };
     cartridge.read_jobs(&mut taker, &mut progress)?;
     drop(progress);
+    if !arguments.has("--quiet") {
+        // Beside the rows, which other programs read.
+        output::message(format!("{}: {}", path.display(), cartridge.room()?));
+    }
     if broken > 0 {
         return Err(Failure::new(format!(
             "{}: not every job is whole: see 'adr check'",
@@ -64,16 +68,15 @@ fn job_line(
         return format!("{number:>4}  (not recorded by this tool)");
     };
     let name = printable(&description.name);
-    let time = date(description.time);
+    let time = date(description.time.seconds);
     match verdict {
-        Verdict::Whole(closing) if checksums => {
-            let length = grouped(closing.length);
-            let digest = hexadecimal(&closing.digest);
-            format!("{number:>4}  {length:>15}  {time}  {digest}  {name}")
-        }
         Verdict::Whole(closing) => {
             let length = grouped(closing.length);
-            format!("{number:>4}  {length:>15}  {time}  {name}")
+            let digest = checksums.then(|| hexadecimal(&closing.digest) + "  ");
+            let digest = digest.unwrap_or_default();
+            let tear = description.tear(closing).map(|tear| format!(" ({tear})"));
+            let tear = tear.unwrap_or_default();
+            format!("{number:>4}  {length:>15}  {time}  {digest}{name}{tear}")
         }
         Verdict::Broken(why) => format!("{number:>4}  {:>15}  {time}  {name} ({why})", "?"),
         Verdict::Foreign => format!("{number:>4}  (not recorded by this tool)"),

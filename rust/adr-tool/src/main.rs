@@ -13,6 +13,7 @@ mod failure;
 mod faults;
 mod format;
 mod image;
+mod interruption;
 mod job;
 mod list;
 mod map;
@@ -21,7 +22,11 @@ mod part;
 mod progress;
 mod record;
 mod restore;
+mod room;
+#[allow(unsafe_code)]
+mod system;
 mod text;
+mod timestamp;
 mod usage;
 mod writer;
 
@@ -102,6 +107,10 @@ fn main() -> ExitCode {
             output::message(format!("{message}; see '{help}'"));
         }
         Failure::Failed(message) => output::message(message),
+        Failure::Interrupted(signal, message) => {
+            output::message(message);
+            system::end_by(*signal);
+        }
         Failure::OutputClosed => {}
     }
     ExitCode::from(failure.status())

@@ -1,25 +1,21 @@
 //! Standard output, line by line, and messages on standard error.
 
-mod closed;
-
 use std::fmt::Display;
 use std::io::Write;
-use std::sync::OnceLock;
 
 use crate::failure::Failure;
 use crate::progress;
+use crate::system;
 use crate::text::printable;
 
 /// Refuses standard output that is closed, where all that is printed is lost.
 pub fn require_open() -> Result<(), Failure> {
-    static CLOSED: OnceLock<bool> = OnceLock::new();
-    if *CLOSED.get_or_init(closed::is_closed) {
-        return Err(Failure::new(
-            "standard output is closed or opened for reading: \
-             give it a file, a pipe, or /dev/null opened for writing alone",
-        ));
+    if system::output_is_open() {
+        return Ok(());
     }
-    Ok(())
+    Err(Failure::new(
+        "standard output is closed or opened for reading: give it a file, a pipe or /dev/null",
+    ))
 }
 
 /// Prints a line.

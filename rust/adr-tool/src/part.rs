@@ -3,12 +3,15 @@
 use std::ffi::OsString;
 use std::fs::{File, OpenOptions};
 use std::io;
+use std::os::unix::fs::OpenOptionsExt;
 use std::path::{Path, PathBuf};
 
 /// The longest name to which more is added: most systems take 255 bytes.
 const LONGEST: usize = 200;
 /// Names that are tried.
 const ATTEMPTS: u32 = 100;
+/// The mode of a file that nothing else is known of, under the umask.
+const MODE: u32 = 0o666;
 
 /// A file beside the one that it becomes, removed unless it becomes that.
 ///
@@ -25,9 +28,16 @@ pub struct Part {
 impl Part {
     /// Creates the file.
     pub fn create(target: &Path) -> io::Result<Part> {
+        Part::create_with_mode(target, MODE)
+    }
+
+    /// Creates the file with a mode, under the umask.
+    pub fn create_with_mode(target: &Path, mode: u32) -> io::Result<Part> {
+        let mut options = OpenOptions::new();
+        options.write(true).create_new(true).mode(mode);
         for attempt in 0..ATTEMPTS {
             let path = target.with_file_name(name(target, attempt));
-            match OpenOptions::new().write(true).create_new(true).open(&path) {
+            match options.open(&path) {
                 Ok(file) => {
                     return Ok(Part {
                         file,

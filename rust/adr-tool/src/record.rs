@@ -1,5 +1,6 @@
 //! `adr record`: files to a cartridge.
 
+use std::collections::BTreeMap;
 use std::ffi::{OsStr, OsString};
 use std::io::IsTerminal;
 use std::path::Path;
@@ -10,15 +11,17 @@ use crate::arguments::{Arguments, Options};
 use crate::cartridge::{bytes_in, Cartridge};
 use crate::failure::Failure;
 use crate::image::{refuse_itself, Access};
+use crate::interruption;
 use crate::job::source::{Elements, Input};
 use crate::output;
 use crate::progress::Progress;
-use crate::text::{amount, count};
+use crate::room::{frames_of_job, Room};
+use crate::text::{amount, count, grouped, printable};
 
 /// The options of `record`.
 pub const OPTIONS: Options = Options {
     valued: &["--name", "--faults", "--depth", "--window"],
-    plain: &["--overwrite", "--quiet"],
+    plain: &["--allow-empty", "--overwrite", "--quiet"],
 };
 
 /// Frames that the simulated drive buffers.
@@ -33,24 +36,96 @@ pub fn run(arguments: &Arguments) -> Result<(), Failure> {
     let window = arguments.number("--window")?.unwrap_or(WINDOW);
     let seed = arguments.number("--faults")?;
     let name = arguments.value("--name");
-    let (inputs, total) = inputs(path, files, name)?;
+    let inputs = inputs(path, files, name)?;
     let jobs = u64::try_from(inputs.len()).unwrap_or(u64::MAX);
+    let total = known_length(&inputs);
 
     let mut cartridge = Cartridge::load(path, Access::Record, depth, seed)?;
     if !arguments.has("--overwrite") {
         refuse_content(&cartridge, path)?;
     }
+    refuse_too_much(&cartridge, path, &inputs)?;
+    tell_names_that_come_again(&inputs);
+    interruption::watch();
     let quiet = arguments.has("--quiet");
     let mut progress = Progress::new("recording", quiet);
-    let summary = cartridge.record((depth, window), Elements::new(inputs), |summary| {
+    let mut elements = Elements::new(inputs, arguments.has("--allow-empty"));
+    let summary = cartridge.record((depth, window), &mut elements, |summary| {
         let bytes = bytes_in(summary.blocks);
         progress.update(bytes, bytes, total);
     })?;
     drop(progress);
     if !quiet && std::io::stderr().is_terminal() {
         output::message(told(jobs, &summary));
+        output::message(format!("{}: {}", path.display(), cartridge.room()?));
     }
-    Ok(())
+    tell_changed(path, elements.changed())
+}
+
+/// The bytes of all inputs together, if they are known.
+fn known_length(inputs: &[Input]) -> Option<u64> {
+    inputs.iter().try_fold(0u64, |sum, input| {
+        Some(sum.saturating_add(input.description().length?))
+    })
+}
+
+/// Refuses files of known length that the cartridge has no room for.
+fn refuse_too_much(cartridge: &Cartridge, path: &Path, inputs: &[Input]) -> Result<(), Failure> {
+    let room = Room::new(cartridge.image().geometry(), None).map_err(Failure::new)?;
+    let mut needed = 0u64;
+    let mut full = None;
+    for input in inputs {
+        let length = input.description().length.unwrap_or(0);
+        needed = needed.saturating_add(frames_of_job(length));
+        if needed > room.frames {
+            full.get_or_insert(input.shown().display());
+        }
+    }
+    match full {
+        None => Ok(()),
+        Some(file) => Err(Failure::new(format!(
+            "{}: the files take {} frames, and the cartridge has at most {} ({}): \
+             it would be full in '{file}'; nothing was changed: \
+             record fewer or smaller files, or use a larger cartridge",
+            path.display(),
+            grouped(needed),
+            grouped(room.frames),
+            amount(bytes_in(room.frames)),
+        ))),
+    }
+}
+
+/// Tells jobs that have the name of an earlier one: they are recorded, but
+/// two files of one name cannot be restored to one directory.
+fn tell_names_that_come_again(inputs: &[Input]) {
+    let mut first: BTreeMap<&[u8], u64> = BTreeMap::new();
+    for (number, input) in (1..).zip(inputs) {
+        let name = input.description().name.as_slice();
+        let earlier = *first.entry(name).or_insert(number);
+        if earlier != number {
+            output::message(format!(
+                "job {number}, '{}': job {earlier} has that name too, \
+                 and 'restore --into' will pass over job {number}",
+                printable(name)
+            ));
+        }
+    }
+}
+
+/// Tells files that changed while they were recorded; it failed if any did.
+fn tell_changed(path: &Path, changed: &[String]) -> Result<(), Failure> {
+    for change in changed {
+        output::message(change);
+    }
+    match u64::try_from(changed.len()) {
+        Ok(0) => Ok(()),
+        number => Err(Failure::new(format!(
+            "{}: recorded and in force, but {} while being read; the other jobs are whole: \
+             record again when nothing writes to the files",
+            path.display(),
+            count(number.unwrap_or(u64::MAX), "file changed", "files changed"),
+        ))),
+    }
 }
 
 /// A recording starts at the first user frame: what stands there is lost.
@@ -65,12 +140,8 @@ fn refuse_content(cartridge: &Cartridge, path: &Path) -> Result<(), Failure> {
     )))
 }
 
-/// What is to be recorded, and its length if that is known.
-fn inputs(
-    image: &Path,
-    files: &[OsString],
-    name: Option<&OsStr>,
-) -> Result<(Vec<Input>, Option<u64>), Failure> {
+/// What is to be recorded.
+fn inputs(image: &Path, files: &[OsString], name: Option<&OsStr>) -> Result<Vec<Input>, Failure> {
     let streams = files.iter().filter(|file| *file == "-").count();
     if files.is_empty() {
         return Err(Failure::usage("name the files to record, or '-'"));
@@ -86,23 +157,17 @@ fn inputs(
             "standard input is a terminal: pipe something into it",
         ));
     }
-    let mut total = Some(0u64);
     let mut inputs = Vec::new();
     for file in files {
         if file == "-" {
             let name = name.unwrap_or(OsStr::new("stdin"));
             inputs.push(Input::standard_input(name)?);
-            total = None;
         } else {
             refuse_itself(image, Path::new(file))?;
-            let (input, length) = Input::file(Path::new(file))?;
-            inputs.push(input);
-            total = total
-                .zip(length)
-                .map(|(total, length)| total.saturating_add(length));
+            inputs.push(Input::file(Path::new(file))?);
         }
     }
-    Ok((inputs, total))
+    Ok(inputs)
 }
 
 /// What came of a recording, in a sentence.

@@ -15,7 +15,7 @@ use crate::cartridge::Cartridge;
 use crate::failure::Failure;
 use crate::image::{refuse_itself, Access};
 use crate::job::reading::{Event, Verdict};
-use crate::job::{is_plain_name, Description};
+use crate::job::{is_plain_name, torn, Closing, Description};
 use crate::output;
 use crate::progress::Progress;
 use crate::record::DEPTH;
@@ -57,6 +57,7 @@ pub fn run(arguments: &Arguments) -> Result<(), Failure> {
         current: None,
         written: BTreeMap::new(),
         passed_over: 0,
+        torn: 0,
     };
     let mut taker = |number: u64, event: Event<'_>| restoring.take(number, &event);
     let jobs = cartridge.read_jobs(&mut taker, &mut progress)?;
@@ -131,10 +132,12 @@ struct Restoring<'a> {
     written: BTreeMap<Vec<u8>, u64>,
     /// How many jobs were not restored, beside others that were.
     passed_over: u64,
+    /// How many jobs were restored whose files changed as they were recorded.
+    torn: u64,
 }
 
 struct Current {
-    name: Vec<u8>,
+    description: Description,
     writer: Writer,
 }
 
@@ -175,8 +178,11 @@ impl Restoring<'_> {
         }
         match self.open(description) {
             Ok(writer) => {
-                let name = name.clone();
-                self.current = Some(Current { name, writer });
+                let description = description.clone();
+                self.current = Some(Current {
+                    description,
+                    writer,
+                });
                 Ok(())
             }
             Err(failure) => self.pass_over(failure),
@@ -195,14 +201,14 @@ impl Restoring<'_> {
             Target::Directory(directory) => directory.join(own_name(&description.name)?),
         };
         refuse_itself(self.image, &path)?;
-        NewFile::open(&path, self.overwrite, description.time).map(Writer::File)
+        NewFile::open(&path, self.overwrite, description).map(Writer::File)
     }
 
     fn end(&mut self, number: u64, verdict: &Verdict) -> Result<(), Failure> {
         let current = self.current.take();
         match verdict {
-            Verdict::Whole(_) => match current {
-                Some(current) => self.keep(number, current),
+            Verdict::Whole(closing) => match current {
+                Some(current) => self.keep(number, current, closing),
                 None => Ok(()),
             },
             Verdict::Broken(why) if current.is_some() => {
@@ -223,11 +229,21 @@ impl Restoring<'_> {
         }
     }
 
-    /// Ends a job that was whole.
-    fn keep(&mut self, number: u64, current: Current) -> Result<(), Failure> {
-        match current.writer.finish() {
+    /// Ends a job that was whole. The bytes of a torn one are kept all the
+    /// same: they are what was recorded.
+    fn keep(&mut self, number: u64, current: Current, closing: &Closing) -> Result<(), Failure> {
+        let Current {
+            description,
+            writer,
+        } = current;
+        match writer.finish() {
             Ok(()) => {
-                self.written.insert(current.name, number);
+                if let Some(tear) = description.tear(closing) {
+                    let shown = self.image.display();
+                    output::message(format!("{shown}: {}", torn(number, &tear)));
+                    self.torn += 1;
+                }
+                self.written.insert(description.name, number);
                 Ok(())
             }
             Err(failure) if self.target.is_directory() => self.pass_over(failure),
@@ -253,16 +269,19 @@ impl Restoring<'_> {
     }
 
     /// Tells which jobs the cartridge, with so many, does not hold; it failed
-    /// if any was not restored.
+    /// if any was not restored, or is torn.
     fn finish(mut self, jobs: u64) -> Result<(), Failure> {
         for missing in self.wanted.missing(jobs) {
             self.pass_over(self.failure(missing))?;
         }
-        if self.passed_over == 0 {
-            return Ok(());
-        }
         let jobs = count(self.passed_over, "job was", "jobs were");
-        Err(self.failure(format!("{jobs} not restored")))
+        match (self.passed_over, self.torn) {
+            (0, 0) => Ok(()),
+            (0, _) => Err(self.failure(String::from(
+                "what was recorded is restored, but not every file as it was",
+            ))),
+            _ => Err(self.failure(format!("{jobs} not restored"))),
+        }
     }
 }
 

@@ -48,19 +48,19 @@ pub fn duration(seconds: u64) -> String {
     }
 }
 
-/// Seconds since 1970 as a date and time of day, UTC.
-pub fn date(seconds: u64) -> String {
-    let (days, second) = (seconds / 86_400, seconds % 86_400);
+/// Seconds since 1970, or before it, as a date and time of day, UTC.
+pub fn date(seconds: i64) -> String {
+    let (days, second) = (seconds.div_euclid(86_400), seconds.rem_euclid(86_400));
     let (year, month, day) = civil(days);
     let (hour, minute) = (second / 3_600, second / 60 % 60);
     format!("{year:04}-{month:02}-{day:02} {hour:02}:{minute:02}")
 }
 
 /// The year, month and day so many days after 1970-01-01.
-fn civil(days: u64) -> (u64, u64, u64) {
+fn civil(days: i64) -> (i64, i64, i64) {
     // Counted from 0000-03-01, so that a leap day is the last of its year.
     let days = days + 719_468;
-    let (era, day_of_era) = (days / 146_097, days % 146_097);
+    let (era, day_of_era) = (days.div_euclid(146_097), days.rem_euclid(146_097));
     let year_of_era =
         (day_of_era - day_of_era / 1_460 + day_of_era / 36_524 - day_of_era / 146_096) / 365;
     let day_of_year = day_of_era - (365 * year_of_era + year_of_era / 4 - year_of_era / 100);
@@ -71,7 +71,7 @@ fn civil(days: u64) -> (u64, u64, u64) {
     } else {
         shifted - 9
     };
-    let year = era * 400 + year_of_era + u64::from(month <= 2);
+    let year = era * 400 + year_of_era + i64::from(month <= 2);
     (year, month, day)
 }
 
@@ -109,6 +109,13 @@ mod tests {
         assert_eq!(date(951_782_400), "2000-02-29 00:00");
         assert_eq!(date(1_709_164_800), "2024-02-29 00:00");
         assert_eq!(date(4_102_444_799), "2099-12-31 23:59");
+        assert_eq!(date(-1), "1969-12-31 23:59");
+        assert_eq!(date(-2_203_891_200), "1900-03-01 00:00");
+        assert_eq!(date(-2_203_891_201), "1900-02-28 23:59");
+        assert_eq!(date(-62_167_219_201), "-001-12-31 23:59");
+        for extreme in [i64::MIN, i64::MAX] {
+            assert!(!date(extreme).is_empty());
+        }
     }
 
     #[test]

@@ -52,8 +52,15 @@ holds jobs is not recorded without --overwrite, which replaces all of them.
 
 The old content stays in force until the new is whole: after a power cut, on a
 full disk or when this is interrupted, the image holds what it held before.
+Room in the file that the cartridge does not need is then given back.
+
+Files that cannot fit are told before anything is written. A file that changes
+while it is recorded is told, and the exit status is then 1: the recording is
+in force, its other jobs are whole. Names that come again are told.
 
   --overwrite     replace the jobs on the cartridge
+  --allow-empty   record standard input or a pipe even if there is nothing to
+                  read, which otherwise is an error, and nothing is replaced
   --name NAME     the name of the job from standard input (stdin); it is that
                   of a file, without directories
   --faults SEED   let the drive have faults, picked by this number
@@ -66,7 +73,10 @@ full disk or when this is interrupted, the image holds what it held before.
 pub const LIST: &str = "\
 usage: adr list [OPTION...] IMAGE
 
-Lists the jobs: number, bytes, when the file was last changed (UTC), name.
+Lists the jobs: number, bytes, when the file was last changed (UTC), name. A
+job whose file shrank or grew while it was recorded is marked. Standard error
+tells the capacity and what is free; bad spots make both less. A new recording
+has all of the capacity, for it replaces the jobs.
 
 A tape has no directory: the whole recording is read, to the end of data. A
 drive would take 8 minutes for each GB, 2 hours for a full cartridge of 15 GB,
@@ -75,7 +85,7 @@ Speed Supported in ADR Commands and Logical Tape Format 1.3, 4.3.2.4).
 
   --checksums     the SHA-256 of each job too, as sha256sum prints it
   --faults SEED   let the drive have faults, picked by this number
-  --quiet         no progress on a terminal
+  --quiet         no progress on a terminal, and nothing about capacity
 ";
 
 /// The help of `restore`.
@@ -93,7 +103,9 @@ A file gets its name when it is whole; on standard output only the exit status
 tells. What cannot be restored is told and passed over, and the exit status is
 then 1: jobs that are not there, jobs of another program, jobs with the name
 of an earlier one and, with --into, files that exist and jobs that are not
-whole.
+whole. Files get the mode that was recorded, under the umask. A job whose file
+shrank or grew while it was recorded is restored and told; the exit status is
+then 1 too.
 
   --into DIRECTORY        write the jobs, or all jobs, under their own names;
                           a name that leads out of the directory is refused
@@ -108,7 +120,8 @@ pub const CHECK: &str = "\
 usage: adr check [OPTION...] IMAGE
 
 Reads every job and every frame and verifies their checksums. The exit status
-is 1 if anything is wrong; the image is never changed.
+is 1 if anything is wrong, also if a file shrank or grew while it was recorded;
+the image is never changed.
 
   --faults SEED   let the drive have faults, picked by this number
   --quiet         no progress on a terminal

@@ -3,10 +3,15 @@
 use std::fs::File;
 use std::io::{self, Write};
 use std::path::{Path, PathBuf};
-use std::time::{Duration, UNIX_EPOCH};
 
 use crate::failure::Failure;
+use crate::job::Description;
 use crate::part::Part;
+use crate::timestamp::Timestamp;
+
+/// The bits of a mode that are restored: set-user-ID, set-group-ID and sticky
+/// ones are not, for whoever restores a file is not always who recorded it.
+const RESTORED_MODE: u16 = 0o777;
 
 /// Where a job's bytes go.
 pub enum Writer {
@@ -22,8 +27,8 @@ pub enum Writer {
 pub struct NewFile {
     part: Part,
     overwrite: bool,
-    /// When the recorded file was last changed, in seconds since 1970.
-    time: u64,
+    /// When the recorded file was last changed.
+    time: Timestamp,
 }
 
 impl Writer {
@@ -53,18 +58,25 @@ impl Writer {
 }
 
 impl NewFile {
-    /// Creates the file: nothing that its name leads to is followed or
-    /// written over.
-    pub fn open(path: &Path, overwrite: bool, time: u64) -> Result<NewFile, Failure> {
+    /// Creates the file, with the mode that is recorded under the umask:
+    /// nothing that its name leads to is followed or written over.
+    pub fn open(
+        path: &Path,
+        overwrite: bool,
+        description: &Description,
+    ) -> Result<NewFile, Failure> {
         // Told before the tape is read to the job's end.
         if !overwrite && path.symlink_metadata().is_ok() {
             return Err(exists(path));
         }
-        let part = Part::create(path).map_err(|error| Failure::of_file(path, &error))?;
+        let part = match description.mode {
+            Some(mode) => Part::create_with_mode(path, u32::from(mode & RESTORED_MODE)),
+            None => Part::create(path),
+        };
         Ok(NewFile {
-            part,
+            part: part.map_err(|error| Failure::of_file(path, &error))?,
             overwrite,
-            time,
+            time: description.time,
         })
     }
 
@@ -74,7 +86,7 @@ impl NewFile {
     }
 
     fn finish(mut self) -> Result<(), Failure> {
-        if let Some(time) = UNIX_EPOCH.checked_add(Duration::from_secs(self.time)) {
+        if let Some(time) = self.time.system_time() {
             // A file system that cannot keep it keeps the bytes all the same.
             let _ = self.part.file().set_modified(time);
         }

@@ -20,6 +20,7 @@ fn what_nobody_gets() {
         "restore a.adr 1",
         "restore a.adr 1 --output -",
         "list a.adr",
+        "check a.adr",
         "map a.adr",
         "map a.adr --svg -",
         "--version",
@@ -29,8 +30,8 @@ fn what_nobody_gets() {
             let told = "adr: standard output is closed or opened for reading: ";
             assert!(refused.error.starts_with(told), "{line}: {}", refused.error);
         }
-        // Nobody gets the first of these either, but that is asked for.
-        for open in [">/dev/null", ">new", "1<>new", "| cat"] {
+        // Nobody gets the first two of these either, but that is asked for.
+        for open in [">/dev/null", "1<>/dev/null", ">new", "1<>new", "| cat"] {
             place.shell(&format!("$ADR {line} {open}")).succeeded();
         }
     }
@@ -40,7 +41,6 @@ fn what_nobody_gets() {
 fn what_nobody_needs() {
     let place = recorded("needless");
     for line in [
-        "check a.adr",
         "restore a.adr 1 --output again",
         "restore a.adr --into out",
         "record --overwrite a.adr file",

@@ -4,14 +4,13 @@
 mod place;
 
 use std::fs::OpenOptions;
-use std::io::Write;
-use std::process::{Child, Stdio};
+use std::process::Stdio;
 
 use place::image::{
     cells_with, crc, entries, index_of, newer_root, number, seal_description, seal_index,
-    seal_roots, set_number, CELL, CELLS, PAGE, ROOTS,
+    seal_roots, set_number, CELL, CELLS, DESCRIPTION, PAGE, ROOTS,
 };
-use place::{bytes, Place};
+use place::{bytes, feed, Place};
 
 /// Commands that have nothing but an image to work on.
 const ON_AN_IMAGE: [&[&str]; 5] = [
@@ -182,7 +181,7 @@ fn names_from_a_tape() {
     let place = recorded("tape-names");
     place.directory("out");
     let image = place.read("a.adr");
-    let start = cells_with(&image, b"ADRJOB 1")[0];
+    let start = cells_with(&image, DESCRIPTION)[0];
     assert_eq!(image[start + 24..start + 30], *b"\0\x04file");
     for name in [&b"../x"[..], b"a/bc", b"..", b".", b"", b"/tmp", b"a\0bc"] {
         let mut altered = image.clone();
@@ -207,7 +206,7 @@ fn foreign_jobs() {
     place.adr(&["format", "--overwrite", "a.adr"]).succeeded();
     place.adr(&["record", "a.adr", "file", "new"]).succeeded();
     let mut image = place.read("a.adr");
-    let starts = cells_with(&image, b"ADRJOB 1");
+    let starts = cells_with(&image, DESCRIPTION);
     let start = starts.into_iter().find(|start| image[start + 26] == b'f');
     let start = start.expect("the job of 'file'");
     image[start] = b'a';
@@ -356,18 +355,6 @@ fn killed_while_recording() {
     place.adr(&["check", "a.adr"]).succeeded();
 }
 
-/// Gives a child some bytes, and keeps its input open.
-fn feed(child: &mut Child, amount: usize) {
-    let input = child.stdin.as_mut().expect("a pipe");
-    let some = bytes(40_000, 7);
-    let mut left = amount;
-    while left > 0 {
-        let part = &some[..left.min(some.len())];
-        input.write_all(part).expect("it reads");
-        left -= part.len();
-    }
-}
-
 #[track_caller]
 fn old_content_stands(place: &Place) {
     let restored = place.adr(&["restore", "a.adr", "1"]).succeeded();
@@ -427,45 +414,63 @@ fn input_that_fails() {
 
 /// A power cut leaves some of the pages written since the last time the file
 /// was brought to disk, in any order. A root is written after all else was
-/// brought there, and the second root after the first was.
+/// brought there, and the second root after the first was. What the old
+/// content alone used is given back after that: by holes in the first round,
+/// by a shorter file in the second.
 #[test]
 fn power_cut() {
     let place = recorded("power");
-    let (old, new) = (place.read("file"), place.read("new"));
-    let before = place.read("a.adr");
-    place
-        .adr(&["record", "--overwrite", "a.adr", "new"])
-        .succeeded();
-    let after = place.read("a.adr");
-    let changed: Vec<usize> = (3..after.len() / PAGE)
-        .filter(|page| part(&before, *page) != Some(page_of(&after, *page)))
-        .collect();
-    assert!(changed.len() > 50);
+    let mut random = adr_model::random::Random::new(1);
+    for (old, new) in [("file", "new"), ("new", "file")] {
+        let before = place.read("a.adr");
+        place
+            .adr(&["record", "--overwrite", "a.adr", new])
+            .succeeded();
+        let after = place.read("a.adr");
+        power_cuts(&place, (old, new), &before, &after, &mut random);
+        place.write("a.adr", &after);
+    }
+}
+
+fn power_cuts(
+    place: &Place,
+    (old, new): (&str, &str),
+    before: &[u8],
+    after: &[u8],
+    random: &mut adr_model::random::Random,
+) {
+    let (old, new) = (place.read(old), place.read(new));
     let restored = |image: &[u8]| {
         place.write("a.adr", image);
         place.adr(&["restore", "a.adr", "1"]).succeeded().output
     };
+    let pages = 3..before.len().max(after.len()) / PAGE;
+    let differs = |page: &usize| part(before, *page) != part(after, *page);
+    let (given_back, written): (Vec<usize>, Vec<usize>) = pages
+        .filter(differs)
+        .partition(|page| part(after, *page).is_none_or(|content| content == [0; PAGE]));
+    assert!(written.len() > 50 && given_back.len() > 50);
 
-    let mut random = adr_model::random::Random::new(1);
-    let mut image = before.clone();
+    let mut image = before.to_vec();
     for _ in 0..40 {
-        image.clone_from(&before);
-        for page in changed.iter().filter(|_| random.chance(500)) {
-            put(&mut image, *page, page_of(&after, *page));
+        image.clear();
+        image.extend(before);
+        for page in written.iter().filter(|_| random.chance(500)) {
+            put(&mut image, *page, page_of(after, *page));
         }
         assert_eq!(restored(&image), old);
         place.adr(&["check", "a.adr"]).succeeded();
     }
-    for page in &changed {
-        put(&mut image, *page, page_of(&after, *page));
+    for page in &written {
+        put(&mut image, *page, page_of(after, *page));
     }
     assert_eq!(restored(&image), old);
     let first = ROOTS
         .into_iter()
-        .min_by_key(|root| number(&before, root + 8));
+        .min_by_key(|root| number(before, root + 8));
     let second = ROOTS
         .into_iter()
-        .max_by_key(|root| number(&before, root + 8));
+        .max_by_key(|root| number(before, root + 8));
     for (root, earlier) in [(first, &old), (second, &new)] {
         let root = root.expect("a root");
         for torn in (0..=PAGE).step_by(128) {
@@ -474,9 +479,17 @@ fn power_cut() {
             let restored = restored(&image);
             assert!(restored == *earlier || restored == new, "{root} {torn}");
         }
-        put(&mut image, root / PAGE, page_of(&after, root / PAGE));
+        put(&mut image, root / PAGE, page_of(after, root / PAGE));
         assert_eq!(restored(&image), new);
     }
+    for part in given_back.chunks(given_back.len() / 4) {
+        for page in part {
+            put(&mut image, *page, &[0; PAGE]);
+        }
+        assert_eq!(restored(&image), new);
+        place.adr(&["check", "a.adr"]).succeeded();
+    }
+    image.truncate(after.len());
     assert!(image == after);
 }
 

@@ -4,7 +4,7 @@ mod place;
 
 use std::fs;
 
-use place::image::{cells_with, seal_description, seal_frame};
+use place::image::{cells_with, seal_description, seal_frame, DESCRIPTION};
 use place::{bytes, Place, Ran};
 
 /// Bytes of each job, which go into one frame.
@@ -182,7 +182,7 @@ fn jobs_that_are_not_whole_are_passed_over() {
 fn jobs_without_a_file_are_passed_over() {
     let place = recorded("several-strange");
     let mut image = place.read("a.adr");
-    for start in cells_with(&image, b"ADRJOB 1") {
+    for start in cells_with(&image, DESCRIPTION) {
         match image[start + 26] {
             b'7' => image[start + 26] = b'.',
             b'g' => image[start] = b'a',

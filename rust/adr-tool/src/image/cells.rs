@@ -1,6 +1,7 @@
 //! The cells that a recording may write to.
 
 use std::collections::BTreeSet;
+use std::ops::Range;
 
 /// Cells for a recording: none that the content in force uses.
 ///
@@ -13,18 +14,15 @@ pub struct Cells {
     next: u64,
     /// Taken, and no longer needed.
     returned: BTreeSet<u64>,
-    /// The first behind all that are used.
-    end: u64,
 }
 
 impl Cells {
-    /// All cells but those in use, which lie below `end`.
-    pub fn new(used: BTreeSet<u64>, end: u64) -> Cells {
+    /// All cells but those in use.
+    pub fn new(used: BTreeSet<u64>) -> Cells {
         Cells {
             used,
             next: 0,
             returned: BTreeSet::new(),
-            end,
         }
     }
 
@@ -38,7 +36,6 @@ impl Cells {
         }
         let cell = self.next;
         self.next = cell.saturating_add(1);
-        self.end = self.end.max(self.next);
         cell
     }
 
@@ -50,9 +47,23 @@ impl Cells {
         }
     }
 
-    /// The first cell behind all that are used.
-    pub fn end(&self) -> u64 {
-        self.end
+    /// The first cell behind all that were taken.
+    pub fn taken_end(&self) -> u64 {
+        self.next
+    }
+
+    /// The stretches of cells below `end` that the content in force does not
+    /// use.
+    pub fn unused(&self, end: u64) -> Vec<Range<u64>> {
+        let mut stretches = Vec::new();
+        let mut start = 0;
+        for cell in self.used.range(..end).copied().chain([end]) {
+            if start < cell {
+                stretches.push(start..cell);
+            }
+            start = cell.saturating_add(1);
+        }
+        stretches
     }
 }
 
@@ -62,12 +73,14 @@ mod tests {
 
     #[test]
     fn used_cells_are_left_alone() {
-        let mut cells = Cells::new([0, 2, 3].into(), 5);
-        assert_eq!([cells.take(), cells.take()], [1, 4]);
-        assert_eq!((cells.end(), cells.take()), (5, 5));
+        let mut cells = Cells::new([0, 2, 3].into());
+        assert_eq!([cells.take(), cells.take(), cells.take()], [1, 4, 5]);
         cells.give_back(4);
         cells.give_back(3);
         assert_eq!([cells.take(), cells.take()], [4, 6]);
-        assert_eq!(cells.end(), 7);
+        assert_eq!(cells.taken_end(), 7);
+        assert_eq!(cells.unused(7), [1..2, 4..7]);
+        assert_eq!(cells.unused(5), [1..2, 4..5]);
+        assert_eq!(cells.unused(0), []);
     }
 }

@@ -8,7 +8,7 @@ use std::path::Path;
 
 use adr_tape::Geometry;
 
-use super::index::{cells_for, Index, Reading};
+use super::index::{cells_for, frame_cells, Index, Reading};
 use super::layout::{self, Root, WrongHead, CELL, PAGE, ROOTS};
 use crate::failure::Failure;
 
@@ -23,6 +23,8 @@ pub struct Content {
     pub slot: usize,
     /// Whether the other one is whole too.
     pub both_roots: bool,
+    /// Whether the other one is whole and leads to the same content.
+    pub roots_agree: bool,
     /// What is known of each address.
     pub index: Index,
 }
@@ -42,17 +44,18 @@ impl Content {
             roots.extend(Root::read(&page).map(|root| (slot, root)));
         }
         let both_roots = roots.len() == ROOTS.len();
-        let newest = roots.into_iter().max_by_key(|(_, root)| root.generation);
+        let newest = roots.iter().max_by_key(|(_, root)| root.generation);
+        let newest = newest.copied();
         let Some((slot, root)) = newest else {
             return Err(damaged(path, "both of its roots are damaged"));
         };
+        let roots_agree = both_roots && roots.iter().all(|(_, other)| root.leads_where(other));
         // Where the last cell in use ends, the one behind it would start.
         if layout::cell_offset(root.cells).is_none_or(|needed| needed > length) {
             return Err(truncated(path));
         }
         let (index, mut cells) = read_index(path, file, &root)?;
-        let places = index.values().filter_map(|entry| entry.place);
-        cells.extend(places.map(|place| place.cell));
+        cells.extend(frame_cells(&index));
         if cells.last().is_some_and(|last| *last >= root.cells) {
             return Err(outside(path));
         }
@@ -61,6 +64,7 @@ impl Content {
             root,
             slot,
             both_roots,
+            roots_agree,
             index,
         };
         Ok((content, cells))

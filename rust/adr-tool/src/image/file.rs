@@ -30,14 +30,19 @@ pub fn open(path: &Path, access: Access) -> Result<(File, u64), Failure> {
     // What another process wrote before this lock counts; one that replaced
     // the file left this one without a name.
     let metadata = file.metadata().map_err(of_file)?;
-    let named = std::fs::metadata(path).map_err(of_file)?;
-    if identity(&metadata) != identity(&named) {
+    if !has_name(&file, path).map_err(of_file)? {
         return Err(Failure::new(format!(
             "{}: replaced by another 'adr' meanwhile; try again",
             path.display()
         )));
     }
     Ok((file, metadata.len()))
+}
+
+/// Whether a path leads to this file and to no other.
+pub fn has_name(file: &File, path: &Path) -> io::Result<bool> {
+    let named = std::fs::metadata(path)?;
+    Ok(identity(&file.metadata()?) == identity(&named))
 }
 
 /// Opens a file that is no directory, pipe, socket or device. It is looked at

@@ -38,6 +38,12 @@ pub struct Entry {
 /// What is known of each address; nothing reads at one that is not named.
 pub type Index = BTreeMap<u32, Entry>;
 
+/// The cells that frames are kept in.
+pub fn frame_cells(index: &Index) -> impl Iterator<Item = u64> + '_ {
+    let places = index.values().filter_map(|entry| entry.place);
+    places.map(|place| place.cell)
+}
+
 /// The cells that this many entries take.
 pub fn cells_for(entries: u64) -> u64 {
     entries.div_ceil(u64::try_from(PER_CELL).unwrap_or(u64::MAX))

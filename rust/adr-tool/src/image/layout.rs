@@ -156,6 +156,15 @@ impl Root {
         page
     }
 
+    /// Whether another root leads to the same content.
+    pub fn leads_where(&self, other: &Root) -> bool {
+        let same_generation = Root {
+            generation: self.generation,
+            ..*other
+        };
+        *self == same_generation
+    }
+
     /// The root with these bytes, none if they are damaged.
     pub fn read(page: &[u8; PAGE]) -> Option<Root> {
         let whole = page.starts_with(&ROOT_MAGIC) && is_sealed(page);

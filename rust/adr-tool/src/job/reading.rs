@@ -184,6 +184,7 @@ impl Own {
 mod tests {
     use super::super::source::{Elements, Input};
     use super::*;
+    use crate::timestamp::Timestamp;
     use adr_tape::BLOCK_LENGTH;
 
     fn elements(files: &[Vec<u8>]) -> Vec<Element<'static>> {
@@ -192,13 +193,14 @@ mod tests {
             .map(|bytes| {
                 let description = Description {
                     name: b"file".to_vec(),
-                    time: 0,
+                    time: Timestamp::of_seconds(0),
                     length: None,
+                    mode: None,
                 };
                 Input::bytes(description, std::io::Cursor::new(bytes.clone()))
             })
             .collect();
-        let elements: Result<Vec<_>, Failure> = Elements::new(inputs).collect();
+        let elements: Result<Vec<_>, Failure> = Elements::new(inputs, true).collect();
         elements.expect("bytes at hand")
     }
 

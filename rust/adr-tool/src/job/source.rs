@@ -2,76 +2,111 @@
 
 use std::collections::VecDeque;
 use std::ffi::OsStr;
-use std::fs::File;
+use std::fs::{File, Metadata};
 use std::io::{self, Read};
+use std::os::fd::AsFd;
 use std::os::unix::ffi::OsStrExt;
+use std::os::unix::fs::PermissionsExt;
 use std::path::{Path, PathBuf};
 use std::time::{SystemTime, UNIX_EPOCH};
 
 use adr_tape::{Element, BLOCK_LENGTH};
 
-use super::{is_plain_name, Closing, Description, LONGEST_NAME};
+use super::{is_plain_name, Closing, Description, LONGEST_NAME, PERMISSIONS};
 use crate::digest::Sha256;
 use crate::failure::Failure;
+use crate::interruption::{self, Stream};
+use crate::timestamp::Timestamp;
 
-/// What a job's bytes come from.
-pub enum Input {
-    /// A regular file, opened when its turn comes.
-    File(PathBuf),
-    /// Bytes that can be read once, with what they are called in messages.
-    Stream(PathBuf, Description, Box<dyn Read>),
+/// What a job is made of.
+pub struct Input {
+    /// What it is called in messages; a file's path.
+    shown: PathBuf,
+    description: Description,
+    bytes: Bytes,
+}
+
+enum Bytes {
+    /// A regular file's, which is opened when its turn comes.
+    File,
+    /// They can be read once.
+    Stream(Box<dyn Read>),
 }
 
 impl Input {
-    /// The file at a path, after a look at it, and its length if that is
-    /// known: what cannot be recorded is told before the first frame is
-    /// written.
-    pub fn file(path: &Path) -> Result<(Input, Option<u64>), Failure> {
+    /// The file at a path, after a look at it: what cannot be recorded is
+    /// told before the first frame is written.
+    pub fn file(path: &Path) -> Result<Input, Failure> {
         let file = open(path)?;
         let description = describe(path, &file)?;
-        let length = description.length;
-        let input = match length {
-            Some(_) => Input::File(path.to_path_buf()),
+        let bytes = match description.length {
+            Some(_) => Bytes::File,
             // A pipe that is opened twice has lost its writer.
-            None => Input::Stream(path.to_path_buf(), description, Box::new(file)),
+            None => Bytes::Stream(Box::new(Stream(file))),
         };
-        Ok((input, length))
+        Ok(Input {
+            shown: path.to_path_buf(),
+            description,
+            bytes,
+        })
     }
 
     /// Standard input.
     pub fn standard_input(name: &OsStr) -> Result<Input, Failure> {
         let description = Description {
             name: job_name(name)?,
-            time: seconds(SystemTime::now()),
+            time: SystemTime::now().into(),
             length: None,
+            mode: None,
         };
-        Ok(Input::bytes(description, io::stdin()))
+        let shown = Path::new("standard input");
+        let file = io::stdin().as_fd().try_clone_to_owned();
+        let file = file.map_err(|error| Failure::of_file(shown, &error))?;
+        Ok(Input {
+            shown: shown.to_path_buf(),
+            ..Input::bytes(description, Stream(file.into()))
+        })
     }
 
     /// Bytes under a description.
     pub fn bytes(description: Description, bytes: impl Read + 'static) -> Input {
-        Input::Stream(
-            PathBuf::from("standard input"),
+        Input {
+            shown: PathBuf::from(OsStr::from_bytes(&description.name)),
             description,
-            Box::new(bytes),
-        )
+            bytes: Bytes::Stream(Box::new(bytes)),
+        }
+    }
+
+    /// What it is called in messages.
+    pub fn shown(&self) -> &Path {
+        &self.shown
+    }
+
+    /// What is known of it before it is read.
+    pub fn description(&self) -> &Description {
+        &self.description
     }
 
     fn open(self) -> Result<Job, Failure> {
-        let (shown, description, bytes): (_, _, Box<dyn Read>) = match self {
-            Input::File(path) => {
-                let file = open(&path)?;
-                (path.clone(), describe(&path, &file)?, Box::new(file))
+        let (description, bytes, file): (_, Box<dyn Read>, _) = match self.bytes {
+            Bytes::File => {
+                let file = open(&self.shown)?;
+                let again = file.try_clone();
+                let again = again.map_err(|error| Failure::of_file(&self.shown, &error))?;
+                let description = describe(&self.shown, &file)?;
+                (description, Box::new(file), Some(again))
             }
-            Input::Stream(shown, description, bytes) => (shown, description, bytes),
+            Bytes::Stream(bytes) => (self.description, bytes, None),
         };
         Ok(Job {
-            shown,
+            shown: self.shown,
             bytes,
-            description: Some(description),
+            file,
+            description,
+            stage: Stage::Description,
             digest: Sha256::new(),
             length: 0,
-            closed: false,
+            change: None,
         })
     }
 }
@@ -90,11 +125,22 @@ fn describe(path: &Path, file: &File) -> Result<Description, Failure> {
         )));
     }
     let name = path.file_name().unwrap_or(path.as_os_str());
+    let regular = metadata.is_file();
     Ok(Description {
         name: job_name(name)?,
-        time: seconds(metadata.modified().unwrap_or(UNIX_EPOCH)),
-        length: metadata.is_file().then_some(metadata.len()),
+        time: changed(&metadata),
+        length: regular.then_some(metadata.len()),
+        mode: regular.then(|| permissions(&metadata)),
     })
+}
+
+fn changed(metadata: &Metadata) -> Timestamp {
+    metadata.modified().unwrap_or(UNIX_EPOCH).into()
+}
+
+fn permissions(metadata: &Metadata) -> u16 {
+    let bits = metadata.permissions().mode() & u32::from(PERMISSIONS);
+    u16::try_from(bits).unwrap_or(0)
 }
 
 fn job_name(name: &OsStr) -> Result<Vec<u8>, Failure> {
@@ -113,57 +159,83 @@ fn job_name(name: &OsStr) -> Result<Vec<u8>, Failure> {
     Ok(name.to_vec())
 }
 
-fn seconds(time: SystemTime) -> u64 {
-    let since = time.duration_since(UNIX_EPOCH);
-    since.map_or(0, |since| since.as_secs())
-}
-
 /// A job under way.
 struct Job {
     shown: PathBuf,
     bytes: Box<dyn Read>,
-    /// Until it is sent.
-    description: Option<Description>,
+    /// A regular file, to be looked at again when it was read.
+    file: Option<File>,
+    description: Description,
+    stage: Stage,
     digest: Sha256,
     length: u64,
-    closed: bool,
+    /// How the file changed while it was read, if it did.
+    change: Option<String>,
+}
+
+/// What a job sends next.
+enum Stage {
+    Description,
+    Data,
+    Filemark,
 }
 
 impl Job {
     /// The next element; the last is a filemark.
-    fn next(&mut self) -> Result<Element<'static>, Failure> {
-        if let Some(description) = self.description.take() {
-            return Ok(description.block().into());
+    fn next(&mut self, allow_empty: bool) -> Result<Element<'static>, Failure> {
+        match self.stage {
+            Stage::Description => {
+                self.stage = Stage::Data;
+                Ok(self.description.block().into())
+            }
+            Stage::Data => self.data(allow_empty),
+            Stage::Filemark => Ok(Element::Filemark),
         }
-        if self.closed {
-            return Ok(Element::Filemark);
-        }
+    }
+
+    /// A block of data, or the closing behind the last of them.
+    fn data(&mut self, allow_empty: bool) -> Result<Element<'static>, Failure> {
         let mut block = vec![0; BLOCK_LENGTH];
-        let filled = fill(&mut self.bytes, &mut block);
-        let filled = filled.map_err(|error| Failure::of_file(&self.shown, &error))?;
-        if filled == 0 {
-            self.closed = true;
-            let closing = Closing {
-                length: self.length,
-                digest: std::mem::replace(&mut self.digest, Sha256::new()).finish(),
-            };
-            return Ok(closing.block().into());
-        }
+        let filled = fill(&self.shown, &mut self.bytes, &mut block)?;
         self.digest.add(block.get(..filled).unwrap_or(&[]));
         self.length += u64::try_from(filled).unwrap_or(0);
-        Ok(block.into())
+        if filled > 0 {
+            return Ok(block.into());
+        }
+        if self.length == 0 && self.file.is_none() && !allow_empty {
+            return Err(Failure::new(format!(
+                "{}: there is nothing to read: see why, \
+                 or record an empty job with '--allow-empty'",
+                self.shown.display()
+            )));
+        }
+        self.stage = Stage::Filemark;
+        let closing = Closing {
+            length: self.length,
+            digest: std::mem::replace(&mut self.digest, Sha256::new()).finish(),
+        };
+        let tear = self.description.tear(&closing);
+        self.change = tear.or_else(|| self.touched());
+        Ok(closing.block().into())
+    }
+
+    /// Tells a file that was written to while it was read, at one length.
+    fn touched(&self) -> Option<String> {
+        let metadata = self.file.as_ref()?.metadata().ok()?;
+        let same = changed(&metadata) == self.description.time;
+        (!same).then(|| String::from("changed while it was recorded"))
     }
 }
 
 /// Reads until a block is full or nothing more comes.
-fn fill(bytes: &mut dyn Read, block: &mut [u8]) -> io::Result<usize> {
+fn fill(shown: &Path, bytes: &mut dyn Read, block: &mut [u8]) -> Result<usize, Failure> {
     let mut filled = 0;
     while let Some(rest) = block.get_mut(filled..).filter(|rest| !rest.is_empty()) {
         match bytes.read(rest) {
             Ok(0) => break,
             Ok(count) => filled += count,
-            Err(error) if error.kind() == io::ErrorKind::Interrupted => {}
-            Err(error) => return Err(error),
+            Err(error) if error.kind() == io::ErrorKind::Interrupted => interruption::check()?,
+            Err(error) => return Err(Failure::of_file(shown, &error)),
         }
     }
     Ok(filled)
@@ -173,15 +245,51 @@ fn fill(bytes: &mut dyn Read, block: &mut [u8]) -> io::Result<usize> {
 pub struct Elements {
     waiting: VecDeque<Input>,
     current: Option<Job>,
+    allow_empty: bool,
+    /// Jobs begun.
+    begun: u64,
+    changed: Vec<String>,
 }
 
 impl Elements {
-    /// The elements of these inputs.
-    pub fn new(inputs: Vec<Input>) -> Elements {
+    /// The elements of these inputs. A stream with nothing to read is a
+    /// failure, unless empty ones are allowed.
+    pub fn new(inputs: Vec<Input>, allow_empty: bool) -> Elements {
         Elements {
             waiting: inputs.into(),
             current: None,
+            allow_empty,
+            begun: 0,
+            changed: Vec::new(),
         }
+    }
+
+    /// The files that changed while they were read, and how.
+    pub fn changed(&self) -> &[String] {
+        &self.changed
+    }
+
+    fn current(&mut self) -> Option<Result<Job, Failure>> {
+        if let Some(job) = self.current.take() {
+            return Some(Ok(job));
+        }
+        let input = self.waiting.pop_front()?;
+        self.begun += 1;
+        Some(input.open())
+    }
+
+    fn element_of(&mut self, mut job: Job) -> Result<Element<'static>, Failure> {
+        interruption::check()?;
+        let element = job.next(self.allow_empty)?;
+        if let Some(change) = job.change.take() {
+            let (shown, number) = (job.shown.display(), self.begun);
+            self.changed
+                .push(format!("{shown}: {change}, as job {number}"));
+        }
+        if element != Element::Filemark {
+            self.current = Some(job);
+        }
+        Ok(element)
     }
 }
 
@@ -189,17 +297,68 @@ impl Iterator for Elements {
     type Item = Result<Element<'static>, Failure>;
 
     fn next(&mut self) -> Option<Self::Item> {
-        let mut job = match self.current.take() {
-            Some(job) => job,
-            None => match self.waiting.pop_front()?.open() {
-                Ok(job) => job,
-                Err(failure) => return Some(Err(failure)),
-            },
+        let job = self.current()?;
+        Some(job.and_then(|job| self.element_of(job)))
+    }
+}
+
+#[cfg(test)]
+mod tests {
+    use super::*;
+    use std::io::Write;
+
+    /// How a file of 100,000 bytes is told that something happens to after
+    /// its first block was sent.
+    fn told(name: &str, happens: impl FnOnce(&mut File)) -> Vec<String> {
+        let path = format!("adr-source-{name}-{}", std::process::id());
+        let path = std::env::temp_dir().join(path);
+        std::fs::write(&path, vec![7; 100_000]).expect("room for a file");
+        let mut file = File::options().append(true).open(&path).expect("it");
+        let inputs = vec![Input::file(&path).expect("a file")];
+        let mut elements = Elements::new(inputs, false);
+        assert!(elements.next().is_some_and(|element| element.is_ok()));
+        assert!(elements.next().is_some_and(|element| element.is_ok()));
+        happens(&mut file);
+        assert!(elements.by_ref().all(|element| element.is_ok()));
+        std::fs::remove_file(&path).expect("it");
+        let shown = format!("{}: ", path.display());
+        let told = elements.changed().iter();
+        told.map(|change| change.replace(&shown, "")).collect()
+    }
+
+    #[test]
+    fn files_that_change() {
+        assert_eq!(told("same", |_| {}), [""; 0]);
+        assert_eq!(
+            told("shrinks", |file| file.set_len(50_000).expect("room")),
+            ["shrank from 100,000 to 50,000 bytes while it was recorded, as job 1"]
+        );
+        assert_eq!(
+            told("grows", |file| file.write_all(b"more").expect("room")),
+            ["grew from 100,000 to 100,004 bytes while it was recorded, as job 1"]
+        );
+        assert_eq!(
+            told("touched", |file| file.set_modified(UNIX_EPOCH).expect("it")),
+            ["changed while it was recorded, as job 1"]
+        );
+    }
+
+    #[test]
+    fn streams_with_nothing_to_read() {
+        let elements = |allow_empty| {
+            let description = Description {
+                name: b"stream".to_vec(),
+                time: Timestamp::of_seconds(0),
+                length: None,
+                mode: None,
+            };
+            let inputs = vec![Input::bytes(description, io::empty())];
+            let elements = Elements::new(inputs, allow_empty);
+            elements.take(9).map(|element| element.is_ok()).collect()
         };
-        let element = job.next();
-        if !matches!(element, Ok(Element::Filemark)) {
-            self.current = Some(job);
-        }
-        Some(element)
+        let sent: Vec<bool> = elements(true);
+        assert_eq!(sent, [true, true, true]);
+        let sent: Vec<bool> = elements(false);
+        assert_eq!(sent, [true, false]);
     }
 }

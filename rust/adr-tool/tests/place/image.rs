@@ -5,6 +5,9 @@ pub const ROOTS: [usize; 2] = [4_096, 8_192];
 pub const CELLS: usize = 12_288;
 pub const CELL: usize = 36_864;
 
+/// How the first block of a job starts.
+pub const DESCRIPTION: &[u8] = b"ADRJOB 2";
+
 const FRAME: usize = 33_280;
 const BLOCK: usize = 32_768;
 /// Where an index cell's entries start, and their length.

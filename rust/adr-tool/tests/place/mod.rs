@@ -3,8 +3,9 @@
 
 pub mod image;
 
+use std::io::Write;
 use std::path::PathBuf;
-use std::process::{Command, Output, Stdio};
+use std::process::{Child, Command, Output, Stdio};
 
 /// The tool.
 pub const ADR: &str = env!("CARGO_BIN_EXE_adr");
@@ -84,7 +85,7 @@ impl Drop for Place {
 }
 
 impl Ran {
-    fn of(output: Output) -> Ran {
+    pub fn of(output: Output) -> Ran {
         Ran {
             status: output.status.code(),
             output: output.stdout,
@@ -116,4 +117,16 @@ impl Ran {
 pub fn bytes(length: usize, seed: u64) -> Vec<u8> {
     let mut random = adr_model::random::Random::new(seed);
     (0..length).map(|_| random.byte()).collect()
+}
+
+/// Gives a child some bytes, and keeps its input open.
+pub fn feed(child: &mut Child, amount: usize) {
+    let input = child.stdin.as_mut().expect("a pipe");
+    let some = bytes(40_000, 7);
+    let mut left = amount;
+    while left > 0 {
+        let part = &some[..left.min(some.len())];
+        input.write_all(part).expect("it reads");
+        left -= part.len();
+    }
 }

@@ -1,0 +1,87 @@
+//! How much a cartridge holds, and how much of that is free.
+
+use std::fmt;
+use std::ops::Range;
+
+use adr_tape::{Address, Geometry, Refusal, BLOCK_LENGTH};
+
+use crate::cartridge::bytes_in;
+use crate::text::amount;
+
+/// The first user frame.
+const FIRST: u64 = 10;
+/// The addresses between the user frames.
+const GAP: Range<u64> = 2_990..3_000;
+/// The frame that tells the end of data.
+const END_OF_DATA: u64 = 1;
+/// A job's first block, its last block and its filemark.
+const AROUND_DATA: u64 = 3;
+
+/// Bytes of a block.
+const BLOCK: u64 = BLOCK_LENGTH as u64;
+
+/// The frames that a job of so many bytes takes.
+pub fn frames_of_job(length: u64) -> u64 {
+    length.div_ceil(BLOCK).saturating_add(AROUND_DATA)
+}
+
+/// The frames of a cartridge that jobs may take. Bad spots make them fewer.
+#[derive(Clone, Copy, Debug, PartialEq, Eq)]
+pub struct Room {
+    /// All of them.
+    pub frames: u64,
+    /// Those before the end of data.
+    used: u64,
+}
+
+impl Room {
+    /// The room of a cartridge whose data end at this address, if it has any.
+    pub fn new(geometry: Geometry, end: Option<Address>) -> Result<Room, Refusal> {
+        let behind_last = u64::from(geometry.last()?.0) + 1;
+        let end = end.map_or(0, |end| u64::from(end.0));
+        Ok(Room {
+            frames: user_frames_below(behind_last).saturating_sub(END_OF_DATA),
+            used: user_frames_below(end),
+        })
+    }
+}
+
+impl fmt::Display for Room {
+    fn fmt(&self, formatter: &mut fmt::Formatter<'_>) -> fmt::Result {
+        write!(
+            formatter,
+            "capacity at most {}: {} used, at most {} free",
+            amount(bytes_in(self.frames)),
+            amount(bytes_in(self.used)),
+            amount(bytes_in(self.frames.saturating_sub(self.used))),
+        )
+    }
+}
+
+fn user_frames_below(address: u64) -> u64 {
+    let in_gap = address.clamp(GAP.start, GAP.end) - GAP.start;
+    address.saturating_sub(FIRST + in_gap)
+}
+
+#[cfg(test)]
+mod tests {
+    use super::*;
+
+    #[test]
+    fn frames() {
+        for (below, frames) in [
+            (0, 0),
+            (10, 0),
+            (11, 1),
+            (2_990, 2_980),
+            (2_995, 2_980),
+            (3_000, 2_980),
+            (3_001, 2_981),
+        ] {
+            assert_eq!(user_frames_below(below), frames, "below {below}");
+        }
+        for (length, frames) in [(0, 3), (1, 4), (BLOCK, 4), (BLOCK + 1, 5)] {
+            assert_eq!(frames_of_job(length), frames, "{length} bytes");
+        }
+    }
+}
