@@ -13,6 +13,7 @@ mod cells;
 mod content;
 mod file;
 mod index;
+mod label;
 mod layout;
 mod making;
 
@@ -31,6 +32,7 @@ use crate::failure::{reason, Failure};
 use cells::Cells;
 use content::Content;
 use index::{Entry, Place};
+use label::Label;
 use layout::{Root, CELL, ROOTS};
 
 pub use file::{refuse_itself, Access};
@@ -194,12 +196,17 @@ impl Image {
         }
         self.file.sync_all()?;
         Ok(Root {
-            generation: self.content.root.generation.saturating_add(1),
+            generation: self.next_generation(),
             cells: self.cells.end(),
             index: cells.first().copied().unwrap_or(0),
             entries,
             sum,
         })
+    }
+
+    /// The generation that a recording makes.
+    fn next_generation(&self) -> u64 {
+        self.content.root.generation.saturating_add(1)
     }
 
     /// Gives back the cell of a frame that this recording wrote over.
@@ -256,14 +263,18 @@ impl Storage for Image {
 
     fn store(&mut self, address: adr_model::Address, frame: Shared) {
         let cell = self.cells.take();
+        let sum = checksum(frame.as_slice());
+        let label = Label {
+            address: address.0,
+            generation: self.next_generation(),
+            sum,
+        };
         let mut content = vec![0; CELL];
         layout::put(&mut content, 0, frame.as_slice());
+        label.put(&mut content);
         let written = self.write_cell(cell, &content);
         self.keep(written);
-        let place = Place {
-            cell,
-            sum: checksum(frame.as_slice()),
-        };
+        let place = Place { cell, sum };
         let entry = Entry {
             place: Some(place),
             failed: false,

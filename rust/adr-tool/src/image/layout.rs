@@ -4,7 +4,7 @@
 //! |---|---|
 //! | 0 to 4,095 | head: magic, version, geometry, checksum; written once |
 //! | 4,096 to 8,191, 8,192 to 12,287 | two roots |
-//! | from 12,288 | cells of 36,864 bytes: a frame or a part of the index |
+//! | from 12,288 | cells of 36,864 bytes: a frame and its label, or a part of the index |
 //!
 //! A root names a generation of the content: where its index starts, how many
 //! entries it has and their checksum. The index tells for each address the
