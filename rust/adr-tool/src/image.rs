@@ -12,6 +12,7 @@
 mod cells;
 mod content;
 mod file;
+mod frames;
 mod index;
 mod label;
 mod layout;
@@ -36,6 +37,7 @@ use label::Label;
 use layout::{Root, CELL, ROOTS};
 
 pub use file::{refuse_itself, Access};
+pub use frames::{Frames, Origin};
 pub use making::format;
 
 /// A cartridge image.

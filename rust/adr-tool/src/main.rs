@@ -21,6 +21,7 @@ mod part;
 mod progress;
 mod record;
 mod restore;
+mod salvage;
 mod text;
 mod usage;
 mod writer;
@@ -39,7 +40,7 @@ struct Command {
     run: fn(&Arguments) -> Result<(), Failure>,
 }
 
-static COMMANDS: [Command; 7] = [
+static COMMANDS: [Command; 8] = [
     Command {
         name: "format",
         help: usage::FORMAT,
@@ -69,6 +70,12 @@ static COMMANDS: [Command; 7] = [
         help: usage::CHECK,
         options: check::OPTIONS,
         run: check::run,
+    },
+    Command {
+        name: "salvage",
+        help: usage::SALVAGE,
+        options: salvage::OPTIONS,
+        run: salvage::run,
     },
     Command {
         name: "map",

@@ -106,20 +106,24 @@ fn target(arguments: &Arguments, wanted: Option<u64>) -> Result<Target, Failure>
 }
 
 impl Target {
-    /// Refuses a directory that is not there.
     fn require_directory(&self) -> Result<(), Failure> {
-        let Target::Directory(directory) = self else {
-            return Ok(());
-        };
-        let shown = directory.display();
-        match directory.metadata() {
-            Ok(metadata) if metadata.is_dir() => Ok(()),
-            Ok(_) => Err(Failure::new(format!("{shown}: not a directory"))),
-            Err(error) if error.kind() == ErrorKind::NotFound => Err(Failure::new(format!(
-                "{shown}: no such directory; make it with 'mkdir {shown}'"
-            ))),
-            Err(error) => Err(Failure::of_file(directory, &error)),
+        match self {
+            Target::Directory(directory) => require_directory(directory),
+            Target::Output | Target::File(_) => Ok(()),
         }
+    }
+}
+
+/// Refuses a directory that is not there.
+pub fn require_directory(directory: &Path) -> Result<(), Failure> {
+    let shown = directory.display();
+    match directory.metadata() {
+        Ok(metadata) if metadata.is_dir() => Ok(()),
+        Ok(_) => Err(Failure::new(format!("{shown}: not a directory"))),
+        Err(error) if error.kind() == ErrorKind::NotFound => Err(Failure::new(format!(
+            "{shown}: no such directory; make it with 'mkdir {shown}'"
+        ))),
+        Err(error) => Err(Failure::of_file(directory, &error)),
     }
 }
 

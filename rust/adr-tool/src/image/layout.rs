@@ -42,6 +42,12 @@ pub fn cell_offset(cell: u64) -> Option<u64> {
     cell.checked_mul(length)?.checked_add(FIRST_CELL)
 }
 
+/// The cells that a file of this length has, the last perhaps in part.
+pub fn cells_within(length: u64) -> u64 {
+    let length = length.saturating_sub(FIRST_CELL);
+    length.div_ceil(u64::try_from(CELL).unwrap_or(u64::MAX))
+}
+
 /// The bytes at `at`, or zeros where there are none.
 pub fn bytes<const N: usize>(from: &[u8], at: usize) -> [u8; N] {
     let part = from.get(at..).and_then(|rest| rest.first_chunk::<N>());
@@ -221,5 +227,7 @@ mod tests {
         assert_eq!(cell_offset(0), Some(12_288));
         assert_eq!(cell_offset(2), Some(12_288 + 2 * 36_864));
         assert_eq!(cell_offset(u64::MAX), None);
+        let cells = [0, 12_288, 12_289, 49_152, 49_153].map(cells_within);
+        assert_eq!(cells, [0, 0, 1, 1, 2]);
     }
 }
