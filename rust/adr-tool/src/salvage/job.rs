@@ -56,44 +56,59 @@ pub fn entries<'f>(found: &'f [Found], frames: &Frames) -> Vec<Entry<'f>> {
         .collect();
     let end = found.iter().find(|found| found.kind == Kind::Eod);
     let mut entries = Vec::new();
-    // The next job and the next element.
-    let mut next = (0, 0);
+    let mut reached = Reached::default();
     let mut pieces = pieces.into_iter().peekable();
-    let mut before_filemark = None;
     while let Some(piece) = pieces.next() {
-        let first = piece.first().or(piece.filemark).unwrap_or(0);
-        entries.extend(gone(next, (piece.filemarks, first)));
-        if piece.filemarks > next.0 {
-            before_filemark = None;
-        }
-        next.0 = piece.filemarks.saturating_add(1);
-        next.1 = piece
-            .filemark
-            .max(piece.last())
-            .map_or(first, |last| last + 1);
+        let first = piece.first().or(piece.filemark);
+        entries.extend(reached.gone_before(piece.filemarks, first.unwrap_or(0)));
         let extent = Extent {
-            start: before_filemark.or(piece.own_start()),
+            start: reached.start_of(&piece),
             end: end_of(&piece, pieces.peek(), end),
         };
-        before_filemark = piece.filemark.map(|filemark| filemark + 1);
+        reached = Reached::behind(&piece);
         let ends_tape = end.is_some_and(|end| u64::from(end.filemarks) == piece.filemarks);
         entries.push(Entry::Job(extent.judge(piece, ends_tape)));
     }
-    if let Some(end) = end {
-        entries.extend(gone(next, (end.filemarks.into(), end.number.into())));
-    }
+    entries
+        .extend(end.and_then(|end| reached.gone_before(end.filemarks.into(), end.number.into())));
     entries
 }
 
-/// Jobs between what was found before and what was found next.
-fn gone<'f>(from: (u64, u64), to: (u64, u64)) -> Option<Entry<'f>> {
-    let (first, last) = (from.0.saturating_add(1), to.0);
-    let elements = (from.1, to.1.saturating_sub(1));
-    (first <= last).then_some(Entry::Gone {
-        first,
-        last,
-        elements,
-    })
+/// How far a recording has been gone through.
+#[derive(Default)]
+struct Reached {
+    /// The jobs before here.
+    jobs: u64,
+    /// The number behind the last element found before here.
+    element: u64,
+    /// Where the next job starts, if the filemark before it was found.
+    start: Option<u64>,
+}
+
+impl Reached {
+    fn behind(piece: &Piece<'_>) -> Reached {
+        let number_behind = |last: u64| last.saturating_add(1);
+        Reached {
+            jobs: piece.filemarks.saturating_add(1),
+            element: piece.filemark.max(piece.last()).map_or(0, number_behind),
+            start: piece.filemark.map(number_behind),
+        }
+    }
+
+    fn start_of(&self, piece: &Piece<'_>) -> Option<u64> {
+        let start = self.start.filter(|_| self.jobs == piece.filemarks);
+        start.or(piece.own_start())
+    }
+
+    /// The jobs between here and a frame of this number, with so many
+    /// filemarks before it.
+    fn gone_before<'f>(&self, filemarks: u64, number: u64) -> Option<Entry<'f>> {
+        (self.jobs < filemarks).then(|| Entry::Gone {
+            first: self.jobs.saturating_add(1),
+            last: filemarks,
+            elements: (self.element, number.saturating_sub(1)),
+        })
+    }
 }
 
 /// The number of a job's last block.

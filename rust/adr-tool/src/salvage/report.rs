@@ -55,7 +55,12 @@ impl Report {
             (first, last) if first == last => format!("job {first}: nothing of it"),
             (first, last) => format!("jobs {first} to {last}: nothing of them"),
         };
-        self.missing(format!("{which} is left: {}", are_missing(&[elements])));
+        // Frames that contradict each other may leave no number between them.
+        let numbers = match elements.0 <= elements.1 {
+            true => format!(": {}", are_missing(&[elements])),
+            false => String::new(),
+        };
+        self.missing(format!("{which} is left{numbers}"));
     }
 
     /// Tells everything; something failed if anything is missing.
