@@ -7,15 +7,16 @@ use std::process::Stdio;
 
 use adr_model::random::Random;
 use place::image::{
-    cells_with, entries, index_of, number, seal_description, CELL, CELLS, PAGE, ROOTS,
+    cells_with, entries, index_of, newer_root, number, seal_description, CELL, CELLS, PAGE, ROOTS,
 };
 use place::{bytes, Place, Ran};
 
 /// Bytes of a frame; a cell's label stands behind it.
 const FRAME: usize = 33_280;
-/// Where a frame tells its type and its number.
+/// Where a frame tells its type, its number and the filemarks before it.
 const TYPE: usize = 32_768 + 16;
 const NUMBER: usize = 32_768 + 44;
+const FILEMARKS: usize = 32_768 + 192;
 /// The address of the first element.
 const FIRST: usize = 10;
 
@@ -245,6 +246,22 @@ fn lost_headers() {
     );
 }
 
+/// Copies of the header that nothing but the others contradict.
+#[test]
+fn altered_headers() {
+    let place = recorded("salvage-altered");
+    let mut image = place.read("a.adr");
+    remove_labels(&mut image);
+    damage_index(&mut image);
+    for header in cells_with(&image, b"ADR_SEQ\0") {
+        let mut altered = image.clone();
+        altered[header + 23] ^= 1;
+        let (ran, names) = salvaged(&place, &altered);
+        ran.succeeded();
+        assert_eq!(names, "abcd");
+    }
+}
+
 /// Without an index, by the labels of the cells or by the jobs' checksums.
 #[test]
 fn lost_index() {
@@ -310,6 +327,18 @@ fn lost_index_and_elements() {
         assert_eq!(names, "acd");
         assert!(ran.error.contains(told), "{}", ran.error);
     }
+    // A count of filemarks that no recording reaches.
+    let mut damaged = unlabelled.clone();
+    let start = frame_at(&damaged, FIRST + 6);
+    damaged[start + FILEMARKS] ^= 1;
+    let end = frame_at(&damaged, FIRST + 18);
+    damaged[end..end + CELL].fill(0);
+    damage_index(&mut damaged);
+    let (ran, names) = salvaged(&place, &damaged);
+    let ran = ran.failed();
+    assert_eq!(names, "acd");
+    assert!(ran.error.contains("element 6 is missing"), "{}", ran.error);
+    assert!(!ran.error.contains("nothing of them"), "{}", ran.error);
     // A label that is damaged alone costs nothing.
     let mut damaged = labelled.clone();
     let start = frame_at(&damaged, FIRST + 6);
@@ -367,7 +396,7 @@ fn other_recordings() {
         place.adr(&words).succeeded();
     }
     let whole = place.read("a.adr");
-    unfinished(&place);
+    unfinished(&place, &["-"]);
     let image = place.read("a.adr");
     assert!(image.len() > whole.len());
     for damages in [&[damage_index as fn(&mut [u8])][..], &[]] {
@@ -387,10 +416,52 @@ fn other_recordings() {
     assert!(ran.failed().error.contains("frames of a later recording"));
 }
 
-/// Kills a recording.
-fn unfinished(place: &Place) {
+/// Frames that an unfinished recording left behind those of the next one,
+/// which has the same write pass.
+#[test]
+fn unfinished_recording_before() {
+    let place = recorded("salvage-unfinished");
+    place.write("e", &bytes(300_000, 5));
+    unfinished(&place, &["a", "b", "c", "d", "e", "-"]);
+    let left = place.read("a.adr");
+    place
+        .adr(&["record", "--overwrite", "a.adr", "a", "b", "c", "d"])
+        .succeeded();
+    let mut image = place.read("a.adr");
+    let used = number(&image, newer_root(&image) + 16);
+    image.truncate(CELLS + used * CELL);
+    image.extend_from_slice(&left[image.len()..]);
+    damage_roots(&mut image);
+    let mut endless = image.clone();
+    lose(&mut endless, 18);
+    let (ran, names) = salvaged(&place, &endless);
+    assert_eq!(names, "abcd", "{}", ran.error);
+    assert!(!ran.error.contains("job 5"), "{}", ran.error);
+    remove_labels(&mut image);
+    let (ran, names) = salvaged(&place, &image);
+    assert_eq!(names, "abcd", "{}", ran.error);
+    ran.succeeded();
+}
+
+/// Neither time nor memory grows with the length of a file whose root tells
+/// how much of it is used.
+#[test]
+fn long_files() {
+    let place = recorded("salvage-long");
+    let mut image = place.read("a.adr");
+    damage_index(&mut image);
+    place.write("a.adr", &image);
+    place.shell("truncate -s 8T a.adr").succeeded();
+    place
+        .shell("ulimit -v 200000; $ADR salvage a.adr --into out")
+        .succeeded();
+    assert_eq!(place.names("out"), ["a", "b", "c", "d"]);
+}
+
+/// Kills a recording that is fed more than the others take.
+fn unfinished(place: &Place, files: &[&str]) {
     let mut child = place
-        .command(&["record", "--overwrite", "a.adr", "-"])
+        .command(&[&["record", "--overwrite", "a.adr"], files].concat())
         .stdin(Stdio::piped())
         .spawn()
         .expect("the tool");
