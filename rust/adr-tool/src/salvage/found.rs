@@ -1,6 +1,8 @@
 //! Frames found on a cartridge, and the recording that they belong to.
 
-use adr_model::frame::{aux_of, bytes, data_of, number_at, Frame, HeaderFields, Kind};
+use std::collections::BTreeMap;
+
+use adr_model::frame::{aux_of, bytes, data_of, number_at, Frame, Kind};
 use adr_model::header::fields_of;
 use adr_model::judgement::{judge, Expectation, Judgement};
 use adr_model::{Address, SequenceNumber};
@@ -41,10 +43,20 @@ pub struct Recording {
     eod: Option<Address>,
 }
 
+/// What a header tells. Its update count stands first: it orders headers.
+#[derive(Clone, Copy, Debug, PartialEq, Eq, PartialOrd, Ord)]
+struct Header {
+    update_count: u32,
+    pass: u16,
+    last: Address,
+    eod: Address,
+}
+
 /// Everything that was found.
 #[derive(Debug, Default)]
 pub struct Finds {
-    headers: Vec<HeaderFields>,
+    /// Headers, with how many copies tell the same.
+    headers: BTreeMap<Header, u64>,
     frames: Vec<Found>,
 }
 
@@ -52,25 +64,25 @@ impl Finds {
     /// Takes in a frame of a cartridge that ends at `last`, if that is known.
     pub fn take(&mut self, origin: Origin, frame: &Frame, last: Option<u32>) {
         let of_cartridge = |told: Address| last.is_none_or(|last| told.0 == last);
-        let header = header(origin, frame);
-        self.headers
-            .extend(header.filter(|fields| of_cartridge(fields.last)));
+        if let Some(header) = header(origin, frame).filter(|header| of_cartridge(header.last)) {
+            *self.headers.entry(header).or_default() += 1;
+        }
         let found = found(origin, frame);
         self.frames
             .extend(found.filter(|found| of_cartridge(found.last)));
     }
 
-    /// The recording of the newest header. Among frames that may not be in
-    /// force, only the header of a recording that was closed counts.
+    /// The recording of the newest header, of which most copies tell the
+    /// same. Among frames that may not be in force, only the header of a
+    /// recording that was closed counts.
     pub fn by_header(&self, in_force: bool) -> Option<Recording> {
-        let counts = |fields: &&HeaderFields| in_force || fields.eod != Address(0);
-        let alike = |fields: &HeaderFields| self.headers.iter().filter(|it| *it == fields).count();
-        let newest = self.headers.iter().filter(counts);
-        let newest = newest.max_by_key(|fields| (fields.update_count, alike(fields)))?;
-        Some(Recording {
-            pass: newest.pass,
-            last: newest.last,
-            eod: Some(newest.eod).filter(|eod| *eod != Address(0)),
+        let headers = self.headers.iter();
+        let counting = headers.filter(|(header, _)| in_force || header.eod != Address(0));
+        let newest = counting.max_by_key(|(header, copies)| (header.update_count, **copies));
+        newest.map(|(header, _)| Recording {
+            pass: header.pass,
+            last: header.last,
+            eod: Some(header.eod).filter(|eod| *eod != Address(0)),
         })
     }
 
@@ -138,13 +150,19 @@ impl Recording {
     }
 }
 
-/// The fields of a frame that is a header.
-fn header(origin: Origin, frame: &Frame) -> Option<HeaderFields> {
+/// What a frame tells that is a header.
+fn header(origin: Origin, frame: &Frame) -> Option<Header> {
     let fields = fields_of(frame, Address(number_at(data_of(frame), HEADER_LAST)))?;
+    let header = Header {
+        update_count: fields.update_count,
+        pass: fields.pass,
+        last: fields.last,
+        eod: fields.eod,
+    };
     let address = origin.address.map(Address);
     address
         .is_none_or(Address::is_header_copy)
-        .then_some(fields)
+        .then_some(header)
 }
 
 /// The frame, judged as a reading judges it that expects its number.

@@ -21,6 +21,7 @@ use crate::writer::{NewFile, Writer};
 
 /// Choices between frames of one number that are tried.
 const ATTEMPTS: usize = 64;
+const NO_DESCRIPTION: &str = "its first block is not what was recorded";
 
 /// Jobs on their way to a directory.
 pub struct Restoring<'a> {
@@ -112,15 +113,17 @@ impl<'a> Restoring<'a> {
             self.progress.update(self.done, self.done, None);
         }
         let _ = jobs.take(&Element::Filemark)?;
-        match (verdict, target) {
-            (Verdict::Whole(closing), Some((writer, name))) => {
-                writer.finish()?;
-                self.directory.written.insert(name.clone());
-                Ok(Outcome::Restored(closing, name))
-            }
-            (Verdict::Broken(reason), _) => Ok(Outcome::Broken(reason)),
-            _ => Ok(Outcome::Broken("its first block is not what was recorded")),
-        }
+        let closing = match verdict {
+            Verdict::Whole(closing) => closing,
+            Verdict::Broken(reason) => return Ok(Outcome::Broken(reason)),
+            Verdict::Foreign => return Ok(Outcome::Broken(NO_DESCRIPTION)),
+        };
+        let Some((writer, name)) = target else {
+            return Ok(Outcome::Broken(NO_DESCRIPTION));
+        };
+        writer.finish()?;
+        self.directory.written.insert(name.clone());
+        Ok(Outcome::Restored(closing, name))
     }
 }
 
@@ -157,7 +160,7 @@ fn unlike<'f>(same: &'f [Found], frames: &Frames) -> Vec<&'f Found> {
     }
     let mut data: Vec<Vec<u8>> = Vec::new();
     let mut unlike = Vec::new();
-    for found in same {
+    for found in same.iter().take(ATTEMPTS) {
         let Some(frame) = frames.read(&found.origin) else {
             continue;
         };
