@@ -50,14 +50,6 @@ impl Failure {
         }
     }
 
-    /// What is told of it.
-    pub fn message(&self) -> &str {
-        match self {
-            Failure::Usage(message) | Failure::Failed(message) => message,
-            Failure::OutputClosed => "",
-        }
-    }
-
     /// The exit status.
     pub fn status(&self) -> u8 {
         match self {

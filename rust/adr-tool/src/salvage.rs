@@ -57,7 +57,7 @@ pub fn run(arguments: &Arguments) -> Result<(), Failure> {
     })?;
     let found = finds.of(&recording);
     let restoring = Restoring::new(path, directory, arguments.has("--overwrite"), quiet);
-    restore(&found, &frames, restoring, &mut report);
+    restore(&found, &frames, restoring, &mut report)?;
     report.tell(path)
 }
 
@@ -97,12 +97,17 @@ fn choose(finds: &Finds, frames: &Frames, report: &mut Report) -> Option<Recordi
 }
 
 /// Restores the jobs that are whole, and reports what is missing.
-fn restore(found: &[Found], frames: &Frames, mut restoring: Restoring<'_>, report: &mut Report) {
+fn restore(
+    found: &[Found],
+    frames: &Frames,
+    mut restoring: Restoring<'_>,
+    report: &mut Report,
+) -> Result<(), Failure> {
     let mut jobs = 0;
     for entry in job::entries(found, frames) {
         match entry {
             Entry::Job(job) => {
-                restore_job(&job, frames, &mut restoring, report);
+                restore_job(&job, frames, &mut restoring, report)?;
                 jobs = job.number;
             }
             Entry::Gone {
@@ -117,19 +122,27 @@ fn restore(found: &[Found], frames: &Frames, mut restoring: Restoring<'_>, repor
     }
     if !found.iter().any(|found| found.kind == Kind::Eod) {
         report.missing(format!(
-            "the end of data is missing: whether there were jobs behind job {jobs} is not known"
+            "the end of data is missing: whether there were more jobs than {jobs} is not known"
         ));
     }
+    Ok(())
 }
 
-fn restore_job(job: &Job<'_>, frames: &Frames, restoring: &mut Restoring<'_>, report: &mut Report) {
+fn restore_job(
+    job: &Job<'_>,
+    frames: &Frames,
+    restoring: &mut Restoring<'_>,
+    report: &mut Report,
+) -> Result<(), Failure> {
     match &job.state {
         State::Foreign => report.not_restored(job, "it was not recorded by this tool"),
         State::Incomplete(missing) => report.not_restored(job, &missing.to_string()),
         State::Complete => match restoring.restore(job, frames) {
             Ok(Outcome::Restored(closing, name)) => report.restored(job, &closing, &name),
             Ok(Outcome::Broken(reason)) => report.not_restored(job, reason),
-            Err(failure) => report.not_restored(job, failure.message()),
+            // The other jobs may fare better.
+            Err(Failure::Failed(message)) => report.not_restored(job, &message),
+            Err(failure) => return Err(failure),
         },
     }
     if job.lacks_filemark {
@@ -138,4 +151,5 @@ fn restore_job(job: &Job<'_>, frames: &Frames, restoring: &mut Restoring<'_>, re
             shown(job)
         ));
     }
+    Ok(())
 }

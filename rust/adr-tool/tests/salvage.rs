@@ -164,7 +164,7 @@ fn lost_elements() {
         (
             &[13, 14, 15, 16, 17, 18],
             "abc",
-            &["whether there were jobs behind job 3 is not known"],
+            &["whether there were more jobs than 3 is not known"],
         ),
         // What stands beside a filemark, too.
         (
