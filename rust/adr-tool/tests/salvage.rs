@@ -603,6 +603,9 @@ fn command_lines() {
     let help = place.adr(&["salvage", "--help"]).succeeded();
     assert!(help.output_text().starts_with("usage: adr salvage"));
     assert!(help.output_text().contains("outside what is proved"));
+    assert!(help.output_text().lines().all(|line| line.len() <= 80));
+    let whole = place.adr(&["--help"]).succeeded();
+    assert!(whole.output_text().contains("\n  salvage "));
     for words in [
         &["salvage", "a.adr"][..],
         &["salvage", "--into", "out"],
