@@ -13,7 +13,9 @@
 mod cells;
 mod content;
 mod file;
+mod frames;
 mod index;
+mod label;
 mod layout;
 mod making;
 
@@ -33,9 +35,11 @@ use crate::system::punch_hole;
 use cells::Cells;
 use content::Content;
 use index::{Entry, Place};
+use label::Label;
 use layout::{Root, CELL, ROOTS};
 
 pub use file::{refuse_itself, Access};
+pub use frames::{Frames, Origin};
 pub use making::format;
 
 /// A cartridge image.
@@ -248,13 +252,18 @@ impl Image {
         let mut used = BTreeSet::from_iter(cells);
         used.extend(index::frame_cells(&self.content.index));
         let root = Root {
-            generation: self.content.root.generation.saturating_add(1),
+            generation: self.next_generation(),
             cells: used.last().map_or(0, |last| last.saturating_add(1)),
             index,
             entries,
             sum,
         };
         Ok((root, used))
+    }
+
+    /// The generation that a recording makes.
+    fn next_generation(&self) -> u64 {
+        self.content.root.generation.saturating_add(1)
     }
 
     /// Gives back the cell of a frame that this recording wrote over.
@@ -311,14 +320,18 @@ impl Storage for Image {
 
     fn store(&mut self, address: adr_model::Address, frame: Shared) {
         let cell = self.cells.take();
+        let sum = checksum(frame.as_slice());
+        let label = Label {
+            address: address.0,
+            generation: self.next_generation(),
+            sum,
+        };
         let mut content = vec![0; CELL];
         layout::put(&mut content, 0, frame.as_slice());
+        label.put(&mut content);
         let written = self.write_cell(cell, &content);
         self.keep(written);
-        let place = Place {
-            cell,
-            sum: checksum(frame.as_slice()),
-        };
+        let place = Place { cell, sum };
         let entry = Entry {
             place: Some(place),
             failed: false,

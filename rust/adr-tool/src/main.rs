@@ -23,6 +23,7 @@ mod progress;
 mod record;
 mod restore;
 mod room;
+mod salvage;
 #[allow(unsafe_code)]
 mod system;
 mod text;
@@ -44,7 +45,7 @@ struct Command {
     run: fn(&Arguments) -> Result<(), Failure>,
 }
 
-static COMMANDS: [Command; 7] = [
+static COMMANDS: [Command; 8] = [
     Command {
         name: "format",
         help: usage::FORMAT,
@@ -74,6 +75,12 @@ static COMMANDS: [Command; 7] = [
         help: usage::CHECK,
         options: check::OPTIONS,
         run: check::run,
+    },
+    Command {
+        name: "salvage",
+        help: usage::SALVAGE,
+        options: salvage::OPTIONS,
+        run: salvage::run,
     },
     Command {
         name: "map",

@@ -108,7 +108,8 @@ impl Target {
     }
 }
 
-fn require_directory(directory: &Path) -> Result<(), Failure> {
+/// Refuses a directory that is not there.
+pub fn require_directory(directory: &Path) -> Result<(), Failure> {
     let shown = directory.display();
     match directory.metadata() {
         Ok(metadata) if metadata.is_dir() => Ok(()),

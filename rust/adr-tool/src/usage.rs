@@ -14,6 +14,7 @@ commands:
   list     list the jobs
   restore  write jobs back to files or standard output
   check    read everything and verify it
+  salvage  restore what can still be had of a damaged cartridge
   map      show the cartridge as a picture
   demo     record on a faulty drive, read back, compare and show the map
 
@@ -125,6 +126,28 @@ the image is never changed.
 
   --faults SEED   let the drive have faults, picked by this number
   --quiet         no progress on a terminal
+";
+
+/// The help of `salvage`.
+pub const SALVAGE: &str = "\
+usage: adr salvage [OPTION...] --into DIRECTORY IMAGE
+
+Restores the jobs of a damaged cartridge that are whole. 'adr restore' stops
+where an element is missing, for the layer tells so; this reads every frame by
+itself, puts the elements of the newest recording together by their numbers,
+and restores each job whose blocks are all there and whose checksum holds. An
+image whose index is damaged or that is cut off is salvaged too. What is
+missing is told job by job, and the exit status is then 1. The image is never
+changed.
+
+This is outside what is proved: it does not pass through the layer, and only a
+job's own checksum tells that it is what was recorded.
+
+  --into DIRECTORY   write the jobs under their own names; a name that leads
+                     out of the directory is refused, and a later job of the
+                     same name gets its number behind it, as 'parts.tar.job-3'
+  --overwrite        replace files that exist
+  --quiet            no progress on a terminal
 ";
 
 /// The help of `map`.

@@ -73,7 +73,8 @@ impl Content {
 
 fn damaged(path: &Path, what: &str) -> Failure {
     Failure::new(format!(
-        "{}: the image is damaged: {what}; nothing was changed: use a copy of the file",
+        "{}: the image is damaged: {what}; nothing was changed: \
+         use a copy of the file, or 'adr salvage' for what is left",
         path.display()
     ))
 }
@@ -84,7 +85,8 @@ fn outside(path: &Path) -> Failure {
 
 fn truncated(path: &Path) -> Failure {
     Failure::new(format!(
-        "{}: the image is truncated; nothing was changed: use a whole copy of the file",
+        "{}: the image is truncated; nothing was changed: \
+         use a whole copy of the file, or 'adr salvage' for what is left",
         path.display()
     ))
 }

@@ -4,7 +4,7 @@
 //! |---|---|
 //! | 0 to 4,095 | head: magic, version, geometry, checksum; written once |
 //! | 4,096 to 8,191, 8,192 to 12,287 | two roots |
-//! | from 12,288 | cells of 36,864 bytes: a frame or a part of the index |
+//! | from 12,288 | cells of 36,864 bytes: a frame and its label, or a part of the index |
 //!
 //! A root names a generation of the content: where its index starts, how many
 //! entries it has and their checksum. The index tells for each address the
@@ -40,6 +40,12 @@ pub const ROOTS: [u64; 2] = [4_096, 8_192];
 pub fn cell_offset(cell: u64) -> Option<u64> {
     let length = u64::try_from(CELL).ok()?;
     cell.checked_mul(length)?.checked_add(FIRST_CELL)
+}
+
+/// The cells that a file of this length has, the last perhaps in part.
+pub fn cells_within(length: u64) -> u64 {
+    let length = length.saturating_sub(FIRST_CELL);
+    length.div_ceil(u64::try_from(CELL).unwrap_or(u64::MAX))
 }
 
 /// The bytes at `at`, or zeros where there are none.
@@ -230,5 +236,7 @@ mod tests {
         assert_eq!(cell_offset(0), Some(12_288));
         assert_eq!(cell_offset(2), Some(12_288 + 2 * 36_864));
         assert_eq!(cell_offset(u64::MAX), None);
+        let cells = [0, 12_288, 12_289, 49_152, 49_153].map(cells_within);
+        assert_eq!(cells, [0, 0, 1, 1, 2]);
     }
 }
