@@ -2,8 +2,10 @@
 
 use std::ffi::OsString;
 use std::fs::{File, OpenOptions};
-use std::io;
+use std::io::{self, Write};
 use std::path::{Path, PathBuf};
+
+use crate::failure::Failure;
 
 /// The longest name to which more is added: most systems take 255 bytes.
 const LONGEST: usize = 200;
@@ -23,6 +25,30 @@ pub struct Part {
 }
 
 impl Part {
+    /// Creates the file for a name that is free, or may be replaced:
+    /// otherwise that is told before there is anything to be named.
+    pub fn begin(target: &Path, overwrite: bool) -> Result<Part, Failure> {
+        if target.symlink_metadata().is_ok() {
+            require_overwrite(target, overwrite)?;
+        }
+        Part::create(target).map_err(|error| Failure::of_file(target, &error))
+    }
+
+    /// Writes bytes to the file.
+    pub fn write(&mut self, data: &[u8]) -> Result<(), Failure> {
+        let written = self.file.write_all(data);
+        written.map_err(|error| Failure::of_file(&self.target, &error))
+    }
+
+    /// Names the file, which is whole.
+    pub fn end(self, overwrite: bool) -> Result<(), Failure> {
+        let target = self.target.clone();
+        self.finish(overwrite).map_err(|error| match error.kind() {
+            io::ErrorKind::AlreadyExists => exists(&target),
+            _ => Failure::of_file(&target, &error),
+        })
+    }
+
     /// Creates the file.
     pub fn create(target: &Path) -> io::Result<Part> {
         for attempt in 0..ATTEMPTS {
@@ -47,11 +73,6 @@ impl Part {
     /// The file, to be written to.
     pub fn file(&mut self) -> &mut File {
         &mut self.file
-    }
-
-    /// The name that the file gets.
-    pub fn target(&self) -> &Path {
-        &self.target
     }
 
     /// Brings the file to disk and gives it its name. One that has the name
@@ -93,6 +114,20 @@ impl Drop for Part {
     }
 }
 
+/// Refuses to replace a file that exists, unless that is asked for.
+pub fn require_overwrite(target: &Path, overwrite: bool) -> Result<(), Failure> {
+    if overwrite {
+        Ok(())
+    } else {
+        Err(exists(target))
+    }
+}
+
+fn exists(target: &Path) -> Failure {
+    let shown = target.display();
+    Failure::new(format!("{shown}: exists; use '--overwrite' to replace it"))
+}
+
 /// A name for the time being; it tells whose it is where there is room.
 fn name(target: &Path, attempt: u32) -> OsString {
     let own = target.file_name().filter(|own| own.len() <= LONGEST);
@@ -117,7 +152,6 @@ fn sync_directory(path: &Path) -> io::Result<()> {
 mod tests {
     use super::*;
     use std::fs;
-    use std::io::Write;
 
     #[test]
     fn names_when_whole() {

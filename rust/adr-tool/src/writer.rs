@@ -1,6 +1,6 @@
 //! Where the bytes of a restored job go.
 
-use std::fs::File;
+use std::fs::{File, OpenOptions};
 use std::io::{self, Write};
 use std::path::{Path, PathBuf};
 use std::time::{Duration, UNIX_EPOCH};
@@ -12,7 +12,7 @@ use crate::part::Part;
 pub enum Writer {
     /// Standard output.
     Output,
-    /// A device or pipe that `--output` names.
+    /// A device or pipe that has a name.
     Device(PathBuf, File),
     /// A file.
     File(NewFile),
@@ -27,6 +27,13 @@ pub struct NewFile {
 }
 
 impl Writer {
+    /// Opens what [`is_device`] tells apart.
+    pub fn device(path: &Path) -> Result<Writer, Failure> {
+        let file = OpenOptions::new().write(true).open(path);
+        let file = file.map_err(|error| Failure::of_file(path, &error))?;
+        Ok(Writer::Device(path.to_path_buf(), file))
+    }
+
     /// Writes bytes of the job.
     pub fn write(&mut self, data: &[u8]) -> Result<(), Failure> {
         match self {
@@ -36,7 +43,7 @@ impl Writer {
             Writer::Device(path, file) => file
                 .write_all(data)
                 .map_err(|error| Failure::of_file(path, &error)),
-            Writer::File(new) => new.write(data),
+            Writer::File(new) => new.part.write(data),
         }
     }
 
@@ -56,21 +63,11 @@ impl NewFile {
     /// Creates the file: nothing that its name leads to is followed or
     /// written over.
     pub fn open(path: &Path, overwrite: bool, time: u64) -> Result<NewFile, Failure> {
-        // Told before the tape is read to the job's end.
-        if !overwrite && path.symlink_metadata().is_ok() {
-            return Err(exists(path));
-        }
-        let part = Part::create(path).map_err(|error| Failure::of_file(path, &error))?;
         Ok(NewFile {
-            part,
+            part: Part::begin(path, overwrite)?,
             overwrite,
             time,
         })
-    }
-
-    fn write(&mut self, data: &[u8]) -> Result<(), Failure> {
-        let written = self.part.file().write_all(data);
-        written.map_err(|error| Failure::of_file(self.part.target(), &error))
     }
 
     fn finish(mut self) -> Result<(), Failure> {
@@ -78,18 +75,8 @@ impl NewFile {
             // A file system that cannot keep it keeps the bytes all the same.
             let _ = self.part.file().set_modified(time);
         }
-        let path = self.part.target().to_path_buf();
-        let finished = self.part.finish(self.overwrite);
-        finished.map_err(|error| match error.kind() {
-            io::ErrorKind::AlreadyExists => exists(&path),
-            _ => Failure::of_file(&path, &error),
-        })
+        self.part.end(self.overwrite)
     }
-}
-
-fn exists(path: &Path) -> Failure {
-    let shown = path.display();
-    Failure::new(format!("{shown}: exists; use '--overwrite' to replace it"))
 }
 
 /// Whether a path names something that is written to in place.
