@@ -70,7 +70,7 @@ impl Map {
             return Ok(());
         }
         Err(Failure::new(format!(
-            "{}: {}",
+            "{}: {}: 'adr check' tells more",
             path.display(),
             wrong.join("; ")
         )))

@@ -145,7 +145,7 @@ fn damaged_frames_are_shown() {
             assert!(check.error.contains(&told), "{}", check.error);
 
             let map = place.adr(&["map", "a.adr"]).failed();
-            let told = format!("damaged at address {address}\n");
+            let told = format!("damaged at address {address}: 'adr check' tells more\n");
             assert!(map.error.ends_with(&told), "{}", map.error);
             assert_eq!(map.error.lines().count(), 1);
             let text = map.output_text();
