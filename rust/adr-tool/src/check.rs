@@ -2,12 +2,10 @@
 
 use std::ops::ControlFlow;
 
-use adr_model::tape::Storage;
-use adr_tape::FRAME_LENGTH;
-
 use crate::arguments::{Arguments, Options};
 use crate::cartridge::Cartridge;
 use crate::failure::Failure;
+use crate::frames;
 use crate::image::Access;
 use crate::job::reading::{Event, Verdict};
 use crate::job::{torn, Description};
@@ -21,9 +19,6 @@ pub const OPTIONS: Options = Options {
     valued: &["--faults"],
     plain: &["--quiet"],
 };
-
-/// Bytes of a frame.
-const FRAME: u64 = FRAME_LENGTH as u64;
 
 /// What was found.
 #[derive(Default)]
@@ -117,34 +112,17 @@ fn read_jobs(
     Ok(())
 }
 
-/// Reads every frame, also those that no recording in force needs.
+/// Tests every frame.
 fn read_frames(
     cartridge: &mut Cartridge,
     findings: &mut Findings,
     quiet: bool,
 ) -> Result<u64, Failure> {
-    let mut progress = Progress::new("checking", quiet);
     let image = cartridge.image_mut();
-    let addresses: Vec<u32> = image
-        .known()
-        .filter(|(_, reads, _)| *reads)
-        .map(|(address, _, _)| address)
-        .collect();
-    let all = u64::try_from(addresses.len()).unwrap_or(u64::MAX);
-    let mut done = 0u64;
-    for address in addresses {
-        // Damage is noted by the image.
-        let _ = image.frame(adr_model::Address(address));
-        if let Some(failure) = image.take_error() {
-            return Err(failure);
-        }
-        done += 1;
-        progress.update(done.saturating_mul(FRAME), done, Some(all));
-    }
-    let damaged: Vec<String> = image
+    let all = frames::test_all(image, quiet)?;
+    let damaged = image
         .damaged()
-        .map(|address| format!("the frame at address {address} is damaged"))
-        .collect();
+        .map(|address| format!("the frame at address {address} is damaged"));
     findings.wrong.extend(damaged);
     Ok(all)
 }

@@ -14,7 +14,7 @@ use crate::image::{self, Access};
 use crate::job::reading::{Event, Verdict};
 use crate::job::source::{Elements, Input};
 use crate::job::Description;
-use crate::map;
+use crate::map::{Destination, Map};
 use crate::output;
 use crate::progress::Progress;
 use crate::record::told;
@@ -24,7 +24,7 @@ use crate::timestamp::Timestamp;
 /// The options of `demo`.
 pub const OPTIONS: Options = Options {
     valued: &["--faults", "--svg"],
-    plain: &["--keep"],
+    plain: &["--keep", "--overwrite"],
 };
 
 const SEED: u64 = 27;
@@ -47,6 +47,7 @@ struct Made {
 pub fn run(arguments: &Arguments) -> Result<(), Failure> {
     arguments.no_operands()?;
     let seed = arguments.number("--faults")?.unwrap_or(SEED);
+    let destination = Destination::asked_for(arguments, None)?;
     let directory = Directory::make(arguments.has("--keep"))?;
     let path = directory.path.join("demo.adr");
     image::format(&path, GEOMETRY, false)?;
@@ -73,9 +74,10 @@ pub fn run(arguments: &Arguments) -> Result<(), Failure> {
     compare(&path, &files, seed)?;
 
     output::line("\nThe cartridge now:\n")?;
-    output::plain(&map::text(&path)?)?;
-    if let Some(file) = arguments.value("--svg") {
-        map::write_picture(&path, file)?;
+    let map = Map::of(&path, true)?;
+    output::plain(&map.text())?;
+    if let Some(destination) = destination {
+        destination.write(&map.picture())?;
     }
     directory.tell()
 }

@@ -40,6 +40,7 @@ use layout::{Root, CELL, ROOTS};
 
 pub use file::{refuse_itself, Access};
 pub use frames::{Frames, Origin};
+pub use layout::is_image_file;
 pub use making::format;
 
 /// A cartridge image.
@@ -136,14 +137,12 @@ impl Image {
         }
     }
 
-    /// The last 512 bytes of a frame, its AUX, which are not checked.
+    /// The last 512 bytes of a frame, its AUX, unless the frame was found
+    /// damaged; they are not checked.
     pub fn aux(&mut self, address: u32, aux: &mut [u8]) -> bool {
-        let Some(place) = self
-            .content
-            .index
-            .get(&address)
-            .and_then(|entry| entry.place)
-        else {
+        let entry = self.content.index.get(&address);
+        let whole = entry.filter(|_| !self.damaged.contains(&address));
+        let Some(place) = whole.and_then(|entry| entry.place) else {
             return false;
         };
         let start = FRAME_LENGTH.saturating_sub(aux.len());

@@ -12,6 +12,7 @@ mod digest;
 mod failure;
 mod faults;
 mod format;
+mod frames;
 mod image;
 mod interruption;
 mod job;

@@ -2,16 +2,18 @@
 
 use std::ffi::OsString;
 use std::fs::{File, OpenOptions};
-use std::io;
+use std::io::{self, Write};
 use std::os::unix::fs::OpenOptionsExt;
 use std::path::{Path, PathBuf};
+
+use crate::failure::Failure;
 
 /// The longest name to which more is added: most systems take 255 bytes.
 const LONGEST: usize = 200;
 /// Names that are tried.
 const ATTEMPTS: u32 = 100;
 /// The mode of a file that nothing else is known of, under the umask.
-const MODE: u32 = 0o666;
+pub const MODE: u32 = 0o666;
 
 /// A file beside the one that it becomes, removed unless it becomes that.
 ///
@@ -26,13 +28,34 @@ pub struct Part {
 }
 
 impl Part {
-    /// Creates the file.
-    pub fn create(target: &Path) -> io::Result<Part> {
-        Part::create_with_mode(target, MODE)
+    /// Creates the file, with a mode under the umask, for a name that is free
+    /// or may be replaced: otherwise that is told before there is anything to
+    /// be named.
+    pub fn begin(target: &Path, overwrite: bool, mode: u32) -> Result<Part, Failure> {
+        if target.symlink_metadata().is_ok() {
+            require_overwrite(target, overwrite)?;
+        }
+        let part = Part::create(target, mode);
+        part.map_err(|error| Failure::of_file(target, &error))
+    }
+
+    /// Writes bytes to the file.
+    pub fn write(&mut self, data: &[u8]) -> Result<(), Failure> {
+        let written = self.file.write_all(data);
+        written.map_err(|error| Failure::of_file(&self.target, &error))
+    }
+
+    /// Names the file, which is whole.
+    pub fn end(self, overwrite: bool) -> Result<(), Failure> {
+        let target = self.target.clone();
+        self.finish(overwrite).map_err(|error| match error.kind() {
+            io::ErrorKind::AlreadyExists => exists(&target),
+            _ => Failure::of_file(&target, &error),
+        })
     }
 
     /// Creates the file with a mode, under the umask.
-    pub fn create_with_mode(target: &Path, mode: u32) -> io::Result<Part> {
+    pub fn create(target: &Path, mode: u32) -> io::Result<Part> {
         let mut options = OpenOptions::new();
         options.write(true).create_new(true).mode(mode);
         for attempt in 0..ATTEMPTS {
@@ -57,11 +80,6 @@ impl Part {
     /// The file, to be written to.
     pub fn file(&mut self) -> &mut File {
         &mut self.file
-    }
-
-    /// The name that the file gets.
-    pub fn target(&self) -> &Path {
-        &self.target
     }
 
     /// Brings the file to disk and gives it its name. One that has the name
@@ -103,6 +121,20 @@ impl Drop for Part {
     }
 }
 
+/// Refuses to replace a file that exists, unless that is asked for.
+pub fn require_overwrite(target: &Path, overwrite: bool) -> Result<(), Failure> {
+    if overwrite {
+        Ok(())
+    } else {
+        Err(exists(target))
+    }
+}
+
+fn exists(target: &Path) -> Failure {
+    let shown = target.display();
+    Failure::new(format!("{shown}: exists; use '--overwrite' to replace it"))
+}
+
 /// A name for the time being; it tells whose it is where there is room.
 fn name(target: &Path, attempt: u32) -> OsString {
     let own = target.file_name().filter(|own| own.len() <= LONGEST);
@@ -127,7 +159,6 @@ fn sync_directory(path: &Path) -> io::Result<()> {
 mod tests {
     use super::*;
     use std::fs;
-    use std::io::Write;
 
     #[test]
     fn names_when_whole() {
@@ -136,7 +167,7 @@ mod tests {
         fs::create_dir(&place).expect("a directory of its own");
         let target = place.join("file");
         let written = |bytes: &[u8]| {
-            let mut part = Part::create(&target).expect("room for a file");
+            let mut part = Part::create(&target, MODE).expect("room for a file");
             part.file().write_all(bytes).expect("room for bytes");
             part
         };

@@ -4,7 +4,6 @@ mod wanted;
 
 use std::collections::BTreeMap;
 use std::ffi::OsStr;
-use std::fs::OpenOptions;
 use std::io::{ErrorKind, IsTerminal};
 use std::ops::ControlFlow;
 use std::os::unix::ffi::OsStrExt;
@@ -193,11 +192,7 @@ impl Restoring<'_> {
     fn open(&self, description: &Description) -> Result<Writer, Failure> {
         let path = match &self.target {
             Target::Output => return Ok(Writer::Output),
-            Target::File(path) if is_device(path) => {
-                let file = OpenOptions::new().write(true).open(path);
-                let file = file.map_err(|error| Failure::of_file(path, &error))?;
-                return Ok(Writer::Device(path.clone(), file));
-            }
+            Target::File(path) if is_device(path) => return Writer::device(path),
             Target::File(path) => path.clone(),
             Target::Directory(directory) => directory.join(own_name(&description.name)?),
         };

@@ -155,10 +155,14 @@ pub const MAP: &str = "\
 usage: adr map [OPTION...] IMAGE
 
 Shows what stands where on the cartridge: copies of the header, blocks,
-filemarks, the end of data, bad spots, frames that are passed over, and what
-is unused.
+filemarks, the end of data, bad spots, damaged frames, frames that are passed
+over, and what is unused. The checksum of every frame is tested. If one is
+damaged or a reading would stop, the exit status is 1 after the map was shown.
 
-  --svg FILE   write a picture to this file instead; '-' is standard output
+  --svg FILE    write a picture to this file instead, which gets its name when
+                it is whole; '-' is standard output
+  --overwrite   replace a file that exists, never an image or a link
+  --quiet       no progress on a terminal
 ";
 
 /// The help of `demo`.
@@ -171,5 +175,6 @@ every time. The image is in a directory for temporary files.
 
   --faults SEED   other faults
   --svg FILE      write the map as a picture too; '-' is standard output
+  --overwrite     replace that file if it exists, never an image or a link
   --keep          keep the image and tell where it is
 ";

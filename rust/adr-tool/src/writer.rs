@@ -1,12 +1,12 @@
 //! Where the bytes of a restored job go.
 
-use std::fs::File;
+use std::fs::{File, OpenOptions};
 use std::io::{self, Write};
 use std::path::{Path, PathBuf};
 
 use crate::failure::Failure;
 use crate::job::Description;
-use crate::part::Part;
+use crate::part::{self, Part};
 use crate::timestamp::Timestamp;
 
 /// The bits of a mode that are restored: set-user-ID, set-group-ID and sticky
@@ -17,7 +17,7 @@ const RESTORED_MODE: u16 = 0o777;
 pub enum Writer {
     /// Standard output.
     Output,
-    /// A device or pipe that `--output` names.
+    /// A device or pipe that has a name.
     Device(PathBuf, File),
     /// A file.
     File(NewFile),
@@ -32,6 +32,13 @@ pub struct NewFile {
 }
 
 impl Writer {
+    /// Opens what [`is_device`] tells apart.
+    pub fn device(path: &Path) -> Result<Writer, Failure> {
+        let file = OpenOptions::new().write(true).open(path);
+        let file = file.map_err(|error| Failure::of_file(path, &error))?;
+        Ok(Writer::Device(path.to_path_buf(), file))
+    }
+
     /// Writes bytes of the job.
     pub fn write(&mut self, data: &[u8]) -> Result<(), Failure> {
         match self {
@@ -41,7 +48,7 @@ impl Writer {
             Writer::Device(path, file) => file
                 .write_all(data)
                 .map_err(|error| Failure::of_file(path, &error)),
-            Writer::File(new) => new.write(data),
+            Writer::File(new) => new.part.write(data),
         }
     }
 
@@ -65,24 +72,12 @@ impl NewFile {
         overwrite: bool,
         description: &Description,
     ) -> Result<NewFile, Failure> {
-        // Told before the tape is read to the job's end.
-        if !overwrite && path.symlink_metadata().is_ok() {
-            return Err(exists(path));
-        }
-        let part = match description.mode {
-            Some(mode) => Part::create_with_mode(path, u32::from(mode & RESTORED_MODE)),
-            None => Part::create(path),
-        };
+        let mode = description.mode.map(|mode| u32::from(mode & RESTORED_MODE));
         Ok(NewFile {
-            part: part.map_err(|error| Failure::of_file(path, &error))?,
+            part: Part::begin(path, overwrite, mode.unwrap_or(part::MODE))?,
             overwrite,
             time: description.time,
         })
-    }
-
-    fn write(&mut self, data: &[u8]) -> Result<(), Failure> {
-        let written = self.part.file().write_all(data);
-        written.map_err(|error| Failure::of_file(self.part.target(), &error))
     }
 
     fn finish(mut self) -> Result<(), Failure> {
@@ -90,18 +85,8 @@ impl NewFile {
             // A file system that cannot keep it keeps the bytes all the same.
             let _ = self.part.file().set_modified(time);
         }
-        let path = self.part.target().to_path_buf();
-        let finished = self.part.finish(self.overwrite);
-        finished.map_err(|error| match error.kind() {
-            io::ErrorKind::AlreadyExists => exists(&path),
-            _ => Failure::of_file(&path, &error),
-        })
+        self.part.end(self.overwrite)
     }
-}
-
-fn exists(path: &Path) -> Failure {
-    let shown = path.display();
-    Failure::new(format!("{shown}: exists; use '--overwrite' to replace it"))
 }
 
 /// Whether a path names something that is written to in place.

@@ -525,7 +525,7 @@ fn demo() {
     assert!(first.output_text().lines().all(|line| line.len() <= 100));
     let shown = concat!(env!("CARGO_MANIFEST_DIR"), "/../../docs/demo-map.svg");
     let shown = fs::read(shown).expect("the picture in the documents");
-    let made = "run 'sh scripts/demo --svg docs/demo-map.svg'";
+    let made = "run 'sh scripts/demo --overwrite --svg docs/demo-map.svg'";
     assert!(place.read("demo.svg") == shown, "{made}");
     let piped = place.shell("TMPDIR=. $ADR demo --svg -").succeeded();
     let both = [first.output.as_slice(), &shown].concat();

@@ -10,7 +10,7 @@ use super::file::{lock, open_regular, Access};
 use super::layout::{self, Root};
 use crate::checksum::checksum;
 use crate::failure::Failure;
-use crate::part::Part;
+use crate::part::{self, Part};
 
 /// Makes a file that is an empty cartridge.
 ///
@@ -28,7 +28,7 @@ pub fn format(path: &Path, geometry: Geometry, overwrite: bool) -> Result<(), Fa
 
 fn make(path: &Path, geometry: Geometry, permissions: Option<Permissions>) -> io::Result<()> {
     let target = std::fs::canonicalize(path).unwrap_or_else(|_| path.to_path_buf());
-    let mut part = Part::create(&target)?;
+    let mut part = Part::create(&target, part::MODE)?;
     let replace = permissions.is_some();
     if let Some(permissions) = permissions {
         part.file().set_permissions(permissions)?;

@@ -2,9 +2,10 @@
 
 use std::collections::BTreeSet;
 
-use super::spots::{is_defect_map, Spot, Spots};
+use super::counts::Counts;
+use super::spots::{defect_map_addresses, Spots};
 
-/// Characters in a row.
+/// Groups of addresses in a row.
 pub const WIDTH: u64 = 64;
 /// The most rows with something in them.
 const MOST_ROWS: usize = 28;
@@ -12,12 +13,12 @@ const MOST_ROWS: usize = 28;
 /// A row of a map.
 #[derive(Clone, Debug, PartialEq, Eq)]
 pub enum Row {
-    /// Spots from an address on.
-    Spots {
+    /// Groups from an address on.
+    Groups {
         /// The first address.
         first: u64,
-        /// The spots, each for as many addresses as the scale says.
-        spots: Vec<Spot>,
+        /// The groups, each of as many addresses as the scale says.
+        groups: Vec<Counts>,
     },
     /// Addresses left out, all of them unused.
     Unused {
@@ -31,7 +32,7 @@ pub enum Row {
 /// The rows of a map.
 #[derive(Clone, Debug, PartialEq, Eq)]
 pub struct Rows {
-    /// The addresses that one spot stands for.
+    /// The addresses in a group.
     pub scale: u64,
     /// The rows.
     pub rows: Vec<Row>,
@@ -57,12 +58,11 @@ pub fn rows(spots: &Spots) -> Rows {
 
 /// The numbers of the rows with something in them.
 fn used_rows(spots: &Spots, scale: u64) -> BTreeSet<u64> {
-    let defect_maps = (0..3_000).filter(|address| is_defect_map(*address));
     spots
         .known
         .keys()
         .copied()
-        .chain(defect_maps)
+        .chain(defect_map_addresses())
         .map(|address| u64::from(address) / (WIDTH * scale))
         .collect()
 }
@@ -81,9 +81,9 @@ fn rows_at(spots: &Spots, scale: u64) -> Vec<Row> {
             });
         }
         next = (first + length).min(frames);
-        rows.push(Row::Spots {
+        rows.push(Row::Groups {
             first,
-            spots: spots_from(spots, first, next, scale),
+            groups: groups_from(spots, first, next, scale),
         });
     }
     if frames > next {
@@ -95,32 +95,20 @@ fn rows_at(spots: &Spots, scale: u64) -> Vec<Row> {
     rows
 }
 
-fn spots_from(spots: &Spots, first: u64, end: u64, scale: u64) -> Vec<Spot> {
-    let mut row = Vec::new();
+fn groups_from(spots: &Spots, first: u64, end: u64, scale: u64) -> Vec<Counts> {
+    let mut groups = Vec::new();
     let mut start = first;
     while start < end {
         let stop = (start + scale).min(end);
-        row.push(most_notable(spots, start, stop));
+        groups.push(spots.counts(start, stop));
         start = stop;
     }
-    row
-}
-
-/// The first kind among the addresses from `start` to before `stop`.
-fn most_notable(spots: &Spots, start: u64, stop: u64) -> Spot {
-    let low = u32::try_from(start).unwrap_or(u32::MAX);
-    let high = u32::try_from(stop).unwrap_or(u32::MAX);
-    let known = spots.known.range(low..high).map(|(_, spot)| *spot);
-    let edges = [low, high.saturating_sub(1), 4, 2_995, 2_999];
-    let defect_maps = edges
-        .into_iter()
-        .filter(|address| (low..high).contains(address))
-        .map(|address| spots.at(address));
-    known.chain(defect_maps).min().unwrap_or(Spot::Unused)
+    groups
 }
 
 #[cfg(test)]
 mod tests {
+    use super::super::spots::{Reading, Spot};
     use super::*;
 
     fn spots(last: u32, known: &[(u32, Spot)]) -> Spots {
@@ -128,8 +116,7 @@ mod tests {
             title: String::new(),
             last,
             known: known.iter().copied().collect(),
-            stopped: None,
-            recorded: true,
+            reading: Reading::Whole,
         }
     }
 
@@ -139,10 +126,9 @@ mod tests {
         for row in &rows.rows {
             let (first, count) = match row {
                 Row::Unused { first, count } => (*first, *count),
-                Row::Spots { first, spots } => {
-                    assert!(spots.len() <= 64);
-                    let count = u64::try_from(spots.len()).unwrap_or(0) * rows.scale;
-                    (*first, count.min(u64::from(last) + 1 - first))
+                Row::Groups { first, groups } => {
+                    assert!(groups.len() <= 64);
+                    (*first, groups.iter().map(Counts::all).sum())
                 }
             };
             assert_eq!(first, next);
@@ -173,16 +159,22 @@ mod tests {
     }
 
     #[test]
-    fn the_most_notable_is_shown() {
+    fn everything_in_a_group_counts() {
         let cartridge = spots(
             3_100,
             &[(100, Spot::Block), (101, Spot::Bad), (105, Spot::Stale)],
         );
-        assert_eq!(most_notable(&cartridge, 100, 110), Spot::Bad);
-        assert_eq!(most_notable(&cartridge, 102, 110), Spot::Stale);
-        assert_eq!(most_notable(&cartridge, 110, 120), Spot::Unused);
-        assert_eq!(most_notable(&cartridge, 2_950, 3_050), Spot::DefectMap);
-        assert_eq!(most_notable(&cartridge, 2_999, 3_050), Spot::DefectMap);
-        assert_eq!(most_notable(&cartridge, 3_000, 3_050), Spot::Unused);
+        let present = |start, stop| -> Vec<(Spot, u64)> {
+            let counts = cartridge.counts(start, stop);
+            counts.present().collect()
+        };
+        let three = [(Spot::Bad, 1), (Spot::Block, 1), (Spot::Stale, 1)];
+        let unused = |number| (Spot::Unused, number);
+        assert_eq!(present(100, 110), [&three[..], &[unused(7)]].concat());
+        assert_eq!(present(110, 120), [unused(10)]);
+        assert_eq!(present(0, 10), [(Spot::DefectMap, 5), unused(5)]);
+        assert_eq!(present(2_999, 3_001), [(Spot::DefectMap, 1), unused(1)]);
+        let all = cartridge.all_counts();
+        assert_eq!((all.of(Spot::DefectMap), all.all()), (10, 3_101));
     }
 }

@@ -1,12 +1,17 @@
 //! A map as text.
 
+use super::counts::{Counts, NOTABLE};
 use super::layout::{Row, Rows};
-use super::spots::{Spot, Spots, KINDS};
+use super::spots::{Reading, Spot, Spots};
 use crate::text::{count, grouped, printable};
+
+/// The damaged addresses that are named; 'adr check' names all of them.
+const MOST_NAMED: usize = 4;
 
 /// The character of a spot.
 fn character(spot: Spot) -> char {
     match spot {
+        Spot::Damaged => '!',
         Spot::Bad => 'x',
         Spot::End => 'E',
         Spot::Filemark => '|',
@@ -21,6 +26,7 @@ fn character(spot: Spot) -> char {
 /// What a kind of spot is called.
 pub fn name(spot: Spot) -> &'static str {
     match spot {
+        Spot::Damaged => "damaged",
         Spot::Bad => "bad spot",
         Spot::End => "end of data",
         Spot::Filemark => "filemark",
@@ -33,12 +39,13 @@ pub fn name(spot: Spot) -> &'static str {
 }
 
 /// The order in which a legend names the kinds.
-pub const LEGEND: [Spot; 8] = [
+pub const LEGEND: [Spot; 9] = [
     Spot::Header,
     Spot::Block,
     Spot::Filemark,
     Spot::End,
     Spot::Bad,
+    Spot::Damaged,
     Spot::Stale,
     Spot::DefectMap,
     Spot::Unused,
@@ -55,13 +62,44 @@ pub fn heading(spots: &Spots, rows: &Rows) -> String {
     format!("{title}: {frames}, {scale}")
 }
 
-/// What a reader of the map should know beside it, if anything.
-pub fn remark(spots: &Spots) -> Option<String> {
-    match spots.stopped {
-        Some(refusal) => Some(format!("Reading stopped: {refusal}")),
-        None if !spots.recorded => Some(String::from("The cartridge holds no recording.")),
-        None => None,
+/// What is wrong with the cartridge.
+pub fn wrong(spots: &Spots) -> Vec<String> {
+    let reading = match spots.reading {
+        Reading::Whole | Reading::Empty => None,
+        Reading::NoHeader => Some(String::from("the cartridge holds frames but no header")),
+        Reading::Stopped(refusal) => Some(format!("reading stopped: {refusal}")),
+    };
+    reading.into_iter().chain(damage(spots)).collect()
+}
+
+/// Where frames are damaged, if any are.
+fn damage(spots: &Spots) -> Option<String> {
+    let addresses: Vec<u32> = spots.addresses(Spot::Damaged).collect();
+    let (named, others) = addresses.split_at(addresses.len().min(MOST_NAMED));
+    let mut words: Vec<String> = named.iter().map(u32::to_string).collect();
+    if !others.is_empty() {
+        let others = u64::try_from(others.len()).unwrap_or(u64::MAX);
+        words.push(format!("{} more", grouped(others)));
     }
+    let last = words.pop()?;
+    Some(if words.is_empty() {
+        format!("damaged at address {last}")
+    } else {
+        format!("damaged at addresses {} and {last}", words.join(", "))
+    })
+}
+
+/// What a reader of the map should know beside it.
+pub fn remarks(spots: &Spots) -> Vec<String> {
+    let empty = (spots.reading == Reading::Empty).then_some("the cartridge holds no recording");
+    let remarks = empty.map(String::from).into_iter().chain(wrong(spots));
+    remarks.map(|remark| sentence(&remark)).collect()
+}
+
+fn sentence(text: &str) -> String {
+    let mut letters = text.chars();
+    let first = letters.next().map(|letter| letter.to_ascii_uppercase());
+    first.into_iter().chain(letters).chain(['.']).collect()
 }
 
 /// Draws a map.
@@ -70,8 +108,9 @@ pub fn draw(spots: &Spots, rows: &Rows) -> String {
     text.push_str("\n\n");
     for row in &rows.rows {
         text.push_str(&match row {
-            Row::Spots { first, spots } => {
-                let characters: String = spots.iter().map(|spot| character(*spot)).collect();
+            Row::Groups { first, groups } => {
+                let shown = groups.iter().map(Counts::shown);
+                let characters: String = shown.map(character).collect();
                 format!("{:>13}  {characters}\n", grouped(*first))
             }
             Row::Unused { first, count } => {
@@ -81,23 +120,25 @@ pub fn draw(spots: &Spots, rows: &Rows) -> String {
         });
     }
     text.push('\n');
+    let counts = spots.all_counts();
     for pair in LEGEND.chunks(2) {
-        let cells: Vec<String> = pair.iter().map(|spot| legend(spots, *spot)).collect();
+        let cells: Vec<String> = pair.iter().map(|spot| legend(&counts, *spot)).collect();
         text.push_str(&format!("  {}\n", cells.join("    ").trim_end()));
     }
     if rows.scale > 1 {
-        let order: String = KINDS.into_iter().map(character).collect();
+        let notable = NOTABLE.map(|kind| format!("{}, else ", character(kind)));
         text.push_str(&format!(
-            "  Of several in one character the first of {order} is shown.\n"
+            "  A character shows {}the kind most of its frames are.\n",
+            notable.concat()
         ));
     }
-    if let Some(remark) = remark(spots) {
+    for remark in remarks(spots) {
         text.push_str(&format!("  {remark}\n"));
     }
     text
 }
 
-fn legend(spots: &Spots, spot: Spot) -> String {
-    let number = grouped(spots.count(spot));
+fn legend(counts: &Counts, spot: Spot) -> String {
+    let number = grouped(counts.of(spot));
     format!("{} {:<12} {number:>13}", character(spot), name(spot))
 }

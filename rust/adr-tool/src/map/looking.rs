@@ -1,0 +1,160 @@
+//! Finding out what stands at each address.
+
+use adr_model::frame::{aux_of, number_at, Frame, Kind};
+use adr_model::header::fields_of;
+use adr_model::judgement::{judge, Expectation, Judgement};
+use adr_model::SequenceNumber;
+use adr_tape::{
+    header_addresses, newer, newest_header, Command, Delivery, Drive, HeaderError, ReadNext,
+    Reader, Refusal, Sense, BLOCK_LENGTH, FRAME_LENGTH,
+};
+
+use super::labels::Labels;
+use super::spots::{Reading, Spot, Spots};
+use crate::failure::Failure;
+use crate::frames;
+use crate::image::Image;
+
+/// Where the sequence number stands in an AUX.
+const NUMBER: usize = 44;
+
+/// Looks at an image as a reading does, and tests every frame.
+pub fn look_at(image: &mut Image, quiet: bool) -> Result<Spots, Failure> {
+    let path = image.path().to_path_buf();
+    let geometry = image.geometry();
+    let refused = |refusal: Refusal| Failure::new(format!("{}: {refusal}", path.display()));
+    let last = geometry.last().map_err(refused)?;
+    let header = newest_header(&mut Labels::new(image), geometry);
+    let header = header.map_err(|error| match error {
+        HeaderError::Refused(refusal) => refused(refusal),
+        HeaderError::Drive(failure) => failure,
+    })?;
+    if header.is_none() {
+        image.require_blank_headers()?;
+    }
+    let frames = frames::test_all(image, quiet)?;
+    let mut spots = Spots {
+        title: path
+            .file_name()
+            .unwrap_or_default()
+            .to_string_lossy()
+            .into_owned(),
+        last: last.0,
+        known: image
+            .known()
+            .filter(|(_, reads, failed)| *reads || *failed)
+            .map(|(address, _, failed)| {
+                let spot = if failed { Spot::Bad } else { Spot::Stale };
+                (address, spot)
+            })
+            .collect(),
+        reading: match frames {
+            0 => Reading::Empty,
+            _ => Reading::NoHeader,
+        },
+    };
+    if let Some(header) = header {
+        mark_headers(&mut Labels::new(image), &header, &mut spots)?;
+        spots.reading = mark_elements(&mut Labels::new(image), &header, &mut spots)?;
+        if let Reading::Stopped(_) = spots.reading {
+            mark_beyond(image, &header, &mut spots)?;
+        }
+    }
+    let damaged = image.damaged().map(|address| (address, Spot::Damaged));
+    spots.known.extend(damaged);
+    Ok(spots)
+}
+
+/// Marks the copies that are as new as the newest.
+fn mark_headers(labels: &mut Labels<'_>, header: &[u8], spots: &mut Spots) -> Result<(), Failure> {
+    let geometry = labels.geometry();
+    let update_count = |frame: &[u8]| {
+        frame
+            .get(BLOCK_LENGTH + 12..BLOCK_LENGTH + 16)
+            .map(<[u8]>::to_vec)
+    };
+    let mut frame = vec![0; FRAME_LENGTH];
+    for address in header_addresses() {
+        labels.locate(address)?;
+        let reply = labels.read(address, &mut frame)?;
+        if reply.sense == Sense::GOOD
+            && newer(geometry, &frame, &frame).is_ok()
+            && update_count(&frame) == update_count(header)
+        {
+            spots.known.insert(address.0, Spot::Header);
+        }
+    }
+    Ok(())
+}
+
+/// Marks what a reading delivers.
+fn mark_elements(
+    labels: &mut Labels<'_>,
+    header: &[u8],
+    spots: &mut Spots,
+) -> Result<Reading, Failure> {
+    let mut frame = vec![0; FRAME_LENGTH];
+    let mut reader = match Reader::open(labels.geometry(), header) {
+        Ok(reader) => reader,
+        Err(refusal) => return Ok(Reading::Stopped(refusal)),
+    };
+    loop {
+        let (address, reply) = match reader.fetch() {
+            Ok(ReadNext::Send(Command::Read(address))) => {
+                (address, labels.read(address, &mut frame)?)
+            }
+            Ok(ReadNext::Send(Command::Locate(address))) => (address, labels.locate(address)?),
+            Ok(ReadNext::Send(_) | ReadNext::End) => return Ok(Reading::Whole),
+            Err(refusal) => return Ok(Reading::Stopped(refusal)),
+        };
+        let spot = match reader.reply(reply, &frame) {
+            Ok(Delivery::Nothing) => continue,
+            Ok(Delivery::Block(_)) => Spot::Block,
+            Ok(Delivery::Filemark) => Spot::Filemark,
+            Ok(Delivery::End) => Spot::End,
+            Err(refusal) => return Ok(Reading::Stopped(refusal)),
+        };
+        spots.known.insert(address.0, spot);
+    }
+}
+
+/// Marks the recording's elements beyond one that is missing too, where the
+/// layer rightly delivers nothing: each frame is judged by itself.
+fn mark_beyond(image: &mut Image, header: &[u8], spots: &mut Spots) -> Result<(), Failure> {
+    let last = adr_model::Address(spots.last);
+    let fields = <&Frame>::try_from(header).ok();
+    let Some(fields) = fields.and_then(|header| fields_of(header, last)) else {
+        return Ok(());
+    };
+    let mut frame: Frame = [0; FRAME_LENGTH];
+    let mut next = SequenceNumber(0);
+    for (address, spot) in &mut spots.known {
+        let read = image.aux(*address, frame.split_at_mut(BLOCK_LENGTH).1);
+        if let Some(failure) = image.take_error() {
+            return Err(failure);
+        }
+        let number = SequenceNumber(number_at(aux_of(&frame), NUMBER));
+        // An element that was sent again is in force where it came first.
+        if !read || number < next {
+            continue;
+        }
+        let expectation = Expectation {
+            pass: fields.pass,
+            last,
+            number,
+        };
+        let Judgement::Expected(kind) = judge(&expectation, &frame) else {
+            continue;
+        };
+        *spot = match kind {
+            Kind::Data => Spot::Block,
+            Kind::Marker => Spot::Filemark,
+            Kind::Eod => Spot::End,
+        };
+        if kind == Kind::Eod {
+            return Ok(());
+        }
+        next = SequenceNumber(number.0.saturating_add(1));
+    }
+    Ok(())
+}
