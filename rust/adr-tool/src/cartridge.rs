@@ -176,7 +176,8 @@ impl Cartridge {
         sink: impl FnMut(Element<'_>) -> Result<ControlFlow<()>, Failure>,
         progress: &mut Progress,
     ) -> Result<Summary, ReadError<Failure, Failure>> {
-        let header = self.header_of_frames("use a copy of the file");
+        let header =
+            self.header_of_frames("use a copy of the file, or 'adr salvage' for what is left");
         let Some(header) = header.map_err(ReadError::Drive)? else {
             return Ok(Summary::default());
         };
@@ -210,7 +211,8 @@ impl Cartridge {
             Err(ReadError::Sink(failure)) => Err(failure),
             Err(ReadError::Drive(failure)) => Err(jobs.place(failure)),
             Err(ReadError::Refused(refusal)) => {
-                Err(jobs.place(self.refused("reading stopped", refusal)))
+                let stopped = jobs.place(self.refused("reading stopped", refusal));
+                Err(stopped.with("'adr salvage' restores the jobs behind it that are whole"))
             }
             Ok(_) if jobs.is_within() && !stopped => Err(Failure::new(format!(
                 "{}: job {} has no filemark at its end",

@@ -44,9 +44,12 @@ impl Failure {
 
     /// This failure, of a recording that was not put in force.
     pub fn unrecorded(self) -> Failure {
-        let told = |message| {
-            format!("{message}; nothing was recorded, the cartridge holds what it held before")
-        };
+        self.with("nothing was recorded, the cartridge holds what it held before")
+    }
+
+    /// This failure with more to tell, if there is a message.
+    pub fn with(self, more: impl Display) -> Failure {
+        let told = |message| format!("{message}; {more}");
         match self {
             Failure::Failed(message) => Failure::Failed(told(message)),
             Failure::Interrupted(signal, message) => Failure::Interrupted(signal, told(message)),

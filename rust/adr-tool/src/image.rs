@@ -114,7 +114,8 @@ impl Image {
     /// damaged from one that has none.
     pub fn require_blank_headers(&self) -> Result<(), Failure> {
         self.require_undamaged(
-            "no other copy reads, and nothing was changed: use a copy of the file",
+            "no other copy reads, and nothing was changed: \
+             use a copy of the file, or 'adr salvage' for what is left",
         )
     }
 
