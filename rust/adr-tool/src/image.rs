@@ -326,8 +326,9 @@ impl Storage for Image {
             generation: self.next_generation(),
             sum,
         };
-        let mut content = vec![0; CELL];
-        layout::put(&mut content, 0, frame.as_slice());
+        let mut content = Vec::with_capacity(CELL);
+        content.extend_from_slice(frame.as_slice());
+        content.resize(CELL, 0);
         label.put(&mut content);
         let written = self.write_cell(cell, &content);
         self.keep(written);

@@ -21,14 +21,8 @@ const ON_AN_IMAGE: [&[&str]; 5] = [
     &["record", "--overwrite", "a.adr", "file"],
 ];
 
-/// A place with an image of one recording.
 fn recorded(name: &str) -> Place {
-    let place = Place::new(name);
-    place.write("file", &bytes(200_000, 1));
-    place.write("new", &bytes(300_000, 2));
-    place.adr(&["format", "a.adr"]).succeeded();
-    place.adr(&["record", "a.adr", "file"]).succeeded();
-    place
+    Place::recorded(name, 200_000, 300_000)
 }
 
 /// Every command fails with a message, and the image stays as it is.

@@ -9,21 +9,15 @@ use std::process::{Child, Command, Output, Stdio};
 use std::time::Duration;
 
 use place::image::{entries, CELL, CELLS, PAGE, ROOTS};
-use place::{bytes, feed, Place, ADR};
+use place::{feed, Place, ADR};
 
 const SIGNALS: [(&str, i32); 3] = [("HUP", 1), ("INT", 2), ("TERM", 15)];
 
 /// Bytes that a file system may need beside a file's own.
 const SLACK: u64 = 65_536;
 
-/// A place with an image of one recording.
 fn recorded(name: &str) -> Place {
-    let place = Place::new(name);
-    place.write("file", &bytes(2_000_000, 1));
-    place.write("new", &bytes(1_900_000, 2));
-    place.adr(&["format", "a.adr"]).succeeded();
-    place.adr(&["record", "a.adr", "file"]).succeeded();
-    place
+    Place::recorded(name, 2_000_000, 1_900_000)
 }
 
 /// Bytes that the image takes on disk.

@@ -16,14 +16,8 @@ use place::{bytes, feed, Place, Ran};
 const LENGTH: usize = 16;
 const NEW_FIELDS: std::ops::Range<usize> = 288..294;
 
-/// A place with an image of one recording.
 fn recorded(name: &str) -> Place {
-    let place = Place::new(name);
-    place.write("file", &bytes(200_000, 1));
-    place.write("new", &bytes(300_000, 2));
-    place.adr(&["format", "a.adr"]).succeeded();
-    place.adr(&["record", "a.adr", "file"]).succeeded();
-    place
+    Place::recorded(name, 200_000, 300_000)
 }
 
 /// A recording over the image that was given some bytes, more than a pipe

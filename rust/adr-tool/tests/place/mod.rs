@@ -31,6 +31,17 @@ impl Place {
         Place { directory }
     }
 
+    /// A place with an image of one recording of `file`, and `new` beside it,
+    /// of so many bytes.
+    pub fn recorded(name: &str, file: usize, new: usize) -> Place {
+        let place = Place::new(name);
+        place.write("file", &bytes(file, 1));
+        place.write("new", &bytes(new, 2));
+        place.adr(&["format", "a.adr"]).succeeded();
+        place.adr(&["record", "a.adr", "file"]).succeeded();
+        place
+    }
+
     pub fn path(&self, name: &str) -> PathBuf {
         self.directory.join(name)
     }
