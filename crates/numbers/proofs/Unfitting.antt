@@ -31,10 +31,6 @@ use Rattle.numbers.specs.declared.arguments.AdrReply.{AdrReply}
 use Rattle.numbers.specs.declared.arguments.AdrGeometry.{AdrGeometry}
 use Rattle.numbers.specs.Arguments.{isGeometry, withoutFrames, geometryOf, fittingOf, meaningless, isWriteError, asReply}
 
--- these numbers with another skip
-abbrev skipping : AdrReply → ℕ → AdrReply
-skipping r n = record { buffered = r .buffered; position = r .position; skip = n; key = r .key; asc = r .asc; ascq = r .ascq }
-
 -- numbers that are no geometry's
 no-geometry : (g : AdrGeometry) → isGeometry g ≡ false → geometryOf g ≡ withoutFrames
 unfolding geometryOf
@@ -78,6 +74,10 @@ no-case (Read a) s = refl
 no-case (Write a) s = refl
 no-case (Locate a) s = refl
 no-case ReadPosition s = refl
+
+-- these numbers with another skip
+abbrev skipping : AdrReply → ℕ → AdrReply
+skipping r n = record { buffered = r .buffered; position = r .position; skip = n; key = r .key; asc = r .asc; ascq = r .ascq }
 
 -- a reply that is no write error is the same whichever skip it has
 pub skip-unread : (r : AdrReply) (n : ℕ) → isWriteError r ≡ false → asReply r ≡ asReply (skipping r n)
