@@ -33,7 +33,7 @@
    A RECORDING, in short. 'send' sends a command to the drive and returns its
    reply; it sends the frame with a WRITE, and fills it with what a READ brings:
 
-       struct adr_record_outcome o = adr_record_open_blank(g, depth, 8);
+       struct adr_record_outcome o = adr_record_open_blank(g, depth, 64);
        while (!o.number) {
            while (have_block && !o.number) {
                o = adr_record_block(o.session, block, sizeof block, window, sizeof window);
@@ -104,10 +104,16 @@
    drive's buffer is never filled; with more, the host can accept elements while
    it is full.
 
-   LOCATE empties the drive's buffer; its SKIP bit is 0. The layer gives one
-   only when nothing of the session is buffered, or after a write error, and
-   then gives again what is still to be written. In a session the host sends no
-   command of its own that moves the tape or empties the buffer.
+   COMMANDS. READ and WRITE go out with the Fixed bit and a transfer length of
+   1, LOCATE with BT and SKIP 0 and either Immed bit. LOCATE empties the drive's
+   buffer; the layer gives one only when nothing of the session is buffered, or
+   after a write error, and then gives again what is still to be written.
+   In a session the host sends no command of its own that moves the tape or
+   empties the buffer, and no READ POSITION or WRITE, not even one of length 0:
+   they report a write error, which the layer then never sees. Where the bus
+   must not be held up, MODE SENSE of page 33 tells the frames in the buffer
+   (byte 3) and reports no error, and a READ of length 0 sets the drive reading;
+   if that is answered by anything but good or busy, do as without a reply.
 
    WAITING. While the drive is busy, and while its buffer is full or is being
    emptied, the layer gives the same command again, at once and without end. A

@@ -38,7 +38,7 @@ use index::{Entry, Place};
 use label::Label;
 use layout::{Root, CELL, ROOTS};
 
-pub use file::{refuse_itself, Access};
+pub use file::{open_regular, refuse_itself, Access};
 pub use frames::{Frames, Origin};
 pub use layout::is_image_file;
 pub use making::format;

@@ -10,7 +10,7 @@ use adr_tape::Summary;
 use crate::arguments::{Arguments, Options};
 use crate::cartridge::{bytes_in, Cartridge};
 use crate::failure::Failure;
-use crate::image::{refuse_itself, Access};
+use crate::image::Access;
 use crate::interruption;
 use crate::job::source::{Elements, Input};
 use crate::output;
@@ -55,8 +55,10 @@ pub fn run(arguments: &Arguments) -> Result<(), Failure> {
         progress.update(bytes, bytes, total);
     })?;
     drop(progress);
-    if !quiet && std::io::stderr().is_terminal() {
-        output::message(told(jobs, &summary));
+    if !quiet {
+        if std::io::stderr().is_terminal() {
+            output::message(told(jobs, &summary));
+        }
         output::message(format!("{}: {}", path.display(), cartridge.room()?));
     }
     tell_changed(path, elements.changed())
@@ -163,8 +165,7 @@ fn inputs(image: &Path, files: &[OsString], name: Option<&OsStr>) -> Result<Vec<
             let name = name.unwrap_or(OsStr::new("stdin"));
             inputs.push(Input::standard_input(name)?);
         } else {
-            refuse_itself(image, Path::new(file))?;
-            inputs.push(Input::file(Path::new(file))?);
+            inputs.push(Input::file(Path::new(file), image)?);
         }
     }
     Ok(inputs)

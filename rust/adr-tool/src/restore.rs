@@ -166,15 +166,21 @@ impl Restoring<'_> {
         if !self.wanted.begins(number, name) {
             return Ok(());
         }
+        let by_name = !self.wanted.is_all() && !self.wanted.has_number(number);
         // A name stands for its first job, and a directory has it once.
-        let once = self.target.is_directory() || !self.wanted.has_number(number);
+        let once = self.target.is_directory() || by_name;
         if let Some(first) = self.written.get(name).filter(|_| once) {
-            let why = format!(
-                "job {number}, '{}': job {first} has that name too: \
+            let again = format!(
+                "{}: job {number}, '{}': job {first} has that name too: \
                  restore it by number with '--output FILE'",
+                self.image.display(),
                 printable(name)
             );
-            return self.pass_over(self.failure(why));
+            if by_name {
+                output::message(again);
+                return Ok(());
+            }
+            return self.pass_over(Failure::new(again));
         }
         match self.open(description) {
             Ok(writer) => {

@@ -44,6 +44,7 @@ pub fn run(arguments: &Arguments) -> Result<(), Failure> {
     let directory = directory
         .ok_or_else(|| Failure::usage("name a directory for the jobs: '--into DIRECTORY'"))?;
     require_directory(directory)?;
+    output::require_open()?;
     let quiet = arguments.has("--quiet");
     let frames = Frames::open(path)?;
     if frames.has_index() && frames.count() == 0 {

@@ -67,7 +67,8 @@ in force, its other jobs are whole. Names that come again are told.
   --faults SEED   let the drive have faults, picked by this number
   --depth N       frames that the drive buffers, 1 to 255 (32)
   --window N      blocks that may wait for the drive, 1 to 64 (64)
-  --quiet         no progress and no summary on a terminal
+  --quiet         no progress and no summary on a terminal, and nothing about
+                  capacity
 ";
 
 /// The help of `list`.
@@ -97,14 +98,14 @@ usage: adr restore [OPTION...] IMAGE JOB...
 Writes jobs to standard output, one behind the other in the order of the tape,
 or to files, with the time when they were last changed. A JOB is a number or a
 name. A word of digits is a number, never a name; a name stands for the first
-job that has it. Reading ends behind the last job asked for, but a name is
-looked for to the end of data.
+job that has it, and others are told. Reading ends behind the last job asked
+for, but a name is looked for to the end of data.
 
 A file gets its name when it is whole; on standard output only the exit status
 tells. What cannot be restored is told and passed over, and the exit status is
-then 1: jobs that are not there, jobs of another program, jobs with the name
-of an earlier one and, with --into, files that exist and jobs that are not
-whole. Files get the mode that was recorded, under the umask. A job whose file
+then 1: jobs that are not there, jobs of another program and, with --into,
+files that exist, jobs that are not whole and jobs with the name of an earlier
+one. Files get the mode that was recorded, under the umask. A job whose file
 shrank or grew while it was recorded is restored and told; the exit status is
 then 1 too.
 

@@ -123,7 +123,11 @@ fn every_command_on_a_cartridge() {
     let names = files.map(|(name, _)| name);
     let words = [&["record", "a.adr"][..], &names].concat();
     let recorded = place.adr(&words).succeeded();
-    assert_eq!((recorded.output_text(), recorded.error.as_str()), ("", ""));
+    let told = "adr: a.adr: capacity at most 15.1 GB: 1.6 MB used, at most 15.1 GB free\n";
+    assert_eq!(
+        (recorded.output_text(), recorded.error.as_str()),
+        ("", told)
+    );
 
     let list = place.adr(&["list", "a.adr"]).succeeded();
     assert_eq!(list.output_text().lines().count(), files.len());

@@ -4,7 +4,6 @@ mod place;
 
 use std::collections::BTreeSet;
 use std::os::unix::fs::PermissionsExt;
-use std::process::Command;
 
 use place::{Place, Ran};
 
@@ -89,9 +88,6 @@ fn plain_lines_where_there_is_no_terminal() {
 
 #[test]
 fn one_line_on_a_terminal() {
-    if Command::new("script").arg("--version").output().is_err() {
-        return;
-    }
     let place = with_stand_ins("one-line");
     let all = crates_of("adr").len();
     let ran = demo(&place, all, "", true).succeeded();

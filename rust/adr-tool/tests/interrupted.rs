@@ -6,10 +6,9 @@ use std::fs::{self, File};
 use std::os::unix::fs::MetadataExt;
 use std::os::unix::process::ExitStatusExt;
 use std::process::{Child, Command, Output, Stdio};
-use std::time::Duration;
 
 use place::image::{entries, CELL, CELLS, PAGE, ROOTS};
-use place::{feed, Place, ADR};
+use place::{feed, wait_beside, Place, ADR};
 
 const SIGNALS: [(&str, i32); 3] = [("HUP", 1), ("INT", 2), ("TERM", 15)];
 
@@ -97,10 +96,8 @@ fn in_a_long_file() {
         .expect("a file system with holes");
     let words = ["record", "--overwrite", "a.adr", "long"];
     let mut command = place.command(&words);
-    let child = command.stderr(Stdio::piped()).spawn().expect("the tool");
-    while taken(&place) < 10_000_000 {
-        std::thread::sleep(Duration::from_millis(1));
-    }
+    let mut child = command.stderr(Stdio::piped()).spawn().expect("the tool");
+    wait_beside(&mut child, || taken(&place) >= 10_000_000);
     send("INT", &child);
     ended_by(2, &child.wait_with_output().expect("it ended"));
     assert!(place.read("a.adr") == image);

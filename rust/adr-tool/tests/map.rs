@@ -53,6 +53,9 @@ fn refused_and_unchanged(place: &Place, line: &str, why: &str) {
 fn pictures_replace_nothing_unasked() {
     let place = recorded("pictures");
     place.adr(&["format", "b.adr"]).succeeded();
+    let mut damaged = place.read("b.adr");
+    damaged[0] ^= 1;
+    place.write("damaged", &damaged);
     place.directory("d");
     place
         .shell("ln -s b.adr to-image; ln -s p.svg to-file; ln -s none to-none")
@@ -64,6 +67,7 @@ fn pictures_replace_nothing_unasked() {
         refused_and_unchanged(&place, &format!("{line} p.svg"), exists);
         for (file, why) in [
             ("b.adr", "b.adr: is a cartridge image; it is left alone"),
+            ("damaged", "damaged: is a cartridge image; it is left alone"),
             ("to-image", "to-image: is a link; it is left alone"),
             ("to-file", "to-file: is a link"),
             ("to-none", "to-none: is a link"),

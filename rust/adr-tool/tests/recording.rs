@@ -9,7 +9,7 @@ use std::process::{Child, Stdio};
 use std::time::{Duration, UNIX_EPOCH};
 
 use place::image::{cells_with, seal_description, set_number, DESCRIPTION};
-use place::{bytes, feed, Place, Ran};
+use place::{bytes, feed, wait_beside, Place, Ran};
 
 /// Where a job's first block tells the length, and what the first version of
 /// it did not tell.
@@ -61,14 +61,12 @@ fn a_file_that_shrinks() {
     place.adr(&["format", "a.adr"]).succeeded();
     let words = ["record", "a.adr", "shrinking", "other"];
     let mut command = place.command(&words);
-    let child = command.stderr(Stdio::piped()).spawn().expect("the tool");
-    while length(&place, "a.adr") < 1_000_000 {
-        std::thread::sleep(Duration::from_millis(1));
-    }
+    let mut child = command.stderr(Stdio::piped()).spawn().expect("the tool");
+    wait_beside(&mut child, || length(&place, "a.adr") >= 1_000_000);
     file.set_len(0).expect("less room");
     let record = ended(child).failed();
     let told = "adr: shrinking: shrank from 8,000,000,000 to ";
-    assert!(record.error.starts_with(told), "{}", record.error);
+    assert!(record.error.contains(told), "{}", record.error);
     assert!(record.error.contains("recorded and in force, but 1 file"));
     // The other job is whole.
     let restored = place.adr(&["restore", "a.adr", "2"]).succeeded();
@@ -281,7 +279,8 @@ fn names_that_come_again() {
     let place = recorded("again");
     place.directory("p");
     place.write("p/file", b"another");
-    let words = ["record", "--overwrite", "a.adr", "file", "new", "p/file"];
+    let files = ["file", "new", "p/file"];
+    let words = [&["record", "--overwrite", "--quiet", "a.adr"][..], &files].concat();
     let record = place.adr(&words).succeeded();
     let told = "adr: job 3, 'file': job 1 has that name too, \
                 and 'restore --into' will pass over job 3\n";

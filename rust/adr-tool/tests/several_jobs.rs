@@ -123,13 +123,19 @@ fn words_that_ask_for_nothing() {
 fn names_that_come_twice() {
     let place = recorded("several-twice");
     let twice = "job 4, 'kyrie': job 1 has that name too: restore it by number";
-    let ran = restore(&place, &["kyrie"]).failed();
+    let ran = restore(&place, &["kyrie"]).succeeded();
     assert!(ran.output == content(1));
     told(&ran, &[twice]);
-    told(&restore(&place, &["kyrie", "-oone"]).failed(), &[twice]);
+    told(&restore(&place, &["kyrie", "-oone"]).succeeded(), &[twice]);
     assert!(place.read("one") == content(1));
-    let ran = restore(&place, &["3", "kyrie"]).failed();
+    let ran = restore(&place, &["3", "kyrie"]).succeeded();
     assert!(ran.output == contents(&[1, 3]));
+    told(&ran, &[twice]);
+    told(
+        &restore(&place, &["--into", "out", "kyrie"]).succeeded(),
+        &[twice],
+    );
+    let ran = restore(&place, &["--into", "out", "--overwrite"]).failed();
     told(&ran, &[twice, "1 job was not restored"]);
 }
 

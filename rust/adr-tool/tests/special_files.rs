@@ -4,11 +4,11 @@ mod place;
 
 use std::os::unix::net::UnixListener;
 
-use place::Place;
+use place::{bytes, Place};
 
 /// Every command that takes an image; `$NAME` is the image, and none may
 /// wait for anything.
-const COMMANDS: [&str; 8] = [
+const COMMANDS: [&str; 9] = [
     "format $NAME",
     "format --overwrite $NAME",
     "record $NAME file",
@@ -17,6 +17,7 @@ const COMMANDS: [&str; 8] = [
     "restore $NAME 1",
     "check $NAME",
     "map $NAME",
+    "salvage $NAME --into .",
 ];
 
 #[test]
@@ -40,5 +41,28 @@ fn images_that_are_no_regular_files() {
             let told = format!("adr: {name}: not a regular file\n");
             assert_eq!(refused.error, told, "{line}");
         }
+    }
+}
+
+/// A file that is something else when its turn comes: a pipe, or the image.
+#[test]
+fn files_that_are_replaced_meanwhile() {
+    for (replaced, why) in [
+        ("mkfifo file", "file: not a regular file"),
+        ("ln -s a.adr file", "file: is the cartridge image itself"),
+    ] {
+        let place = Place::new("replaced");
+        place.write("file", &bytes(100, 1));
+        place.adr(&["format", "a.adr"]).succeeded();
+        let image = place.read("a.adr");
+        // More than a pipe holds: when all is written the recording is under
+        // way, and the file was looked at.
+        let line = format!(
+            "mkfifo first; {{ head -c 1000000 /dev/zero; rm file; {replaced}; }} > first & \
+             timeout 60 $ADR record a.adr first file"
+        );
+        let refused = place.shell(&line).failed();
+        assert!(refused.error.contains(why), "{}", refused.error);
+        assert!(place.read("a.adr") == image);
     }
 }

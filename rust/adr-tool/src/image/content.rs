@@ -117,7 +117,6 @@ fn read_geometry(path: &Path, file: &File) -> Result<Geometry, Failure> {
         return Err(foreign(path));
     }
     layout::read_head(&read_page(path, file, 0)?).map_err(|wrong| match wrong {
-        WrongHead::Foreign => foreign(path),
         WrongHead::Version(version) => Failure::new(format!(
             "{}: the image has layout {version}, this tool knows layout {}: use a later one",
             path.display(),

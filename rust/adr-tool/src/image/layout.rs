@@ -76,21 +76,24 @@ fn is_sealed(page: &[u8; PAGE]) -> bool {
     checksum(page.split_at(PAGE_SUM).0) == number(page, PAGE_SUM)
 }
 
-/// Why a file's first page is no head.
+/// Why an image's first page is no head.
 #[derive(Clone, Copy, Debug, PartialEq, Eq)]
 pub enum WrongHead {
-    /// Another kind of file.
-    Foreign,
     /// An image of a later layout.
     Version(u32),
     /// An image's head, but damaged.
     Damaged,
 }
 
-/// Whether a file starts like an image, whole or not.
+/// Whether a file is an image, whole or not: one of its first pages is
+/// enough.
 pub fn is_image_file(file: &File) -> bool {
-    let mut start = IMAGE_MAGIC.map(|_| 0);
-    file.read_exact_at(&mut start, 0).is_ok() && start == IMAGE_MAGIC
+    let starts = |magic: [u8; 8], offset: u64| {
+        let mut start = [0; 8];
+        file.read_exact_at(&mut start, offset).is_ok() && start == magic
+    };
+    let root = |offset: &u64| starts(ROOT_MAGIC, *offset);
+    starts(IMAGE_MAGIC, 0) || ROOTS.iter().any(root)
 }
 
 /// The head of an image.
@@ -111,11 +114,8 @@ pub fn head_page(geometry: Geometry) -> [u8; PAGE] {
 
 /// The geometry that a head tells.
 pub fn read_head(page: &[u8; PAGE]) -> Result<Geometry, WrongHead> {
-    if !page.starts_with(&IMAGE_MAGIC) {
-        return Err(WrongHead::Foreign);
-    }
     let word = |at| u32::from_be_bytes(bytes(page, at));
-    if !is_sealed(page) {
+    if !page.starts_with(&IMAGE_MAGIC) || !is_sealed(page) {
         return Err(WrongHead::Damaged);
     }
     if word(8) != VERSION {
@@ -210,7 +210,7 @@ mod tests {
                 assert!(read_head(&damaged).is_err(), "byte {at}");
             }
         }
-        assert_eq!(read_head(&[0; PAGE]), Err(WrongHead::Foreign));
+        assert_eq!(read_head(&[0; PAGE]), Err(WrongHead::Damaged));
     }
 
     #[test]

@@ -15,6 +15,7 @@ use adr_tape::{Element, BLOCK_LENGTH};
 use super::{is_plain_name, Closing, Description, LONGEST_NAME, PERMISSIONS};
 use crate::digest::Sha256;
 use crate::failure::Failure;
+use crate::image::{open_regular, refuse_itself, Access};
 use crate::interruption::{self, Stream};
 use crate::timestamp::Timestamp;
 
@@ -27,20 +28,22 @@ pub struct Input {
 }
 
 enum Bytes {
-    /// A regular file's, which is opened when its turn comes.
-    File,
+    /// A regular file's, which is opened when its turn comes, unless it is
+    /// this image by then.
+    File(PathBuf),
     /// They can be read once.
     Stream(Box<dyn Read>),
 }
 
 impl Input {
-    /// The file at a path, after a look at it: what cannot be recorded is
-    /// told before the first frame is written.
-    pub fn file(path: &Path) -> Result<Input, Failure> {
-        let file = open(path)?;
+    /// The file at a path, to be recorded on an image, after a look at it:
+    /// what cannot be recorded is told before the first frame is written.
+    pub fn file(path: &Path, image: &Path) -> Result<Input, Failure> {
+        refuse_itself(image, path)?;
+        let file = File::open(path).map_err(|error| Failure::of_file(path, &error))?;
         let description = describe(path, &file)?;
         let bytes = match description.length {
-            Some(_) => Bytes::File,
+            Some(_) => Bytes::File(image.to_path_buf()),
             // A pipe that is opened twice has lost its writer.
             None => Bytes::Stream(Box::new(Stream(file))),
         };
@@ -89,8 +92,13 @@ impl Input {
 
     fn open(self) -> Result<Job, Failure> {
         let (description, bytes, file): (_, Box<dyn Read>, _) = match self.bytes {
-            Bytes::File => {
-                let file = open(&self.shown)?;
+            Bytes::File(image) => {
+                // Something else may have come in its place since the first
+                // look, even the image.
+                refuse_itself(&image, &self.shown)?;
+                let opened = open_regular(&self.shown, Access::Read);
+                let opened = opened.map_err(|error| Failure::of_file(&self.shown, &error));
+                let (file, _) = opened?;
                 let again = file.try_clone();
                 let again = again.map_err(|error| Failure::of_file(&self.shown, &error))?;
                 let description = describe(&self.shown, &file)?;
@@ -109,10 +117,6 @@ impl Input {
             change: None,
         })
     }
-}
-
-fn open(path: &Path) -> Result<File, Failure> {
-    File::open(path).map_err(|error| Failure::of_file(path, &error))
 }
 
 fn describe(path: &Path, file: &File) -> Result<Description, Failure> {
@@ -314,7 +318,7 @@ mod tests {
         let path = std::env::temp_dir().join(path);
         std::fs::write(&path, vec![7; 100_000]).expect("room for a file");
         let mut file = File::options().append(true).open(&path).expect("it");
-        let inputs = vec![Input::file(&path).expect("a file")];
+        let inputs = vec![Input::file(&path, Path::new("none.adr")).expect("a file")];
         let mut elements = Elements::new(inputs, false);
         assert!(elements.next().is_some_and(|element| element.is_ok()));
         assert!(elements.next().is_some_and(|element| element.is_ok()));

@@ -83,7 +83,9 @@ impl Report {
             return output::line(format!("{restored}; nothing is missing"));
         }
         let missing = count(self.missing, "thing is", "things are");
-        Err(Failure::new(format!("{restored}; {missing} missing")))
+        Err(Failure::new(format!(
+            "{restored}; {missing} missing or not restored"
+        )))
     }
 }
 

@@ -6,6 +6,7 @@ pub mod image;
 use std::io::Write;
 use std::path::PathBuf;
 use std::process::{Child, Command, Output, Stdio};
+use std::time::Duration;
 
 /// The tool.
 pub const ADR: &str = env!("CARGO_BIN_EXE_adr");
@@ -128,6 +129,16 @@ impl Ran {
 pub fn bytes(length: usize, seed: u64) -> Vec<u8> {
     let mut random = adr_model::random::Random::new(seed);
     (0..length).map(|_| random.byte()).collect()
+}
+
+/// Waits until something is so; the child must not end before.
+#[track_caller]
+pub fn wait_beside(child: &mut Child, is_so: impl Fn() -> bool) {
+    while !is_so() {
+        let ended = child.try_wait().expect("a child");
+        assert_eq!(ended, None, "it ended too soon");
+        std::thread::sleep(Duration::from_millis(1));
+    }
 }
 
 /// Gives a child some bytes, and keeps its input open.
