@@ -80,23 +80,40 @@ impl Sha256 {
 
     fn mix(&mut self, chunk: &[u8; CHUNK]) {
         let [mut a, mut b, mut c, mut d, mut e, mut f, mut g, mut h] = self.state;
-        for (word, constant) in schedule(chunk).into_iter().zip(CONSTANTS) {
-            let turned = e.rotate_right(6) ^ e.rotate_right(11) ^ e.rotate_right(25);
-            let chosen = (e & f) ^ (!e & g);
-            let first = h
-                .wrapping_add(turned)
-                .wrapping_add(chosen)
-                .wrapping_add(constant)
-                .wrapping_add(word);
-            let turned = a.rotate_right(2) ^ a.rotate_right(13) ^ a.rotate_right(22);
-            let second = turned.wrapping_add((a & b) ^ (a & c) ^ (b & c));
-            (h, g, f, e) = (g, f, e, d.wrapping_add(first));
-            (d, c, b, a) = (c, b, a, first.wrapping_add(second));
+        let words = schedule(chunk);
+        let words = words.as_chunks::<8>().0.iter();
+        for (w, k) in words.zip(CONSTANTS.as_chunks::<8>().0) {
+            // Eight rounds at a time: each takes the letters one place on,
+            // and behind the eighth they stand where they stood.
+            let at = |round: usize| w[round].wrapping_add(k[round]);
+            (d, h) = round([a, b, c, d, e, f, g, h], at(0));
+            (c, g) = round([h, a, b, c, d, e, f, g], at(1));
+            (b, f) = round([g, h, a, b, c, d, e, f], at(2));
+            (a, e) = round([f, g, h, a, b, c, d, e], at(3));
+            (h, d) = round([e, f, g, h, a, b, c, d], at(4));
+            (g, c) = round([d, e, f, g, h, a, b, c], at(5));
+            (f, b) = round([c, d, e, f, g, h, a, b], at(6));
+            (e, a) = round([b, c, d, e, f, g, h, a], at(7));
         }
         for (state, mixed) in self.state.iter_mut().zip([a, b, c, d, e, f, g, h]) {
             *state = state.wrapping_add(mixed);
         }
     }
+}
+
+/// The fourth and the eighth letter after a round with this sum of a word and
+/// a constant; the others stay.
+#[inline]
+fn round([a, b, c, d, e, f, g, h]: [u32; 8], sum: u32) -> (u32, u32) {
+    let turned = e.rotate_right(6) ^ e.rotate_right(11) ^ e.rotate_right(25);
+    let chosen = (e & f) ^ (!e & g);
+    let first = h
+        .wrapping_add(turned)
+        .wrapping_add(chosen)
+        .wrapping_add(sum);
+    let turned = a.rotate_right(2) ^ a.rotate_right(13) ^ a.rotate_right(22);
+    let second = turned.wrapping_add((a & b) ^ (a & c) ^ (b & c));
+    (d.wrapping_add(first), first.wrapping_add(second))
 }
 
 fn schedule(chunk: &[u8; CHUNK]) -> [u32; ROUNDS] {
