@@ -7,7 +7,7 @@ use adr_model::drive::Drive as SimulatedDrive;
 use adr_model::frame::Frame;
 use adr_tape::{
     newest_header, read_all, record_all, Address, Element, Geometry, HeaderError, ReadError,
-    RecordError, Refusal, Reply, Sense, Summary, BLOCK_LENGTH, FRAME_LENGTH,
+    RecordError, Refusal, Reply, Sense, Summary, FRAME_LENGTH,
 };
 
 use crate::failure::Failure;
@@ -17,14 +17,10 @@ use crate::interruption;
 use crate::job::reading::{Jobs, Taker};
 use crate::progress::Progress;
 use crate::room::Room;
+use crate::size::bytes_in;
 
 /// Where an EOD address stands in a header.
 const EOD_ADDRESS: std::ops::Range<usize> = 32..36;
-
-/// The bytes of so many blocks.
-pub fn bytes_in(blocks: u64) -> u64 {
-    blocks.saturating_mul(BLOCK_LENGTH as u64)
-}
 
 /// The address of the end of data that a header tells.
 fn end_of_data(header: &[u8]) -> Address {

@@ -5,7 +5,7 @@ use std::ops::ControlFlow;
 use crate::arguments::{Arguments, Options};
 use crate::cartridge::Cartridge;
 use crate::failure::Failure;
-use crate::frames;
+use crate::frame_checksums;
 use crate::image::Access;
 use crate::job::reading::{Event, Verdict};
 use crate::job::{torn, Description};
@@ -119,7 +119,7 @@ fn read_frames(
     quiet: bool,
 ) -> Result<u64, Failure> {
     let image = cartridge.image_mut();
-    let all = frames::test_all(image, quiet)?;
+    let all = frame_checksums::test_all(image, quiet)?;
     let damaged = image
         .damaged()
         .map(|address| format!("the frame at address {address} is damaged"));

@@ -1,7 +1,7 @@
-//! Signals that ask a recording to end.
+//! Signals that ask a command to end.
 //!
-//! They end it in order: the old content stays in force, and the room of the
-//! new one is given back.
+//! They end it in order: a recording leaves the old content in force and gives
+//! the room of the new one back, and no file is left that is not whole.
 
 use std::ffi::c_int;
 use std::fs::File;

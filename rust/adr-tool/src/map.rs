@@ -1,8 +1,8 @@
 //! `adr map`: a picture of a cartridge.
 
+mod aux_drive;
 mod counts;
 mod destination;
-mod labels;
 mod layout;
 mod looking;
 mod spots;

@@ -8,7 +8,7 @@ use std::path::Path;
 use adr_tape::Summary;
 
 use crate::arguments::{Arguments, Options};
-use crate::cartridge::{bytes_in, Cartridge};
+use crate::cartridge::Cartridge;
 use crate::failure::Failure;
 use crate::image::Access;
 use crate::interruption;
@@ -16,6 +16,7 @@ use crate::job::source::{Elements, Input};
 use crate::output;
 use crate::progress::Progress;
 use crate::room::{frames_of_job, Room};
+use crate::size::bytes_in;
 use crate::text::{amount, count, grouped, printable};
 
 /// The options of `record`.

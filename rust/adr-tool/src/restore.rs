@@ -13,6 +13,7 @@ use crate::arguments::{Arguments, Options};
 use crate::cartridge::Cartridge;
 use crate::failure::Failure;
 use crate::image::{refuse_itself, Access};
+use crate::interruption;
 use crate::job::reading::{Event, Verdict};
 use crate::job::{is_plain_name, torn, Closing, Description};
 use crate::output;
@@ -44,6 +45,9 @@ pub fn run(arguments: &Arguments) -> Result<(), Failure> {
     let wanted = Wanted::parse(words)?;
     let target = target(arguments, &wanted)?;
     target.require()?;
+    if target.is_new_file() {
+        interruption::watch();
+    }
     let seed = arguments.number("--faults")?;
     let mut cartridge = Cartridge::load(path, Access::Read, DEPTH, seed)?;
     let quiet = arguments.has("--quiet") || target.is_terminal();
@@ -102,6 +106,16 @@ impl Target {
         matches!(self, Target::Output) && std::io::stdout().is_terminal()
     }
 
+    /// Whether jobs go to files that are removed if this ends before they are
+    /// whole.
+    fn is_new_file(&self) -> bool {
+        match self {
+            Target::Output => false,
+            Target::File(path) => !is_device(path),
+            Target::Directory(_) => true,
+        }
+    }
+
     fn is_directory(&self) -> bool {
         matches!(self, Target::Directory(_))
     }
@@ -143,6 +157,7 @@ struct Current {
 
 impl Restoring<'_> {
     fn take(&mut self, number: u64, event: &Event<'_>) -> Result<ControlFlow<()>, Failure> {
+        interruption::check()?;
         match event {
             Event::Begin(description) => self.begin(number, description)?,
             Event::Data(data) => {

@@ -3,9 +3,9 @@
 use std::fmt;
 use std::ops::Range;
 
-use adr_tape::{Address, Geometry, Refusal, BLOCK_LENGTH};
+use adr_tape::{Address, Geometry, Refusal};
 
-use crate::cartridge::bytes_in;
+use crate::size::{blocks_for, bytes_in};
 use crate::text::amount;
 
 /// The first user frame.
@@ -17,12 +17,9 @@ const END_OF_DATA: u64 = 1;
 /// A job's first block, its last block and its filemark.
 const AROUND_DATA: u64 = 3;
 
-/// Bytes of a block.
-const BLOCK: u64 = BLOCK_LENGTH as u64;
-
 /// The frames that a job of so many bytes takes.
 pub fn frames_of_job(length: u64) -> u64 {
-    length.div_ceil(BLOCK).saturating_add(AROUND_DATA)
+    blocks_for(length).saturating_add(AROUND_DATA)
 }
 
 /// The frames of a cartridge that jobs may take. Bad spots make them fewer.
@@ -80,7 +77,7 @@ mod tests {
         ] {
             assert_eq!(user_frames_below(below), frames, "below {below}");
         }
-        for (length, frames) in [(0, 3), (1, 4), (BLOCK, 4), (BLOCK + 1, 5)] {
+        for (length, frames) in [(0, 3), (1, 4), (32_768, 4), (32_769, 5)] {
             assert_eq!(frames_of_job(length), frames, "{length} bytes");
         }
     }

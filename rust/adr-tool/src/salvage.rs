@@ -15,14 +15,15 @@ mod restoring;
 use std::path::Path;
 
 use adr_model::frame::Kind;
-use adr_tape::FRAME_LENGTH;
 
 use crate::arguments::{Arguments, Options};
 use crate::failure::Failure;
 use crate::image::Frames;
+use crate::interruption;
 use crate::output;
 use crate::progress::Progress;
 use crate::restore::require_directory;
+use crate::size::bytes_in_frames;
 use found::{Finds, Found, Recording};
 use job::{Entry, Job, State};
 use report::{shown, Report};
@@ -33,9 +34,6 @@ pub const OPTIONS: Options = Options {
     valued: &["--into"],
     plain: &["--overwrite", "--quiet"],
 };
-
-/// Bytes of a frame.
-const FRAME: u64 = FRAME_LENGTH as u64;
 
 /// Runs the command.
 pub fn run(arguments: &Arguments) -> Result<(), Failure> {
@@ -57,6 +55,7 @@ pub fn run(arguments: &Arguments) -> Result<(), Failure> {
         Failure::new(format!("{shown}: no frame of a recording was found in it"))
     })?;
     let found = finds.of(&recording);
+    interruption::watch();
     let restoring = Restoring::new(path, directory, arguments.has("--overwrite"), quiet);
     restore(&found, &frames, restoring, &mut report)?;
     report.tell(path)
@@ -70,7 +69,7 @@ fn look(frames: &Frames, quiet: bool) -> Finds {
         if let Some((origin, frame)) = frame {
             finds.take(origin, frame, frames.last());
         }
-        progress.update(turn.saturating_mul(FRAME), turn, Some(frames.count()));
+        progress.update(bytes_in_frames(turn), turn, Some(frames.count()));
     });
     finds
 }

@@ -104,6 +104,31 @@ fn in_a_long_file() {
     nothing_more_is_taken(&place);
 }
 
+/// Files are removed that were not whole.
+#[test]
+fn files_under_way() {
+    let place = Place::new("under-way");
+    place.directory("out");
+    place.adr(&["format", "a.adr"]).succeeded();
+    place
+        .shell("head -c 300000000 /dev/zero | $ADR record a.adr -")
+        .succeeded();
+    for words in [
+        &["restore", "--into", "out", "a.adr"][..],
+        &["restore", "--output", "out/file", "a.adr", "1"],
+        &["salvage", "--into", "out", "a.adr"],
+    ] {
+        let mut command = place.command(words);
+        let mut child = command.stderr(Stdio::piped()).spawn().expect("the tool");
+        wait_beside(&mut child, || !place.names("out").is_empty());
+        send("INT", &child);
+        let output = child.wait_with_output().expect("it ended");
+        assert_eq!(output.status.signal(), Some(2));
+        assert_eq!(output.stderr, b"adr: interrupted\n");
+        assert!(place.names("out").is_empty(), "{words:?}");
+    }
+}
+
 /// As `nohup` and a shell's background have it.
 #[test]
 fn ignored_signals_stay_ignored() {

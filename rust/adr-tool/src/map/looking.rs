@@ -1,22 +1,18 @@
 //! Finding out what stands at each address.
 
-use adr_model::frame::{aux_of, number_at, Frame, Kind};
+use adr_model::frame::{Frame, Kind};
 use adr_model::header::fields_of;
-use adr_model::judgement::{judge, Expectation, Judgement};
-use adr_model::SequenceNumber;
 use adr_tape::{
     header_addresses, newer, newest_header, Command, Delivery, Drive, HeaderError, ReadNext,
     Reader, Refusal, Sense, BLOCK_LENGTH, FRAME_LENGTH,
 };
 
-use super::labels::Labels;
+use super::aux_drive::AuxDrive;
 use super::spots::{Reading, Spot, Spots};
 use crate::failure::Failure;
-use crate::frames;
+use crate::frame_checksums;
 use crate::image::Image;
-
-/// Where the sequence number stands in an AUX.
-const NUMBER: usize = 44;
+use crate::lone_frame::LoneFrame;
 
 /// Looks at an image as a reading does, and tests every frame.
 pub fn look_at(image: &mut Image, quiet: bool) -> Result<Spots, Failure> {
@@ -24,7 +20,7 @@ pub fn look_at(image: &mut Image, quiet: bool) -> Result<Spots, Failure> {
     let geometry = image.geometry();
     let refused = |refusal: Refusal| Failure::new(format!("{}: {refusal}", path.display()));
     let last = geometry.last().map_err(refused)?;
-    let header = newest_header(&mut Labels::new(image), geometry);
+    let header = newest_header(&mut AuxDrive::new(image), geometry);
     let header = header.map_err(|error| match error {
         HeaderError::Refused(refusal) => refused(refusal),
         HeaderError::Drive(failure) => failure,
@@ -32,7 +28,7 @@ pub fn look_at(image: &mut Image, quiet: bool) -> Result<Spots, Failure> {
     if header.is_none() {
         image.require_blank_headers()?;
     }
-    let frames = frames::test_all(image, quiet)?;
+    let frames = frame_checksums::test_all(image, quiet)?;
     let mut spots = Spots {
         title: path
             .file_name()
@@ -54,8 +50,8 @@ pub fn look_at(image: &mut Image, quiet: bool) -> Result<Spots, Failure> {
         },
     };
     if let Some(header) = header {
-        mark_headers(&mut Labels::new(image), &header, &mut spots)?;
-        spots.reading = mark_elements(&mut Labels::new(image), &header, &mut spots)?;
+        mark_headers(&mut AuxDrive::new(image), &header, &mut spots)?;
+        spots.reading = mark_elements(&mut AuxDrive::new(image), &header, &mut spots)?;
         if let Reading::Stopped(_) = spots.reading {
             mark_beyond(image, &header, &mut spots)?;
         }
@@ -66,8 +62,8 @@ pub fn look_at(image: &mut Image, quiet: bool) -> Result<Spots, Failure> {
 }
 
 /// Marks the copies that are as new as the newest.
-fn mark_headers(labels: &mut Labels<'_>, header: &[u8], spots: &mut Spots) -> Result<(), Failure> {
-    let geometry = labels.geometry();
+fn mark_headers(drive: &mut AuxDrive<'_>, header: &[u8], spots: &mut Spots) -> Result<(), Failure> {
+    let geometry = drive.geometry();
     let update_count = |frame: &[u8]| {
         frame
             .get(BLOCK_LENGTH + 12..BLOCK_LENGTH + 16)
@@ -75,8 +71,8 @@ fn mark_headers(labels: &mut Labels<'_>, header: &[u8], spots: &mut Spots) -> Re
     };
     let mut frame = vec![0; FRAME_LENGTH];
     for address in header_addresses() {
-        labels.locate(address)?;
-        let reply = labels.read(address, &mut frame)?;
+        drive.locate(address)?;
+        let reply = drive.read(address, &mut frame)?;
         if reply.sense == Sense::GOOD
             && newer(geometry, &frame, &frame).is_ok()
             && update_count(&frame) == update_count(header)
@@ -89,21 +85,21 @@ fn mark_headers(labels: &mut Labels<'_>, header: &[u8], spots: &mut Spots) -> Re
 
 /// Marks what a reading delivers.
 fn mark_elements(
-    labels: &mut Labels<'_>,
+    drive: &mut AuxDrive<'_>,
     header: &[u8],
     spots: &mut Spots,
 ) -> Result<Reading, Failure> {
     let mut frame = vec![0; FRAME_LENGTH];
-    let mut reader = match Reader::open(labels.geometry(), header) {
+    let mut reader = match Reader::open(drive.geometry(), header) {
         Ok(reader) => reader,
         Err(refusal) => return Ok(Reading::Stopped(refusal)),
     };
     loop {
         let (address, reply) = match reader.fetch() {
             Ok(ReadNext::Send(Command::Read(address))) => {
-                (address, labels.read(address, &mut frame)?)
+                (address, drive.read(address, &mut frame)?)
             }
-            Ok(ReadNext::Send(Command::Locate(address))) => (address, labels.locate(address)?),
+            Ok(ReadNext::Send(Command::Locate(address))) => (address, drive.locate(address)?),
             Ok(ReadNext::Send(_) | ReadNext::End) => return Ok(Reading::Whole),
             Err(refusal) => return Ok(Reading::Stopped(refusal)),
         };
@@ -127,34 +123,28 @@ fn mark_beyond(image: &mut Image, header: &[u8], spots: &mut Spots) -> Result<()
         return Ok(());
     };
     let mut frame: Frame = [0; FRAME_LENGTH];
-    let mut next = SequenceNumber(0);
+    let mut next = 0;
     for (address, spot) in &mut spots.known {
         let read = image.aux(*address, frame.split_at_mut(BLOCK_LENGTH).1);
         if let Some(failure) = image.take_error() {
             return Err(failure);
         }
-        let number = SequenceNumber(number_at(aux_of(&frame), NUMBER));
+        let lone = LoneFrame::of(&frame).filter(|_| read);
+        let of_recording = |lone: &LoneFrame| lone.pass == fields.pass && lone.last == last;
         // An element that was sent again is in force where it came first.
-        if !read || number < next {
-            continue;
-        }
-        let expectation = Expectation {
-            pass: fields.pass,
-            last,
-            number,
-        };
-        let Judgement::Expected(kind) = judge(&expectation, &frame) else {
+        let in_force = |lone: &LoneFrame| of_recording(lone) && lone.number >= next;
+        let Some(lone) = lone.filter(in_force) else {
             continue;
         };
-        *spot = match kind {
+        *spot = match lone.kind {
             Kind::Data => Spot::Block,
             Kind::Marker => Spot::Filemark,
             Kind::Eod => Spot::End,
         };
-        if kind == Kind::Eod {
+        if lone.kind == Kind::Eod {
             return Ok(());
         }
-        next = SequenceNumber(number.0.saturating_add(1));
+        next = lone.number.saturating_add(1);
     }
     Ok(())
 }

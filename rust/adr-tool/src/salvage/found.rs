@@ -2,21 +2,15 @@
 
 use std::collections::BTreeMap;
 
-use adr_model::frame::{aux_of, bytes, data_of, number_at, Frame, Kind};
+use adr_model::frame::{data_of, number_at, Frame, Kind};
 use adr_model::header::fields_of;
-use adr_model::judgement::{judge, Expectation, Judgement};
-use adr_model::{Address, SequenceNumber};
+use adr_model::Address;
 
 use crate::image::Origin;
+use crate::lone_frame::LoneFrame;
 
 /// Where a header's data tell LAST.
 const HEADER_LAST: usize = 28;
-/// Where an AUX tells the write pass, LAST, the number and the filemarks
-/// before its frame.
-const PASS: usize = 22;
-const LAST: usize = 28;
-const NUMBER: usize = 44;
-const FILEMARKS: usize = 192;
 
 /// A frame that is as the format has it.
 #[derive(Clone, Copy, Debug, PartialEq, Eq)]
@@ -165,25 +159,22 @@ fn header(origin: Origin, frame: &Frame) -> Option<Header> {
         .then_some(header)
 }
 
-/// The frame, judged as a reading judges it that expects its number.
+/// The frame, if it is an element's or EOD's.
 fn found(origin: Origin, frame: &Frame) -> Option<Found> {
-    let aux = aux_of(frame);
-    let expectation = Expectation {
-        pass: u16::from_be_bytes(bytes(aux, PASS)),
-        last: Address(number_at(aux, LAST)),
-        number: SequenceNumber(number_at(aux, NUMBER)),
-    };
-    let Judgement::Expected(kind) = judge(&expectation, frame) else {
-        return None;
-    };
-    let found = Found {
+    let LoneFrame {
         kind,
-        number: expectation.number.0,
-        filemarks: number_at(aux, FILEMARKS),
-        origin,
-        pass: expectation.pass,
-        last: expectation.last,
-    };
+        number,
+        filemarks,
+        pass,
+        last,
+    } = LoneFrame::of(frame)?;
     // Each filemark before a frame has a number of its own.
-    (found.filemarks <= found.number).then_some(found)
+    (filemarks <= number).then_some(Found {
+        kind,
+        number,
+        filemarks,
+        origin,
+        pass,
+        last,
+    })
 }

@@ -2,13 +2,11 @@
 
 use std::fmt::{self, Display};
 
-use adr_tape::BLOCK_LENGTH;
-
+use crate::size::bytes_in;
 use crate::text::grouped;
 
 /// Stretches that are named one by one.
 const NAMED: usize = 8;
-const BLOCK: u64 = BLOCK_LENGTH as u64;
 
 /// What is missing of a job.
 #[derive(Clone, Debug, PartialEq, Eq)]
@@ -64,11 +62,11 @@ impl Missing {
     /// The bytes that are missing: exactly, or at most.
     fn bytes(&self) -> (u64, Option<u64>) {
         let (Some(start), Some(length)) = (self.start, self.length) else {
-            return (self.data_blocks().saturating_mul(BLOCK), None);
+            return (bytes_in(self.data_blocks()), None);
         };
         let bytes_before = |number: u64| {
             let blocks = number.saturating_sub(start).saturating_sub(1);
-            blocks.saturating_mul(BLOCK).min(length)
+            bytes_in(blocks).min(length)
         };
         let in_stretch = |(from, to): &(u64, u64)| {
             bytes_before(to.saturating_add(1)).saturating_sub(bytes_before(*from))
@@ -152,7 +150,7 @@ mod tests {
 
     #[test]
     fn words() {
-        let length = Some(4 * BLOCK - 1);
+        let length = Some(bytes_in(4) - 1);
         let whole = [4, 5, 6, 7, 8, 9];
         assert_eq!(of(&whole, Some(4), Some(9), length), "");
         assert_eq!(of(&[], Some(4), Some(3), None), "");

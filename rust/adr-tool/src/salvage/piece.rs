@@ -2,11 +2,11 @@
 //! and ends.
 
 use adr_model::frame::{data_of, Kind};
-use adr_tape::BLOCK_LENGTH;
 
 use super::found::Found;
 use crate::image::Frames;
 use crate::job::{Closing, Description};
+use crate::size::blocks_for;
 
 /// The frames with one count of filemarks before them.
 #[derive(Debug)]
@@ -88,11 +88,6 @@ impl<'f> Piece<'f> {
 /// The number of a block.
 pub fn number_of(same: &[Found]) -> Option<u64> {
     same.first().map(|found| u64::from(found.number))
-}
-
-/// The blocks that so many bytes take.
-fn blocks_for(length: u64) -> u64 {
-    length.div_ceil(BLOCK_LENGTH as u64)
 }
 
 /// What a block tells, by the first of its frames that tells anything.

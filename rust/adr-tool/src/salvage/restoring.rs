@@ -7,15 +7,17 @@ use std::os::unix::ffi::OsStrExt;
 use std::path::{Path, PathBuf};
 
 use adr_model::frame::data_of;
-use adr_tape::{Element, FRAME_LENGTH};
+use adr_tape::Element;
 
 use super::found::Found;
 use super::job::Job;
 use crate::failure::Failure;
 use crate::image::{refuse_itself, Frames};
+use crate::interruption;
 use crate::job::reading::{Event, Jobs, Verdict};
 use crate::job::{is_plain_name, Closing, Description};
 use crate::progress::Progress;
+use crate::size::bytes_in_frames;
 use crate::text::printable;
 use crate::writer::{NewFile, Writer};
 
@@ -27,7 +29,7 @@ const NO_DESCRIPTION: &str = "its first block is not what was recorded";
 pub struct Restoring<'a> {
     directory: Directory<'a>,
     progress: Progress,
-    /// Bytes read so far.
+    /// Frames read so far.
     done: u64,
 }
 
@@ -105,12 +107,14 @@ impl<'a> Restoring<'a> {
         };
         let mut jobs = Jobs::new(&mut taker);
         for found in blocks {
+            interruption::check()?;
             let Some(frame) = frames.read(&found.origin) else {
                 return Ok(Outcome::Broken("a block of it cannot be read again"));
             };
             let _ = jobs.take(&Element::from(data_of(&frame)))?;
-            self.done = self.done.saturating_add(FRAME_LENGTH as u64);
-            self.progress.update(self.done, self.done, None);
+            self.done = self.done.saturating_add(1);
+            self.progress
+                .update(bytes_in_frames(self.done), self.done, None);
         }
         let _ = jobs.take(&Element::Filemark)?;
         let closing = match verdict {

@@ -1,14 +1,11 @@
 //! The checksums of an image's frames.
 
 use adr_model::tape::Storage;
-use adr_tape::FRAME_LENGTH;
 
 use crate::failure::Failure;
 use crate::image::Image;
 use crate::progress::Progress;
-
-/// Bytes of a frame.
-const FRAME: u64 = FRAME_LENGTH as u64;
+use crate::size::bytes_in_frames;
 
 /// Tests every frame, also those that no recording in force needs, and tells
 /// how many there are. The image then knows which of them are damaged.
@@ -28,7 +25,7 @@ pub fn test_all(image: &mut Image, quiet: bool) -> Result<u64, Failure> {
             return Err(failure);
         }
         done += 1;
-        progress.update(done.saturating_mul(FRAME), done, Some(all));
+        progress.update(bytes_in_frames(done), done, Some(all));
     }
     Ok(all)
 }

@@ -1,4 +1,4 @@
-//! A drive that reads what frames are.
+//! A drive that reads the AUX of frames alone.
 
 use adr_model::tape::Storage;
 use adr_tape::{header_addresses, Address, Drive, Geometry, Reply, Sense, BLOCK_LENGTH};
@@ -6,18 +6,18 @@ use adr_tape::{header_addresses, Address, Drive, Geometry, Reply, Sense, BLOCK_L
 use crate::failure::Failure;
 use crate::image::Image;
 
-/// A drive that reads only what frames are, not the blocks in them: enough
-/// for a reading to tell which frames it would deliver. A frame that was
-/// found damaged does not read.
-pub struct Labels<'a> {
+/// A drive that reads the AUX of frames and not the blocks in them: enough for
+/// a reading to tell which frames it would deliver. A frame that was found
+/// damaged does not read.
+pub struct AuxDrive<'a> {
     image: &'a mut Image,
     next: u32,
 }
 
-impl Labels<'_> {
+impl AuxDrive<'_> {
     /// A drive with this image.
-    pub fn new(image: &mut Image) -> Labels<'_> {
-        Labels { image, next: 0 }
+    pub fn new(image: &mut Image) -> AuxDrive<'_> {
+        AuxDrive { image, next: 0 }
     }
 
     /// The cartridge's geometry.
@@ -40,7 +40,7 @@ impl Labels<'_> {
     }
 }
 
-impl Drive for Labels<'_> {
+impl Drive for AuxDrive<'_> {
     type Error = Failure;
 
     fn locate(&mut self, address: Address) -> Result<Reply, Failure> {
