@@ -9,6 +9,9 @@
 
        cc -Iinclude program.c target/staticlib/libadr.a
 
+   Of the C library it calls memmove and memset, and no call takes more than
+   4 KiB of stack.
+
    SESSIONS. A session is a struct that the host keeps. Each call takes it by
    value and hands it back, changed, in its result: keep the new one, give it
    to the next call, and change nothing in it. The library has no state of its

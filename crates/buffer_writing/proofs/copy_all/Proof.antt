@@ -1,75 +1,49 @@
--- The bytes passed are the source's, and the others as they were. Assumes nothing.
-use mathlib.Core.Path.{_≡_, refl, ap, sym, _∙_}
+-- Either way all of the source is copied, if the lengths are alike. Assumes nothing.
+use borrow.Author.Needs.{needs}
 use borrow.Author.Tests.{eq-eqb, ne-eqb}
-use mathlib.Core.List.{List, _++_, append-nil}
-use Prim.Native.Nat.{ℕ, _-_, _≤_}
-use native.Mathlib.Omega.{arith}
-use lib.ListN.{length, take, drop, set, getD, length-set, drop-of-length-le}
-use lib.Seq.{take-all}
+use mathlib.Core.Path.{sym, _∙_}
+use lib.Seq.{length-take-le}
 use Rattle.geometry.proofs.PickLaws.{pick-t, pick-f}
-use Rattle.buffer_writing.proofs.Copying.{copy-more}
 use Rattle.buffer_writing.proofs.copy_all.Statement.{statement}
 use Rattle.buffer_writing.proofs.copy_all.Tie as tie
 
-abbrev Inv-loop : tie.InvT-loop
-Inv-loop dst₀ src i₀ dst i = (i ≤ length src) × (dst ≡ take i src ++ drop i dst₀) × (length dst ≡ length dst₀)
-
-abbrev μ-loop : tie.MeasureT-loop
-μ-loop dst₀ src i₀ dst i = length src - i
-
-returns : tie.Need-returns Inv-loop μ-loop
+returns : tie.Need-returns
 returns c = sym (pick-f _ (ne-eqb _ _ (c .if1 .taken)))
 
-loop-holds : tie.Need-loop-holds Inv-loop μ-loop
-loop-holds c = (omega arith, refl, refl)
+copy-bytes-requires : tie.Need-copy-bytes-requires
+copy-bytes-requires c κs = search needs
 
-shared-slice-read-dst : tie.Need-shared-slice-read-dst Inv-loop μ-loop
-shared-slice-read-dst c = omega arith
+same-length : tie.Need-same-length
+same-length c = search needs
 
-slice-write-dst : tie.Need-slice-write-dst Inv-loop μ-loop
-slice-write-dst c = omega arith
+returns-2 : tie.Need-returns-2
+returns-2 c = c .before .before .copy-bytes .ensures ∙ sym (pick-t _ (eq-eqb _ _ (c .before .before .before .before .before .if1 .left)))
 
-add-i : tie.Need-add-i Inv-loop μ-loop
-add-i c = omega arith
+array-borrow-prefix-held : tie.Need-array-borrow-prefix-held
+array-borrow-prefix-held c = search needs
 
-loop-less : tie.Need-loop-less Inv-loop μ-loop
-loop-less c = omega arith
+slice-aggregate-copy-through : tie.Need-slice-aggregate-copy-through
+slice-aggregate-copy-through c = sym (length-take-le _ _ (array-borrow-prefix-held (c .before)))
 
-loop-again : tie.Need-loop-again Inv-loop μ-loop
-loop-again c =
-    let l = c .before .before .loop in
-    let d₀ = c .before .before .before .before .args .dst .now in
-    let s = c .before .before .before .before .args .src .now in
-    (omega arith, ap (λ (x : List ℕ). set x (l .i) (getD s (l .i) 0)) (l .inv .1) ∙ copy-more (l .i) s d₀ (omega arith) (omega arith), length-set (l .dst) (l .i) (getD s (l .i) 0) ∙ l .inv .2)
+copy-through-requires : tie.Need-copy-through-requires
+copy-through-requires c κs = (c .before .before .before .if1 .left, slice-aggregate-copy-through c)
 
-same-length : tie.Need-same-length Inv-loop μ-loop
-same-length c = omega arith
+same-length-2 : tie.Need-same-length-2
+same-length-2 c = search needs
 
-returns-2 : tie.Need-returns-2 Inv-loop μ-loop
-returns-2 c =
-    let l = c .before .loop in
-    let d₀ = c .before .before .before .args .dst .now in
-    let s = c .before .before .before .args .src .now in
-    let full : length s ≤ l .i = omega arith in
-    let over : length d₀ ≤ l .i = omega arith in
-    l .inv .1
-    ∙ ap (λ (x : List ℕ). x ++ drop (l .i) d₀) (take-all (l .i) s full)
-    ∙ ap (λ (x : List ℕ). s ++ x) (drop-of-length-le d₀ over)
-    ∙ append-nil s
-    ∙ sym (pick-t _ (eq-eqb _ _ (c .before .before .if1 .left)))
+returns-3 : tie.Need-returns-3
+returns-3 c = c .before .before .before .copy-through .ensures ∙ sym (pick-t _ (eq-eqb _ _ (c .before .before .before .before .before .before .before .if1 .left)))
 
 pub copy-all-spec : {M : Type 1} → statement M
 copy-all-spec =
     tie.close
     (tie.spec
-    Inv-loop
-    μ-loop
     returns
-    loop-holds
-    shared-slice-read-dst
-    slice-write-dst
-    add-i
-    loop-less
-    loop-again
+    copy-bytes-requires
     same-length
-    returns-2)
+    returns-2
+    array-borrow-prefix-held
+    slice-aggregate-copy-through
+    copy-through-requires
+    same-length-2
+    returns-3)

@@ -117,8 +117,8 @@ fn copying<'a>(places: Places) -> Subject<'a, Buffers> {
     })
 }
 
-/// The same by a loop of 16-byte moves in ascending order, 128 bytes a turn,
-/// as the library's.
+/// The same by a loop of 16-byte moves in ascending order, 128 bytes a turn:
+/// what the library would copy by if it did not call `memmove`.
 fn looping<'a>(places: Places) -> Subject<'a, Buffers> {
     subject(LOOP, COUNT, move |lent: &mut Buffers, number| {
         let (from, to) = places(lent, number);
