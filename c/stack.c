@@ -32,7 +32,8 @@ static int record(struct adr_record_outcome o)
         o = adr_record_filemark(o.session);
     if (!o.number)
         o = adr_record_close(o.session);
-    for (int failed = 0; !o.number;) {
+    int failed = 0;
+    while (!o.number) {
         struct adr_record_fetched f =
             adr_record_fetch(o.session, window, sizeof window, frame, sizeof frame);
         if (f.answer != ADR_COMMAND)

@@ -57,7 +57,7 @@ fn copy_bytes(dst: &mut [u8], src: &[u8])
     }
 }
 
-// The same by way of a third slice.
+// The same by way of a third slice. A function of its own, so that no proof has to look at a local array's elements one by one.
 fn copy_through(dst: &mut [u8], src: &[u8], held: &mut [u8])
     requires { ⌜ length (now src) ≡ length (now dst) ⌝ }
     requires { ⌜ length (now src) ≡ length (now held) ⌝ }
