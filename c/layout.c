@@ -1,8 +1,8 @@
 /* Structs cross the boundary whole: numbers that are no session's come back as
    they were, and a session of distinct numbers is altered by a call in the
    members named and no others, so that two members of a width that changed
-   places are seen. Names, order and widths of all are compared with the crates'
-   by members.awk. */
+   places are seen; so is a recording opened from the numbers of a reading.
+   Names, order and widths of all are compared with the crates' by members.awk. */
 #include "adr.h"
 
 #include <stdio.h>
@@ -40,6 +40,7 @@ static void same_copies(struct adr_copies a, struct adr_copies b)
 {
     SAME(a, b, header.last);
     SAME(a, b, header.eod);
+    SAME(a, b, header.old);
     SAME(a, b, header.update);
     SAME(a, b, header.pass);
     SAME(a, b, group);
@@ -79,11 +80,16 @@ static void same_recording(struct adr_recording a, struct adr_recording b)
 static void same_reading(struct adr_reading a, struct adr_reading b)
 {
     SAME(a, b, told.last);
+    SAME(a, b, told.eod);
+    SAME(a, b, told.old);
+    SAME(a, b, told.update);
     SAME(a, b, told.pass);
-    SAME(a, b, next);
+    SAME(a, b, position.next);
+    SAME(a, b, position.locate);
     SAME(a, b, expected);
+    SAME(a, b, trail.filemarks);
+    SAME(a, b, trail.marker);
     same_exchange(a.exchange, b.exchange);
-    SAME(a, b, locate);
     SAME(a, b, finished);
     SAME(a, b, ended);
 }
@@ -261,6 +267,7 @@ static void closing(void)
     expected.elements.first = 1001;
     expected.elements.pending = expected.elements.outstanding = 0;
     expected.copies.header.eod = 1999;
+    expected.copies.header.old = 0;
     expected.copies.header.update++;
     expected.copies.group = expected.copies.copy = 0;
     expected.copies.outstanding = expected.copies.confirmed = 0;
@@ -268,21 +275,68 @@ static void closing(void)
     replied("EOD on tape", s, none_buffered, expected);
 }
 
-/* The EOD frame of a recording, numbered 1000. */
-static void eod_frame(struct adr_header header, uint8_t *frame)
+static const struct adr_geometry cartridge = { .segtrk = 9001, .trks = 1, .load = ADR_BEGINNING };
+
+/* A reading is told what the header of a recording has. */
+static void told(void)
+{
+    static uint8_t window[ADR_BLOCK_LENGTH], frame[ADR_FRAME_LENGTH];
+    struct adr_recording s = recording();
+    s.setup.highest = 0;
+    s.stage = 0;
+    s.exchange.awaiting = 0;
+    s.copies.header.last = 9000;
+    s.copies.header.eod = 499;
+    s.copies.header.old = 0x01020304;
+    struct adr_record_fetched f =
+        adr_record_fetch(s, window, sizeof window, frame, sizeof frame);
+    expect("a header", f.command.code == ADR_WRITE && f.command.address == 2994);
+    expect("the old end", memcmp(frame + ADR_BLOCK_LENGTH + 224, "\1\2\3\4", 4) == 0);
+    struct adr_read_opened o = adr_read_open(cartridge, frame, sizeof frame);
+    expect("an opening", o.number == 0);
+    SAME(o.session.told, s.copies.header, last);
+    SAME(o.session.told, s.copies.header, eod);
+    SAME(o.session.told, s.copies.header, old);
+    SAME(o.session.told, s.copies.header, update);
+    SAME(o.session.told, s.copies.header, pass);
+}
+
+/* A frame of a recording of pass 77, numbered 1000: EOD or a filemark. */
+static void written_frame(uint8_t eod, uint8_t *frame)
 {
     static uint8_t window[ADR_BLOCK_LENGTH];
     struct adr_recording s = recording();
     s.setup.highest = 0;
     s.exchange.awaiting = 0;
-    s.copies.header = header;
-    s.elements.eod = 1;
+    s.copies.header.last = 9000;
+    s.copies.header.pass = 77;
+    s.elements.eod = eod;
+    s.elements.marks[1000 % 64] = !eod;
     s.elements.pending = 1;
     s.elements.outstanding = 0;
     struct adr_record_fetched f =
         adr_record_fetch(s, window, sizeof window, frame, ADR_FRAME_LENGTH);
-    expect("EOD", f.answer == ADR_COMMAND && f.command.code == ADR_WRITE &&
-                      f.command.address == 2000 && f.number == 0);
+    expect("a frame", f.answer == ADR_COMMAND && f.command.code == ADR_WRITE &&
+                          f.command.address == 2000 && f.number == 0);
+}
+
+/* A reading with a number of its own in every member that takes one. It awaits
+   the reply to a READ at 500, where the element 1000 is expected. */
+static struct adr_reading reading(void)
+{
+    struct adr_reading s;
+    fill(&s, sizeof s);
+    s.told.last = 9000;
+    s.told.eod = 499;
+    s.told.pass = 77;
+    s.position.next = 500;
+    s.position.locate = 0;
+    s.expected = 1000;
+    s.exchange.command.code = ADR_READ;
+    s.exchange.command.address = 500;
+    s.exchange.awaiting = 1;
+    s.exchange.again = s.finished = s.ended = 0;
+    return s;
 }
 
 /* A reply to a reading is answered so, and alters it to what is expected. */
@@ -294,14 +348,21 @@ static void taken(struct adr_reading s, struct adr_reply reply, const uint8_t *f
     same_reading(t.session, expected);
 }
 
-static void reading(void)
+/* The same reading with the frame at 500 gone by. */
+static struct adr_reading passed(struct adr_reading s)
+{
+    s.exchange.awaiting = 0;
+    s.position.next = 501;
+    return s;
+}
+
+static void located(void)
 {
     static uint8_t frame[ADR_FRAME_LENGTH];
-    struct adr_header header = { .last = 9000, .eod = 2000, .update = 5, .pass = 77 };
-    struct adr_reading s = { .told = { .last = 9000, .pass = 77 }, .next = 500, .expected = 1000 };
-    s.exchange.command.code = ADR_READ;
+    struct adr_reading s = reading();
     s.exchange.command.address = 400;
-    s.locate = 1;
+    s.exchange.awaiting = 0;
+    s.position.locate = 1;
     struct adr_read_fetched f = adr_read_fetch(s);
     s.exchange.command.code = ADR_LOCATE;
     s.exchange.command.address = 500;
@@ -311,21 +372,103 @@ static void reading(void)
     same_reading(f.session, s);
 
     struct adr_reading expected = s;
-    expected.exchange.awaiting = expected.locate = 0;
+    expected.exchange.awaiting = expected.position.locate = 0;
     taken(s, sense(0, 0, 0), frame, ADR_NOTHING, 0, expected);
+}
 
-    eod_frame(header, frame);
-    s.locate = 0;
-    s.exchange.command.code = ADR_READ;
-    expected = s;
-    expected.exchange.awaiting = 0;
-    expected.next = 501;
-    expected.finished = 1;
-    taken(s, sense(0, 0, 0), frame, ADR_END, 0, expected);
+static void delivered(void)
+{
+    static uint8_t frame[ADR_FRAME_LENGTH];
+    struct adr_reading s = reading(), expected = passed(s);
+    written_frame(0, frame);
+    expected.expected = 1001;
+    expected.trail.filemarks++;
+    expected.trail.marker = 500;
+    taken(s, sense(0, 0, 0), frame, ADR_FILEMARK, 0, expected);
 
     expected = s;
     expected.ended = 1;
     taken(s, sense(0x00, 0x00, 0x02), frame, ADR_REFUSED, ADR_NOT_FOUND, expected);
+}
+
+/* An EOD at 500 ends a reading if the header names an end up to there: its EOD
+   or, where that is 0, the end that was added at. */
+static void end_named(uint32_t eod, uint32_t old, int ends)
+{
+    static uint8_t frame[ADR_FRAME_LENGTH];
+    struct adr_reading s = reading(), expected;
+    s.told.eod = eod;
+    s.told.old = old;
+    written_frame(1, frame);
+    expected = passed(s);
+    expected.finished = ends;
+    taken(s, sense(0, 0, 0), frame, ends ? ADR_END : ADR_NOTHING, 0, expected);
+}
+
+static void ends(void)
+{
+    end_named(499, 501, 1);
+    end_named(500, 501, 1);
+    end_named(501, 499, 0);
+    end_named(0, 499, 1);
+    end_named(0, 500, 1);
+    end_named(0, 501, 0);
+}
+
+/* The reading at its end, which its header names. */
+static struct adr_reading at_end(void)
+{
+    struct adr_reading s = passed(reading());
+    s.told.eod = 500;
+    s.finished = 1;
+    return s;
+}
+
+/* An addition is a recording without a header but for the members named. */
+static void adding(void)
+{
+    struct adr_reading s = at_end();
+    struct adr_recording expected = adr_record_open_blank(cartridge, 9, 21).session;
+    expected.copies.header.old = 500;
+    expected.copies.header.update = s.told.update + 1;
+    expected.copies.header.pass = 77;
+    expected.elements.first = 1000;
+    expected.elements.next = expected.elements.target = 500;
+    expected.elements.trail = s.trail;
+    struct adr_record_outcome o = adr_record_open_at_end(s, 9, 21);
+    expect("adding", o.number == 0);
+    same_recording(o.session, expected);
+}
+
+/* Adding is refused with this number and gives what every refused opening does. */
+static void not_added(struct adr_reading s, uint32_t depth, uint32_t blocks, uint8_t number)
+{
+    static const struct adr_geometry none;
+    struct adr_record_outcome o = adr_record_open_at_end(s, depth, blocks);
+    expect("adding refused", o.number == number);
+    same_recording(o.session, adr_record_open_blank(none, 9, 21).session);
+}
+
+/* Each reason is added to those before it and goes before them. */
+static void refusing(void)
+{
+    struct adr_reading s = at_end();
+    s.told.eod = 499;
+    not_added(s, 9, 21, ADR_END_ELSEWHERE);
+    s.told.eod = 0;
+    not_added(s, 9, 21, ADR_END_ELSEWHERE);
+    s.told.update = 4294967294;
+    not_added(s, 9, 21, ADR_EXHAUSTED);
+    not_added(s, 256, 21, ADR_BAD_SIZE);
+    not_added(s, 9, 256 + 21, ADR_BAD_SIZE);
+    struct adr_reading unfit[] = { s, s, s, s, s };
+    unfit[0].finished = 0;
+    unfit[1].ended = 1;
+    unfit[2].exchange.awaiting = 1;
+    unfit[3].exchange.again = 1;
+    unfit[4].position.locate = 2; /* no session's */
+    for (size_t i = 0; i < sizeof unfit / sizeof *unfit; i++)
+        not_added(unfit[i], 256, 21, ADR_WRONG_PHASE);
 }
 
 static void small_structs(void)
@@ -355,7 +498,12 @@ int main(void)
     elements();
     header_copies();
     closing();
-    reading();
+    told();
+    located();
+    delivered();
+    ends();
+    adding();
+    refusing();
     small_structs();
     if (!wrong)
         puts("every struct crosses whole");

@@ -1,7 +1,9 @@
 /* Records blocks and filemarks on a small drive in memory that has a bad spot
    and is often busy, reads them back and compares; then does so once more on
-   the same cartridge, of whose header copies only one is left. At last it meets
-   header copies that differ, and a cartridge without any. The commands are
+   the same cartridge, of whose header copies only one is left. Then it meets
+   header copies that differ, and a cartridge without any. At last it records on
+   another cartridge, tries to add to it where that is refused, adds twice, once
+   with the old end gone bad, and reads back all of it. The commands are
    printed, each LOCATE on a line of its own with what follows it: W a WRITE, R
    a READ, C a READ with a correction, P a READ POSITION with the frames still
    buffered, B a busy reply, ! a write error with the address that failed. */
@@ -14,6 +16,15 @@
 enum { FRAMES = 3001, DEPTH = 3, WINDOW = 4, BAD_SPOT = 12, SKIP = 3 };
 enum { HARD_TO_READ = 7, BUSY_TURN = 7 };
 
+/* The elements of the cartridge that is added to, after each recording, and
+   where the first one ended. */
+enum { FIRST = 4, SECOND = 9, THIRD = 11, OLD_END = 14 };
+
+/* Where a header frame has its EOD address and its update count, and the
+   highest count that is added to. */
+enum { EOD_AT = 32, UPDATE_AT = ADR_BLOCK_LENGTH + 12 };
+static const uint32_t highest_update = 4294967293;
+
 static const struct adr_geometry geometry = { FRAMES, 1, ADR_BEGINNING };
 
 /* THE DRIVE */
@@ -22,9 +33,10 @@ struct drive {
     uint8_t *tape[FRAMES]; /* null where nothing reads */
     uint8_t buffer[DEPTH][ADR_FRAME_LENGTH];
     uint32_t buffered;
-    uint32_t front; /* where the oldest buffered frame goes, or the next to be read */
-    int stopped;    /* at a bad spot, until LOCATE */
-    unsigned sent;  /* every BUSY_TURN-th command is answered busy */
+    uint32_t front;    /* where the oldest buffered frame goes, or the next to be read */
+    uint32_t bad_spot; /* can't be written, and reads as before */
+    int stopped;       /* at a bad spot, until LOCATE */
+    unsigned sent;     /* every BUSY_TURN-th command is answered busy */
 };
 
 static struct adr_reply sense(uint8_t key, uint8_t asc, uint8_t ascq)
@@ -47,7 +59,7 @@ static void write_oldest(struct drive *drive)
 {
     if (drive->stopped || drive->buffered == 0)
         return;
-    if (drive->front == BAD_SPOT) {
+    if (drive->front == drive->bad_spot) {
         drive->stopped = 1;
         return;
     }
@@ -164,14 +176,10 @@ static struct adr_record_outcome accept(struct adr_recording session, uint8_t *w
     return outcome;
 }
 
-/* Records; whether the recording became whole. */
-static int record(struct drive *drive, const uint8_t *header, unsigned count, unsigned turn)
+/* Records in a session just opened; whether the recording became whole. */
+static int record(struct drive *drive, struct adr_record_outcome outcome, struct source source)
 {
     static uint8_t window[ADR_WINDOW_LENGTH(WINDOW)], frame[ADR_FRAME_LENGTH];
-    struct adr_record_outcome outcome =
-        header ? adr_record_open(geometry, DEPTH, WINDOW, header, ADR_FRAME_LENGTH)
-               : adr_record_open_blank(geometry, DEPTH, WINDOW);
-    struct source source = { count, turn, 0, 0 };
     if (outcome.number)
         return failed("opening", outcome.number);
     for (;;) {
@@ -276,17 +284,14 @@ static int is_as_recorded(uint8_t answer, const uint8_t *frame, unsigned element
     return answer == ADR_BLOCK && memcmp(frame, block, sizeof block) == 0;
 }
 
-/* Reads back; whether everything was delivered as recorded. */
-static int read_back(struct drive *drive, const uint8_t *header, unsigned count, unsigned turn)
+/* Brings a reading to its end; whether everything was delivered as recorded. */
+static int read_back(struct drive *drive, struct adr_reading *session, unsigned count,
+                     unsigned turn)
 {
     static uint8_t frame[ADR_FRAME_LENGTH];
-    struct adr_read_opened opened = adr_read_open(geometry, header, ADR_FRAME_LENGTH);
-    struct adr_reading session = opened.session;
     unsigned delivered = 0;
-    if (opened.number)
-        return failed("opening", opened.number);
     for (;;) {
-        struct adr_read_fetched fetched = adr_read_fetch(session);
+        struct adr_read_fetched fetched = adr_read_fetch(*session);
         if (fetched.answer == ADR_REFUSED)
             return failed("a fetch", fetched.number);
         if (fetched.answer == ADR_END)
@@ -294,7 +299,7 @@ static int read_back(struct drive *drive, const uint8_t *header, unsigned count,
         struct adr_reply reply = send(drive, fetched.command, frame);
         struct adr_read_taken taken =
             adr_read_reply(fetched.session, reply, frame, sizeof frame);
-        session = taken.session;
+        *session = taken.session;
         if (taken.answer == ADR_REFUSED)
             return failed("a reply", taken.number);
         if (taken.answer != ADR_BLOCK && taken.answer != ADR_FILEMARK)
@@ -321,9 +326,29 @@ static void lose_copies(struct drive *drive)
     }
 }
 
+/* Opens a reading; whether it was opened. */
+static int open_reading(const uint8_t *header, struct adr_reading *session)
+{
+    struct adr_read_opened opened = adr_read_open(geometry, header, ADR_FRAME_LENGTH);
+    *session = opened.session;
+    return opened.number ? failed("opening", opened.number) : 1;
+}
+
+/* Finds the newest header and reads back; whether all is as recorded. Leaves
+   the reading at its end. */
+static int find_and_read_back(struct drive *drive, uint8_t *newest, struct adr_reading *reading,
+                              unsigned count, unsigned turn)
+{
+    printf("\n\nreading the header copies");
+    if (newest_header(drive, newest) != FOUND)
+        return 0;
+    printf("\n\nreading back");
+    return open_reading(newest, reading) && read_back(drive, reading, count, turn);
+}
+
 /* Finds the newest header, records and reads back; whether all went well. */
-static int record_and_read_back(struct drive *drive, uint8_t *newest, unsigned count,
-                                unsigned turn)
+static int record_and_read_back(struct drive *drive, uint8_t *newest, struct adr_reading *reading,
+                                unsigned count, unsigned turn)
 {
     printf("\nreading the header copies");
     enum found found = newest_header(drive, newest);
@@ -331,13 +356,12 @@ static int record_and_read_back(struct drive *drive, uint8_t *newest, unsigned c
         return 0;
     printf("\n\nrecording %u elements on a cartridge with%s a header", count,
            found == FOUND ? "" : "out");
-    if (!record(drive, found == FOUND ? newest : NULL, count, turn))
-        return 0;
-    printf("\n\nreading the header copies");
-    if (newest_header(drive, newest) != FOUND)
-        return 0;
-    printf("\n\nreading back");
-    return read_back(drive, newest, count, turn);
+    struct adr_record_outcome opened =
+        found == FOUND ? adr_record_open(geometry, DEPTH, WINDOW, newest, ADR_FRAME_LENGTH)
+                       : adr_record_open_blank(geometry, DEPTH, WINDOW);
+    struct source source = { count, turn, 0, 0 };
+    return record(drive, opened, source) &&
+           find_and_read_back(drive, newest, reading, count, turn);
 }
 
 /* One copy gets other data than those of its count; whether this is noticed. */
@@ -357,16 +381,95 @@ static int finds_none_on_a_blank(uint8_t *newest)
     return none;
 }
 
+/* A number as headers hold it, the high byte first. */
+static void put(uint8_t *place, uint32_t number)
+{
+    for (int i = 0; i < 4; i++)
+        place[i] = (uint8_t)(number >> (24 - 8 * i));
+}
+
+/* Opens a reading on a header of another update count and EOD address. */
+static int open_altered(const uint8_t *newest, uint32_t update, uint32_t eod,
+                        struct adr_reading *reading)
+{
+    static uint8_t header[ADR_FRAME_LENGTH];
+    memcpy(header, newest, sizeof header);
+    put(header + UPDATE_AT, update);
+    put(header + EOD_AT, eod);
+    return open_reading(header, reading);
+}
+
+/* Whether adding at the end of a reading is answered with this number. */
+static int is_answered(struct adr_reading reading, uint32_t depth, uint8_t number)
+{
+    uint8_t given = adr_record_open_at_end(reading, depth, WINDOW).number;
+    printf("\nadding: %u, %s\n", given, adr_refusal_text(given));
+    return given == number;
+}
+
+/* Reads to the end on such a header of the highest count; whether adding is then
+   answered with this number. */
+static int answers_end(struct drive *drive, const uint8_t *newest, uint32_t eod, uint8_t number)
+{
+    struct adr_reading reading;
+    return open_altered(newest, highest_update, eod, &reading) &&
+           read_back(drive, &reading, FIRST, 0) && is_answered(reading, DEPTH, number);
+}
+
+/* Of four reasons to refuse, each shows when those before it are gone. */
+static int refuses_to_add(struct drive *drive, const uint8_t *newest)
+{
+    struct adr_reading reading;
+    printf("\nadding where that is refused");
+    return open_altered(newest, highest_update + 1, 0, &reading) &&
+           is_answered(reading, 0, ADR_WRONG_PHASE) && read_back(drive, &reading, FIRST, 0) &&
+           is_answered(reading, 0, ADR_BAD_SIZE) && is_answered(reading, DEPTH, ADR_EXHAUSTED) &&
+           answers_end(drive, newest, 0, ADR_END_ELSEWHERE) &&
+           answers_end(drive, newest, OLD_END - 1, ADR_END_ELSEWHERE) &&
+           answers_end(drive, newest, OLD_END, 0);
+}
+
+/* Adds at the end of a reading and reads back all; whether all went well. */
+static int add_and_read_back(struct drive *drive, uint8_t *newest, struct adr_reading *reading,
+                             unsigned earlier, unsigned count)
+{
+    printf("\nadding %u elements to %u", count - earlier, earlier);
+    struct source source = { count, 0, earlier, 0 };
+    return record(drive, adr_record_open_at_end(*reading, DEPTH, WINDOW), source) &&
+           find_and_read_back(drive, newest, reading, count, 0);
+}
+
+/* The first addition meets a bad spot where the old EOD still reads, the second
+   replaces an EOD. */
+static int adds_twice(struct drive *drive, uint8_t *newest)
+{
+    struct adr_reading reading;
+    if (!record_and_read_back(drive, newest, &reading, FIRST, 0) ||
+        !refuses_to_add(drive, newest))
+        return 0;
+    drive->bad_spot = OLD_END;
+    return add_and_read_back(drive, newest, &reading, FIRST, SECOND) &&
+           add_and_read_back(drive, newest, &reading, SECOND, THIRD);
+}
+
+static void erase(struct drive *drive)
+{
+    for (size_t address = 0; address < FRAMES; address++)
+        free(drive->tape[address]);
+}
+
 int main(void)
 {
-    static struct drive drive;
+    static struct drive drive = { .bad_spot = BAD_SPOT }, other;
     static uint8_t newest[ADR_FRAME_LENGTH];
+    struct adr_reading reading;
     printf("LAST is %u\n", (unsigned)adr_last(geometry).address);
-    int whole = record_and_read_back(&drive, newest, 8, 0);
+    int whole = record_and_read_back(&drive, newest, &reading, 8, 0);
     lose_copies(&drive);
-    whole = whole && record_and_read_back(&drive, newest, 5, 1) &&
-            refuses_unlike_copies(&drive, newest) && finds_none_on_a_blank(newest);
-    for (size_t address = 0; address < FRAMES; address++)
-        free(drive.tape[address]);
+    whole = whole && record_and_read_back(&drive, newest, &reading, 5, 1) &&
+            refuses_unlike_copies(&drive, newest) && finds_none_on_a_blank(newest) &&
+            adds_twice(&other, newest);
+    erase(&drive);
+    erase(&other);
     return !whole;
 }

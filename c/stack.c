@@ -10,22 +10,25 @@
 #include <ucontext.h>
 
 enum { STACK = 1 << 18, LIMIT = 4096, PATTERN = 0xA5 };
-enum { FRAMES = 3001, HEADER = 5, BAD_SPOT = 10, SKIP = 1, KEPT = 16, DEPTH = 2, BLOCKS = 2 };
+enum { FRAMES = 3001, HEADER = 5, FIRST = 10, OLD_END = 13, SKIP = 1, KEPT = 17 };
+enum { DEPTH = 2, BLOCKS = 2 };
 
 static const struct adr_geometry geometry = { FRAMES, 1, ADR_BEGINNING };
 static const struct adr_reply good;
-static const struct adr_reply write_error = { 0, BAD_SPOT, SKIP, 0x03, 0x0C, 0x00 };
 
-/* The frames below address 16: headers, a block, a filemark and EOD. */
+/* The frames below address 17: headers, a block and a filemark, the same added,
+   and EOD. */
 static uint8_t tape[KEPT][ADR_FRAME_LENGTH];
 static uint8_t block[ADR_BLOCK_LENGTH], window[ADR_WINDOW_LENGTH(BLOCKS)];
 static uint8_t frame[ADR_FRAME_LENGTH];
+static struct adr_reading reading;
 static int made; /* every call, with the answer that it should give */
 
 /* Records a block and a filemark on a drive that has every frame on tape at
    once, but tells at the first WRITE behind the bad spot that it failed there. */
-static int record(struct adr_record_outcome o)
+static int record(struct adr_record_outcome o, uint32_t bad_spot)
 {
+    const struct adr_reply write_error = { 0, bad_spot, SKIP, 0x03, 0x0C, 0x00 };
     if (!o.number)
         o = adr_record_block(o.session, block, sizeof block, window, sizeof window);
     if (!o.number)
@@ -40,22 +43,24 @@ static int record(struct adr_record_outcome o)
             return failed && f.answer == ADR_DONE;
         if (f.command.code == ADR_WRITE && f.command.address < KEPT)
             memcpy(tape[f.command.address], frame, sizeof frame);
-        int fails = !failed && f.command.code == ADR_WRITE && f.command.address == BAD_SPOT + 1;
+        int fails = !failed && f.command.code == ADR_WRITE && f.command.address == bad_spot + 1;
         failed |= fails;
         o = adr_record_reply(f.session, fails ? write_error : good);
     }
     return 0;
 }
 
-static int read_back(void)
+/* Reads to the end, where so many blocks and filemarks were read. */
+static int read_back(int count)
 {
     struct adr_read_opened o = adr_read_open(geometry, tape[HEADER], sizeof tape[HEADER]);
     struct adr_read_taken t = { o.session, ADR_NOTHING, o.number };
     int blocks = 0, filemarks = 0;
     while (!t.number) {
         struct adr_read_fetched f = adr_read_fetch(t.session);
+        reading = f.session;
         if (f.answer != ADR_COMMAND)
-            return f.answer == ADR_END && blocks == 1 && filemarks == 1;
+            return f.answer == ADR_END && blocks == count && filemarks == count;
         if (f.command.address >= KEPT)
             return 0;
         t = adr_read_reply(f.session, good, tape[f.command.address], ADR_FRAME_LENGTH);
@@ -70,14 +75,16 @@ static int ask(void)
     struct adr_choice choice =
         adr_choose(geometry, tape[HEADER], sizeof tape[HEADER], tape[HEADER], sizeof tape[HEADER]);
     return !choice.number && adr_frames(geometry) == FRAMES && !adr_last(geometry).number
-           && adr_is_user(FRAMES - 1, BAD_SPOT) && adr_header_address(0, 0) == HEADER;
+           && adr_is_user(FRAMES - 1, FIRST) && adr_header_address(0, 0) == HEADER;
 }
 
 static void make_calls(void)
 {
-    made = record(adr_record_open_blank(geometry, DEPTH, BLOCKS)) && ask()
-           && record(adr_record_open(geometry, DEPTH, BLOCKS, tape[HEADER], sizeof tape[HEADER]))
-           && read_back();
+    made = record(adr_record_open_blank(geometry, DEPTH, BLOCKS), FIRST) && ask()
+           && record(adr_record_open(geometry, DEPTH, BLOCKS, tape[HEADER], sizeof tape[HEADER]),
+                     FIRST)
+           && read_back(1)
+           && record(adr_record_open_at_end(reading, DEPTH, BLOCKS), OLD_END) && read_back(2);
 }
 
 /* The stack grows towards its first byte. */

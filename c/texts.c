@@ -11,7 +11,7 @@ int main(void)
     };
     printf("version %s\n", ADR_VERSION);
     printf("in numbers %d.%d.%d\n", ADR_VERSION_MAJOR, ADR_VERSION_MINOR, ADR_VERSION_PATCH);
-    for (uint8_t number = 0; number <= ADR_NOT_FOUND + 1; number++)
+    for (uint8_t number = 0; number <= ADR_END_ELSEWHERE + 1; number++)
         printf("refusal %d: %s\n", number, adr_refusal_text(number));
     for (uint8_t answer = 0; answer <= ADR_FILEMARK + 1; answer++)
         printf("answer %d: %s\n", answer, adr_answer_name(answer));

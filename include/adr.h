@@ -9,8 +9,8 @@
 
        cc -Iinclude program.c target/staticlib/libadr.a
 
-   Of the C library it calls memmove and memset, and no call takes more than
-   4 KiB of stack.
+   Of the C library it calls memcpy, memmove and memset, and no call takes more
+   than 4 KiB of stack.
 
    SESSIONS. A session is a struct that the host keeps. Each call takes it by
    value and hands it back, changed, in its result: keep the new one, give it
@@ -30,8 +30,10 @@
 
    REFUSALS. No call has a precondition on its numbers or lengths: what it
    can't serve it refuses with a number. A refused call writes to no buffer. 1
-   to 7 leave the session as it was, and the call counts for nothing; 8 to 12
-   end it, and every later call is refused with 7.
+   to 7 leave the session as it was, and the call counts for nothing; 8 and more
+   end it, and every later call is refused with 7. An opening that is refused,
+   by whatever number, gives a session that has ended; 13 comes from openings
+   alone.
 
    A RECORDING, in short. 'send' sends a command to the drive and returns its
    reply; it sends the frame with a WRITE, and fills it with what a READ brings:
@@ -78,8 +80,32 @@
            }
        }
 
-   After it t.number is 0 if everything was read, else the refusal. c/record.c
-   is a whole program; it also finds the newest header.
+   After it t.number is 0 if everything was read, else the refusal.
+
+   ADDING. A recording may begin at the end that a reading on the newest header
+   has found, behind what the cartridge holds. What the reading delivers need
+   not be looked at:
+
+       struct adr_read_opened r = adr_read_open(g, header, sizeof header);
+       struct adr_read_taken t = { r.session, ADR_NOTHING, r.number };
+       while (!t.number && t.answer != ADR_END) {
+           struct adr_read_fetched f = adr_read_fetch(t.session);
+           t.number = f.number;
+           if (f.answer == ADR_COMMAND) {
+               struct adr_reply reply = send(f.command, frame);
+               t = adr_read_reply(f.session, reply, frame, sizeof frame);
+           }
+       }
+       struct adr_record_outcome o = adr_record_open_at_end(t.session, depth, 64);
+       while (!o.number) {
+           ... as in a recording
+       }
+
+   If t.number is not 0, the end was not found, and the opening is refused with
+   7. What else has to hold, and what of it no call can tell, stands at
+   adr_record_open_at_end.
+
+   c/record.c is a whole program; it also finds the newest header, and adds.
 
    THE DRIVE'S NUMBERS come from these commands of the standard, 'ADR Commands
    and Logical Tape Format 1.3'. Page codes are hexadecimal; the bytes of a mode
@@ -129,8 +155,8 @@
    up, don't send the command again, and leave the session; there is nothing to
    release. The cartridge is as after a power cut, and a recording that did not
    come to ADR_DONE is not whole. Find the newest header again, open anew, and
-   record or read from the first element on; if the recording was closed, see
-   WRITE PASSES first.
+   record or read from the first element on, but add nothing (see
+   adr_record_open_at_end); if the recording was closed, see WRITE PASSES first.
 
    WRITE PASSES. A reading knows the frames of a recording by their write pass:
    that of the header it was opened on, + 1, or 1 without a header. If a user
@@ -150,7 +176,13 @@
    header to have the highest pass on the cartridge, which the host has noted
    when it opened recordings, or finds by reading every user frame; or use
    another cartridge. The pass is in bytes 22 and 23 of a header, and in bytes
-   32,790 and 32,791 of a user frame, the high byte first. */
+   32,790 and 32,791 of a user frame, the high byte first.
+
+   What is added keeps the pass of what is there. So it may read back wrong if
+   there are frames of that pass above the old end, and again no call notices.
+   There are none where the last session on the cartridge, a recording or an
+   addition, came to ADR_DONE. Where it did not, add nothing before the
+   cartridge has been recorded afresh, which gives it another pass. */
 #ifndef ADR_H
 #define ADR_H
 
@@ -174,18 +206,19 @@ extern "C" {
 #define ADR_WINDOW_LENGTH(blocks) ((size_t)(blocks) * ADR_BLOCK_LENGTH)
 
 /* Refusals: the member 'number', 0 where nothing is refused. */
-#define ADR_WRONG_LENGTH 1 /* a lent length is wrong */
-#define ADR_NO_CARTRIDGE 2 /* a geometry with fewer than 3,001 frames, or no geometry */
-#define ADR_BAD_HEADER 3   /* a header is not valid, or two of equal count differ */
-#define ADR_BAD_SIZE 4     /* D is not 1 to 255, or W is not 1 to 64 */
-#define ADR_EXHAUSTED 5    /* the cartridge's passes or update counts are used up */
-#define ADR_WINDOW_FULL 6  /* W elements are not yet on tape: fetch and reply first */
-#define ADR_WRONG_PHASE 7  /* the call does not fit here, or no session was given */
-#define ADR_BAD_REPLY 8    /* the drive's reply is unlawful for its command */
-#define ADR_TAPE_FULL 9    /* no room is left on tape */
-#define ADR_MISSING 10     /* an element is missing on tape */
-#define ADR_FOREIGN 11     /* a frame was not written in this format */
-#define ADR_NOT_FOUND 12   /* no header copy could be written; no end was found */
+#define ADR_WRONG_LENGTH 1   /* a lent length is wrong */
+#define ADR_NO_CARTRIDGE 2   /* a geometry with fewer than 3,001 frames, or no geometry */
+#define ADR_BAD_HEADER 3     /* a header is not valid, or two of equal count differ */
+#define ADR_BAD_SIZE 4       /* D is not 1 to 255, or W is not 1 to 64 */
+#define ADR_EXHAUSTED 5      /* the cartridge's passes or update counts are used up */
+#define ADR_WINDOW_FULL 6    /* W elements are not yet on tape: fetch and reply first */
+#define ADR_WRONG_PHASE 7    /* the call does not fit here, or no session was given */
+#define ADR_BAD_REPLY 8      /* the drive's reply is unlawful for its command */
+#define ADR_TAPE_FULL 9      /* no room is left on tape */
+#define ADR_MISSING 10       /* an element is missing on tape */
+#define ADR_FOREIGN 11       /* a frame was not written in this format */
+#define ADR_NOT_FOUND 12     /* no header copy could be written; no end was found */
+#define ADR_END_ELSEWHERE 13 /* the header does not name the end that a reading found */
 
 /* Answers of fetches and of a reading's replies: the member 'answer'. */
 #define ADR_REFUSED 0  /* 'number' says why */
@@ -281,6 +314,7 @@ struct adr_setup {
 struct adr_header {
     uint32_t last;   /* LAST */
     uint32_t eod;    /* the address of EOD, 0 for none */
+    uint32_t old;    /* of an opening header: the old end that is added at, 0 for none */
     uint32_t update; /* update count */
     uint16_t pass;   /* write pass */
 };
@@ -294,8 +328,10 @@ struct adr_copies {
     uint8_t locate;           /* a LOCATE of the next copy's address comes first */
 };
 
+/* Filemarks: in a recording those before the element 'first', in a reading
+   those delivered. */
 struct adr_trail {
-    uint32_t filemarks; /* filemarks before the element 'first' */
+    uint32_t filemarks; /* how many */
     uint32_t marker;    /* the address of the latest, FFFFFFFF where there is none */
 };
 
@@ -317,26 +353,35 @@ struct adr_recording {
     struct adr_setup setup;
     uint8_t stage;  /* 0 opening headers, 1 elements, 2 closing headers, 3 done */
     uint8_t closed; /* adr_record_close was called */
-    uint8_t ended;  /* by a refusal of 8 to 12, or by a refused opening */
+    uint8_t ended;  /* by a refusal of 8 or more, or by a refused opening */
     struct adr_exchange exchange;
     struct adr_copies copies;
     struct adr_elements elements;
 };
 
+/* What the header of a reading says; as in adr_header. */
 struct adr_told {
-    uint32_t last; /* LAST */
-    uint16_t pass; /* the header's write pass */
+    uint32_t last;
+    uint32_t eod;
+    uint32_t old;
+    uint32_t update;
+    uint16_t pass;
+};
+
+struct adr_position {
+    uint32_t next;  /* the address read next, unless a LOCATE comes first */
+    uint8_t locate; /* a LOCATE of 'next' comes first */
 };
 
 /* A reading session. */
 struct adr_reading {
     struct adr_told told;
-    uint32_t next;     /* the address read next, unless a LOCATE comes first */
+    struct adr_position position;
     uint32_t expected; /* number of the next element */
+    struct adr_trail trail;
     struct adr_exchange exchange;
-    uint8_t locate;   /* a LOCATE of 'next' comes first */
     uint8_t finished; /* EOD was read */
-    uint8_t ended;    /* by a refusal of 8 to 12, or by a refused opening */
+    uint8_t ended;    /* by a refusal of 8 or more, or by a refused opening */
 };
 
 /* What the calls return: the session after the call, and what is answered. */
@@ -412,10 +457,10 @@ struct adr_choice adr_choose(struct adr_geometry g,
    ADR_FRAME_LENGTH bytes. 'depth' is D, the frames that the drive buffers, 1
    to 255; 'blocks' is W, the blocks of the window, 1 to 64. Refused with 1 to
    5; the session returned is then an ended one. What was on the cartridge is
-   replaced: elements go to address 10 and on. The write pass is the header's
-   + 1; a recording reads back as accepted if no user frame on the cartridge
-   bears that pass, so always give the newest header (and see WRITE PASSES
-   above). */
+   replaced: elements go to address 10 and on (adr_record_open_at_end adds to
+   it). The write pass is the header's + 1; a recording reads back as accepted
+   if no user frame on the cartridge bears that pass, so always give the newest
+   header (and see WRITE PASSES above). */
 struct adr_record_outcome adr_record_open(struct adr_geometry g, uint32_t depth, uint32_t blocks,
                                           const uint8_t *header, size_t header_length);
 
@@ -423,6 +468,50 @@ struct adr_record_outcome adr_record_open(struct adr_geometry g, uint32_t depth,
    with 2 or 4. */
 struct adr_record_outcome adr_record_open_blank(struct adr_geometry g, uint32_t depth,
                                                 uint32_t blocks);
+
+/* Opens a recording that adds to what a cartridge holds, at the end that
+   'reading' found: a reading session that has answered ADR_END. It is taken by
+   value and not used up. 'depth' is D and 'blocks' is W, of this session alone.
+   Refused, in this order, with
+     7   if the reading is not at its end: EOD was not read, or it was refused
+         with 8 or more, or it awaits a reply or has a busy command to give
+         again. So are numbers that stand for no session;
+     4   if D is not 1 to 255, or W is not 1 to 64;
+     5   if the update count is above 4,294,967,293. Any pass will do;
+     13  unless the reading ended at the EOD address of its header, which is 0
+         where a recording was not closed.
+   The session returned is then an ended one.
+
+   The recording goes on as any other, with block, filemark, close, fetch and
+   reply. Its headers keep the pass, and the opening ones, whose EOD address is
+   0, name the old end in AUX 224 to 227. Its first element, or EOD if there is
+   none, goes to the address of the old EOD. Numbers, filemarks before a frame
+   and the latest marker's address go on from what the reading delivered; so
+   element i, at block i modulo W of the window, counts from the first on the
+   cartridge. After ADR_DONE a reading delivers what was there, then what was
+   added. Where the old EOD could not be overwritten it may still read: a
+   reading passes over an EOD below the address that its header gives for EOD
+   or, where that is 0, for the old end. (A program that knows of no additions
+   may end there.)
+
+   This needs what no call can check:
+     - The cartridge is the one that was read and has not changed since, and its
+       newest header was the one to read on.
+     - There are no frames of the pass above the old end. There are none if the
+       last session on the cartridge came to ADR_DONE: add to no other. Left-over
+       frames that an addition skips after a write error are read as its own, or
+       make its reading be refused with 10.
+   After a session that was cut short the newest header has, as a rule, EOD
+   address 0. Every addition is then refused with 13, or with 7 where the
+   reading finds no end, and the cartridge can only be recorded afresh; read
+   first what is to be kept. But it may be that an older header is the newest
+   again (see WRITE PASSES above), and then nothing is refused: the host has to
+   know how the last session ended.
+
+   Filemarks alone tell jobs apart. Where the last element is a block, the next
+   blocks added continue its job, so end each job with a filemark. */
+struct adr_record_outcome adr_record_open_at_end(struct adr_reading reading, uint32_t depth,
+                                                 uint32_t blocks);
 
 /* Accepts a block, ADR_BLOCK_LENGTH bytes, which is copied to its place in the
    window, ADR_WINDOW_LENGTH(W) bytes. The window is lent to every
@@ -511,6 +600,10 @@ static inline const char *adr_refusal_text(uint8_t number)
     case ADR_NOT_FOUND:
         return "no header copy could be written, or no end of data was found: "
                "clean the drive and read again, or record on another cartridge";
+    case ADR_END_ELSEWHERE:
+        return "the header does not name the end that was read to, as after a recording "
+               "that was not closed: read again on the newest header, "
+               "or record on another cartridge";
     default:
         return "no refusal has this number";
     }
@@ -588,19 +681,20 @@ ADR_SIZE(adr_setup, 2);
 ADR_OFFSET(adr_setup, depth, 0);
 ADR_OFFSET(adr_setup, highest, 1);
 
-ADR_SIZE(adr_header, 16);
+ADR_SIZE(adr_header, 20);
 ADR_OFFSET(adr_header, last, 0);
 ADR_OFFSET(adr_header, eod, 4);
-ADR_OFFSET(adr_header, update, 8);
-ADR_OFFSET(adr_header, pass, 12);
+ADR_OFFSET(adr_header, old, 8);
+ADR_OFFSET(adr_header, update, 12);
+ADR_OFFSET(adr_header, pass, 16);
 
-ADR_SIZE(adr_copies, 24);
+ADR_SIZE(adr_copies, 28);
 ADR_OFFSET(adr_copies, header, 0);
-ADR_OFFSET(adr_copies, group, 16);
-ADR_OFFSET(adr_copies, copy, 17);
-ADR_OFFSET(adr_copies, outstanding, 18);
-ADR_OFFSET(adr_copies, confirmed, 19);
-ADR_OFFSET(adr_copies, locate, 20);
+ADR_OFFSET(adr_copies, group, 20);
+ADR_OFFSET(adr_copies, copy, 21);
+ADR_OFFSET(adr_copies, outstanding, 22);
+ADR_OFFSET(adr_copies, confirmed, 23);
+ADR_OFFSET(adr_copies, locate, 24);
 
 ADR_SIZE(adr_trail, 8);
 ADR_OFFSET(adr_trail, filemarks, 0);
@@ -618,52 +712,59 @@ ADR_OFFSET(adr_elements, locate, 28);
 ADR_OFFSET(adr_elements, eod, 29);
 ADR_OFFSET(adr_elements, marks, 30);
 
-ADR_SIZE(adr_recording, 140);
+ADR_SIZE(adr_recording, 144);
 ADR_OFFSET(adr_recording, setup, 0);
 ADR_OFFSET(adr_recording, stage, 2);
 ADR_OFFSET(adr_recording, closed, 3);
 ADR_OFFSET(adr_recording, ended, 4);
 ADR_OFFSET(adr_recording, exchange, 8);
 ADR_OFFSET(adr_recording, copies, 20);
-ADR_OFFSET(adr_recording, elements, 44);
+ADR_OFFSET(adr_recording, elements, 48);
 
-ADR_SIZE(adr_told, 8);
+ADR_SIZE(adr_told, 20);
 ADR_OFFSET(adr_told, last, 0);
-ADR_OFFSET(adr_told, pass, 4);
+ADR_OFFSET(adr_told, eod, 4);
+ADR_OFFSET(adr_told, old, 8);
+ADR_OFFSET(adr_told, update, 12);
+ADR_OFFSET(adr_told, pass, 16);
 
-ADR_SIZE(adr_reading, 32);
+ADR_SIZE(adr_position, 8);
+ADR_OFFSET(adr_position, next, 0);
+ADR_OFFSET(adr_position, locate, 4);
+
+ADR_SIZE(adr_reading, 56);
 ADR_OFFSET(adr_reading, told, 0);
-ADR_OFFSET(adr_reading, next, 8);
-ADR_OFFSET(adr_reading, expected, 12);
-ADR_OFFSET(adr_reading, exchange, 16);
-ADR_OFFSET(adr_reading, locate, 28);
-ADR_OFFSET(adr_reading, finished, 29);
-ADR_OFFSET(adr_reading, ended, 30);
+ADR_OFFSET(adr_reading, position, 20);
+ADR_OFFSET(adr_reading, expected, 28);
+ADR_OFFSET(adr_reading, trail, 32);
+ADR_OFFSET(adr_reading, exchange, 40);
+ADR_OFFSET(adr_reading, finished, 52);
+ADR_OFFSET(adr_reading, ended, 53);
 
-ADR_SIZE(adr_record_outcome, 144);
+ADR_SIZE(adr_record_outcome, 148);
 ADR_OFFSET(adr_record_outcome, session, 0);
-ADR_OFFSET(adr_record_outcome, number, 140);
+ADR_OFFSET(adr_record_outcome, number, 144);
 
-ADR_SIZE(adr_record_fetched, 152);
+ADR_SIZE(adr_record_fetched, 156);
 ADR_OFFSET(adr_record_fetched, session, 0);
-ADR_OFFSET(adr_record_fetched, command, 140);
-ADR_OFFSET(adr_record_fetched, answer, 148);
-ADR_OFFSET(adr_record_fetched, number, 149);
+ADR_OFFSET(adr_record_fetched, command, 144);
+ADR_OFFSET(adr_record_fetched, answer, 152);
+ADR_OFFSET(adr_record_fetched, number, 153);
 
-ADR_SIZE(adr_read_opened, 36);
+ADR_SIZE(adr_read_opened, 60);
 ADR_OFFSET(adr_read_opened, session, 0);
-ADR_OFFSET(adr_read_opened, number, 32);
+ADR_OFFSET(adr_read_opened, number, 56);
 
-ADR_SIZE(adr_read_fetched, 44);
+ADR_SIZE(adr_read_fetched, 68);
 ADR_OFFSET(adr_read_fetched, session, 0);
-ADR_OFFSET(adr_read_fetched, command, 32);
-ADR_OFFSET(adr_read_fetched, answer, 40);
-ADR_OFFSET(adr_read_fetched, number, 41);
+ADR_OFFSET(adr_read_fetched, command, 56);
+ADR_OFFSET(adr_read_fetched, answer, 64);
+ADR_OFFSET(adr_read_fetched, number, 65);
 
-ADR_SIZE(adr_read_taken, 36);
+ADR_SIZE(adr_read_taken, 60);
 ADR_OFFSET(adr_read_taken, session, 0);
-ADR_OFFSET(adr_read_taken, answer, 32);
-ADR_OFFSET(adr_read_taken, number, 33);
+ADR_OFFSET(adr_read_taken, answer, 56);
+ADR_OFFSET(adr_read_taken, number, 57);
 
 #undef ADR_OFFSET
 #undef ADR_SIZE

@@ -11,9 +11,9 @@ use Rattle.geometry.specs.Cartridge.{lastOf}
 use Rattle.geometry.proofs.PickLaws.{pick-by}
 use Rattle.frame.specs.declared.header.Header.{Header}
 use Rattle.header.specs.Read.{CheckedSaid, valid, refused, readHeader}
-use Rattle.carried_headers.specs.Carried.{openingHeader, isExhausted, renewed}
+use Rattle.carried_headers.specs.Carried.{openingHeader, isCountedOut, isExhausted, renewed}
 use Rattle.drive.specs.declared.reply.Reply.{Reply}
-use Rattle.recording_state.specs.Open.{openWith, openFor, openOf, openBlankFor, openBlankOf}
+use Rattle.recording_state.specs.Open.{isMisfit, openWith, openFor, openOf, openBlankFor, openBlankOf}
 use Rattle.recording_state.specs.State as session
 use Rattle.recording_state.specs.Answer as answer
 use Rattle.recording_state.specs.Fetch.{FetchedSaid, sending, fetchOf}
@@ -21,6 +21,8 @@ use Rattle.recording_state.specs.declared.state.State.{State}
 use Rattle.recording_state.proofs.Ended as ended
 use Rattle.recording_state.proofs.FetchView as view
 use Rattle.recording_state.proofs.Refusals.{Leaves, refused-window, refused-block, refused-filemark, refused-close, refused-fetch, refused-reply}
+use Rattle.reading_state.specs.State.{isAtEnd}
+use Rattle.adding_opening.specs.AtEnd.{endsElsewhere, openAtEndOf}
 use Rattle.reading_state.specs.Open as opening
 use Rattle.reading_state.specs.Fetch as reading
 use Rattle.reading_state.specs.Reply as reply
@@ -116,12 +118,22 @@ read-opened : (c : CheckedSaid) → 1 ≤ opening.openFor c .number → opening.
 read-opened (valid h) l = absurd (omega arith)
 read-opened (refused n) l = refl
 
+at-end-opened : (r : Reading) (depth window : ℕ) → Ended (openAtEndOf r depth window)
+unfolding openAtEndOf
+at-end-opened r depth window =
+    pick-by Ended (isAtEnd r)
+    (λ _. pick-by Ended (isMisfit depth window) (λ _ _. refl)
+    (λ _. pick-by Ended (isCountedOut (r .told .update)) (λ _ _. refl)
+    (λ _. pick-by Ended (endsElsewhere r) (λ _ _. refl) (λ _ n. absurd (omega arith)))))
+    (λ _ _. refl)
+
 openings : OpeningsRefused
 unfolding openOf openBlankOf opening.openOf
 openings = record {
   recording = λ g depth window h. opened-for (readHeader g h) depth window;
   blank = λ g depth window. blank-for (lastOf g) depth window;
   reading = λ g h. read-opened (readHeader g h);
+  at-end = at-end-opened;
 }
 
 -- ---- both

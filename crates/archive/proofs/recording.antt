@@ -4,7 +4,9 @@ pub mod ElementsLink
 pub mod Invariant
 pub mod InvariantLaws
 pub mod Setting
+pub mod Noted
 pub mod Start
+pub mod Added
 pub mod CopiesMoves
 pub mod ElementsMoves
 pub mod ContentMoves
@@ -20,4 +22,5 @@ pub mod ElementSteps
 pub mod ElementReplies
 pub mod Calls
 pub mod Completion
+pub mod Named
 pub mod ListedReplies

@@ -4,7 +4,12 @@ pub mod Headers
 pub mod Tapes
 pub mod Elements
 pub mod FirstRecording
+pub mod Filemark
 pub mod ReadingExchange
 pub mod FirstReading
 pub mod SecondRecording
 pub mod SecondReading
+pub mod AddedRecording
+pub mod AddedReading
+pub mod ThirdRecording
+pub mod ThirdReading

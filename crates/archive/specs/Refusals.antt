@@ -13,6 +13,7 @@ use Rattle.recording_state.specs.declared.state.State.{State}
 use Rattle.reading_state.specs.Open as opening
 use Rattle.reading_state.specs.State as reading
 use Rattle.reading_state.specs.declared.state.State.{State as Reading}
+use Rattle.adding_opening.specs.AtEnd.{openAtEndOf}
 use Rattle.archive.specs.Recordings as recordings
 use Rattle.archive.specs.Readings as readings
 
@@ -32,7 +33,7 @@ leftBy s recordings.close = []
 leftBy s (recordings.fetch window frame) = fetchOf s window frame .frame
 leftBy s (recordings.reply r) = []
 
--- the session that a call ends with 8 to 12: as it was, but that the write error behind a reply's 9 is noted
+-- the session that a call ends with 8 or more: as it was, but that the write error behind a reply's 9 is noted
 abbrev pub endedFromCall : State → recordings.Call → State
 endedFromCall s (recordings.accept-block b window) = s
 endedFromCall s recordings.accept-filemark = s
@@ -45,7 +46,7 @@ pub record RecordingRefused (s : State) (c : recordings.Call) : Type 0 where
   pub untouched : 1 ≤ recordings.refusal s c → leftBy s c ≡ lentBy c
   -- 1 to 7: session unchanged
   pub unchanged : 1 ≤ recordings.refusal s c → recordings.refusal s c ≤ 7 → recordings.returned s c ≡ s
-  -- 8 to 12: session ended
+  -- 8 or more: session ended
   pub ended : 8 ≤ recordings.refusal s c → recordings.returned s c ≡ recording.endedOf (endedFromCall s c)
   -- and only 7 follows
   pub only-7 : s .ended ≡ true → recordings.refusal s c ≡ 7
@@ -60,6 +61,7 @@ pub record OpeningsRefused : Type 0 where
   pub recording : (g : Geometry) (depth window : ℕ) (h : List ℕ) → 1 ≤ openOf g depth window h .number → openOf g depth window h .session .ended ≡ true
   pub blank : (g : Geometry) (depth window : ℕ) → 1 ≤ openBlankOf g depth window .number → openBlankOf g depth window .session .ended ≡ true
   pub reading : (g : Geometry) (h : List ℕ) → 1 ≤ opening.openOf g h .number → opening.openOf g h .session .ended ≡ true
+  pub at-end : (r : Reading) (depth window : ℕ) → 1 ≤ openAtEndOf r depth window .number → openAtEndOf r depth window .session .ended ≡ true
 
 pub record RefusedCalls : Type 0 where
   pub openings : OpeningsRefused

@@ -1,8 +1,9 @@
 // Which header the copies carry.
 ghost use mathlib.Core.Path.{_≡_};
-ghost use Rattle.carried_headers.specs.Carried.{openingHeader, isExhausted, renewed, closingOf};
+ghost use Rattle.carried_headers.specs.Carried.{openingHeader, isCountedOut, isExhausted, renewed, addedTo, closingOf};
 use frame::Header;
 use geometry::Address;
+use geometry::preceding;
 
 // The opening header on a cartridge that holds no valid one.
 pub fn blank_header(last: Address) -> Header
@@ -12,15 +13,23 @@ pub fn blank_header(last: Address) -> Header
         last: last,
         pass: 1,
         eod: Address(0),
+        old: Address(0),
         update: 0,
     }
+}
+
+// Whether the update count can't be raised twice.
+pub fn is_counted_out(update: u32) -> bool
+    ensures { λ r. ⌜ r ≡ isCountedOut update ⌝ }
+{
+    4294967293 < update
 }
 
 // Whether pass or update count can't be raised.
 pub fn is_exhausted(old: Header) -> bool
     ensures { λ r. ⌜ r ≡ isExhausted old ⌝ }
 {
-    (65534 <= old.pass) | (4294967293 < old.update)
+    (65534 <= old.pass) | is_counted_out(old.update)
 }
 
 // The opening header of a recording over an old one.
@@ -32,7 +41,21 @@ pub fn renew(old: Header) -> Header
         last: last,
         pass: std::num::wrapping_add_u16(old.pass, 1),
         eod: Address(0),
+        old: Address(0),
         update: std::num::wrapping_add_u32(old.update, 1),
+    }
+}
+
+// The opening header of a recording that adds to a cartridge whose newest header has this LAST, pass and update count, and whose EOD is at `end`.
+pub fn add_to(last: Address, pass: u16, update: u32, end: Address) -> Header
+    ensures { λ r. ⌜ r ≡ addedTo last pass update end ⌝ }
+{
+    Header {
+        last: last,
+        pass: pass,
+        eod: Address(0),
+        old: end,
+        update: std::num::wrapping_add_u32(update, 1),
     }
 }
 
@@ -40,12 +63,12 @@ pub fn renew(old: Header) -> Header
 pub fn closing_header(header: Header, next: Address) -> Header
     ensures { λ r. ⌜ r ≡ closingOf header next ⌝ }
 {
-    let eod = if next.0 < 1 { 0 } else { next.0 - 1 };
     let last = header.last;
     Header {
         last: last,
         pass: header.pass,
-        eod: Address(eod),
+        eod: preceding(next),
+        old: Address(0),
         update: std::num::wrapping_add_u32(header.update, 1),
     }
 }

@@ -1,4 +1,5 @@
 // A command as it goes to the drive, with the frame of a WRITE.
+use crate::printing::print;
 use crate::printing::print_command;
 use crate::printing::print_number;
 use buffer::be16_at;
@@ -6,18 +7,33 @@ use buffer::be32_at;
 use drive::Command;
 use frame::AUX_START;
 use frame::KIND_AT;
+use frame::OLD_AT;
 use frame::UPDATE_AT;
 
-// Where fields of the AUX stand in the frame.
+// Where fields stand in the frame: a header's pass and EOD address in its data, the others in the AUX.
+const HEADER_PASS_AT: u16 = 22;
+
+const EOD_AT: u16 = 32;
+
+const PASS_AT: u16 = AUX_START + 22;
+
 const SEQ_AT: u16 = AUX_START + 44;
 
 const FILEMARKS_AT: u16 = AUX_START + 192;
 
 const MARKER_AT: u16 = AUX_START + 200;
 
-// The number of an element or EOD, the filemarks before it and the latest marker's address.
+// A pass other than 1.
+fn print_pass(pass: u16) {
+    if pass != 1 {
+        print_number(b", pass ", pass as u32);
+    }
+}
+
+// The number and pass of an element or EOD, the filemarks before it and the latest marker's address.
 fn print_element(name: &[u8], frame: &[u8]) {
     print_number(name, be32_at(frame, SEQ_AT));
+    print_pass(be16_at(frame, PASS_AT));
     print_number(b", filemarks ", be32_at(frame, FILEMARKS_AT));
     let marker = be32_at(frame, MARKER_AT);
     if marker != 0xFFFFFFFF {
@@ -26,8 +42,18 @@ fn print_element(name: &[u8], frame: &[u8]) {
 }
 
 fn print_header(frame: &[u8]) {
-    print_number(b" header, count ", be32_at(frame, UPDATE_AT));
-    print_number(b", EOD ", be32_at(frame, 32));
+    print(b" header");
+    print_pass(be16_at(frame, HEADER_PASS_AT));
+    print_number(b", count ", be32_at(frame, UPDATE_AT));
+    print_number(b", EOD ", be32_at(frame, EOD_AT));
+}
+
+// An old end other than 0, in a frame of any kind.
+fn print_old(frame: &[u8]) {
+    let old = be32_at(frame, OLD_AT);
+    if old != 0 {
+        print_number(b", old end ", old);
+    }
 }
 
 // The kind of a frame and what it holds.
@@ -39,6 +65,7 @@ fn print_frame(frame: &[u8]) {
         0x0100 => print_element(b" EOD ", frame),
         _ => print_element(b" ", frame),
     }
+    print_old(frame);
 }
 
 // A command, with what a WRITE's frame holds.

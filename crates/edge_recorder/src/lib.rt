@@ -10,3 +10,5 @@ pub use plays::open;
 pub use plays::play;
 pub use plays::play_errors;
 pub use plays::play_good;
+pub use plays::session_of;
+pub use plays::skip_good;

@@ -14,7 +14,7 @@ use recording::Outcome;
 use recording::Recording;
 
 // The session of an outcome.
-fn session_of(o: Outcome) -> Recording {
+pub fn session_of(o: Outcome) -> Recording {
     let verdict = o.verdict;
     print_refused(verdict);
     let session = o.session;
@@ -60,29 +60,51 @@ fn print_answer(answer: Answer, frame: &[u8]) {
     print(b"\n");
 }
 
-// Fetches and prints.
-pub fn look(session: Recording, window: &[u8]) -> Recording {
+// Fetches, and prints what is to be shown.
+fn fetch(session: Recording, window: &[u8], shown: bool) -> Recording {
     let mut frame = [0u8; FRAME_LENGTH];
     let fetched = session.fetch(window, &mut frame);
     let answer = fetched.answer;
-    print_answer(answer, &frame);
+    if shown {
+        print_answer(answer, &frame);
+    }
     let next = fetched.session;
     next
 }
 
+// Fetches and prints.
+pub fn look(session: Recording, window: &[u8]) -> Recording {
+    fetch(session, window, true)
+}
+
+// Fetches a command and brings a reply to it.
+fn exchange(session: Recording, window: &[u8], reply: Reply, shown: bool) -> Recording {
+    let sent = fetch(session, window, shown);
+    session_of(sent.reply(reply))
+}
+
 // Fetches and prints a command, and brings a reply to it.
 pub fn play(session: Recording, window: &[u8], reply: Reply) -> Recording {
-    let sent = look(session, window);
-    session_of(sent.reply(reply))
+    exchange(session, window, reply, true)
+}
+
+// n commands, each answered good with nothing buffered.
+fn run_good(session: Recording, window: &[u8], n: u8, shown: bool) -> Recording {
+    let mut s = session;
+    for _ in 0..n {
+        s = exchange(s, window, good(0), shown);
+    }
+    s
 }
 
 // Plays n commands, each answered good with nothing buffered.
 pub fn play_good(session: Recording, window: &[u8], n: u8) -> Recording {
-    let mut s = session;
-    for _ in 0..n {
-        s = play(s, window, good(0));
-    }
-    s
+    run_good(session, window, n, true)
+}
+
+// The same, not printed.
+pub fn skip_good(session: Recording, window: &[u8], n: u8) -> Recording {
+    run_good(session, window, n, false)
 }
 
 // LOCATE and WRITE, then a write error with skip 255 at that address, n times from address 10 on.

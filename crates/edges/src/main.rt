@@ -1,4 +1,4 @@
-// Plays recordings and readings through the public calls and prints what they give. The output was worked out by hand from 01.
+// Plays recordings and readings through the public calls and prints what they give. The output was worked out by hand from 01 and 02.
 fn main() {
     edge_recordings::example();
     edge_recordings::crossing();
@@ -10,4 +10,5 @@ fn main() {
     edge_readings::refusals();
     edge_readings::openings();
     edge_readings::choices();
+    edge_additions::additions();
 }

@@ -1,5 +1,5 @@
 -- An address or a refusal, in 01's numbers.
-use Prim.Native.Nat.{ℕ}
+use Prim.Native.Nat.{ℕ, _-_}
 use Rattle.geometry.specs.declared.address.Address.{Address}
 use Rattle.geometry.specs.declared.address.Seq.{Seq}
 use Rattle.geometry.specs.declared.address.Place.{Place}
@@ -12,6 +12,10 @@ asAddress n = record { 0 = n }
 
 abbrev pub asSeq : ℕ → Seq
 asSeq n = record { 0 = n }
+
+-- the address before another
+abbrev pub preceding : Address → Address
+preceding a = asAddress (a .0 - 1)
 
 pub data PlaceSaid : Type 0 where
   address : ℕ → PlaceSaid

@@ -1,7 +1,8 @@
 -- 01, "Refused calls": each refusal's number, and 0 for a call that is accepted.
 use Prim.Native.Nat.{ℕ}
 use Rattle.geometry.specs.declared.refusal.Refusal.{Refusal}
-use Rattle.geometry.specs.declared.refusal.Refusal.the-variants.{Length, Geometry, Header, Capacity, Exhausted, WindowFull, Phase, Reply, TapeFull, Missing, Foreign, NotFound}
+use Rattle.geometry.specs.declared.refusal.Refusal.the-variants.{Length, Geometry, Header, Capacity, Exhausted, WindowFull, Phase}
+use Rattle.geometry.specs.declared.refusal.Refusal.the-variants.{Reply, TapeFull, Missing, Foreign, NotFound, EndElsewhere}
 use Rattle.geometry.specs.declared.refusal.Verdict.{Verdict}
 use Rattle.geometry.specs.declared.refusal.Verdict.the-variants.{Accepted, Refused}
 
@@ -18,6 +19,7 @@ refusalNumber TapeFull = 9
 refusalNumber Missing = 10
 refusalNumber Foreign = 11
 refusalNumber NotFound = 12
+refusalNumber EndElsewhere = 13
 
 abbrev pub verdictNumber : Verdict → ℕ
 verdictNumber Accepted = 0

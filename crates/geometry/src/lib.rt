@@ -6,6 +6,7 @@ mod refusal;
 pub use address::Address;
 pub use address::Place;
 pub use address::Seq;
+pub use address::preceding;
 pub use cartridge::FIRST_USER;
 pub use cartridge::Geometry;
 pub use cartridge::LoadPoint;

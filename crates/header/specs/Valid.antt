@@ -36,11 +36,16 @@ validHeader last h = isNamed h && isPartition last h && isHeaderAux h
 unfoldable pub updateOf : List ℕ → ℕ
 updateOf h = get32 h (dataLength + 12)
 
+-- 02, Card 1: AUX 224-227, the old end that the opening headers of a recording name that adds to a cartridge; 0 in every other header
+unfoldable pub oldOf : List ℕ → ℕ
+oldOf h = get32 h (dataLength + 224)
+
 -- what the header tells
 abbrev pub headerOf : List ℕ → Header
 headerOf h = record {
   last = asAddress (get32 h 28);
   pass = get16 h 22;
   eod = asAddress (get32 h 32);
+  old = asAddress (oldOf h);
   update = updateOf h;
 }

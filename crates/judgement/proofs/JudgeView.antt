@@ -1,9 +1,9 @@
 -- What is known of a frame by how it is judged. Assumes nothing.
-use mathlib.Core.Path.{_≡_, refl, sym, _∙_}
-use mathlib.Core.Bool.{true≢false}
+use mathlib.Core.Path.{_≡_, refl, sym, subst, _∙_}
+use mathlib.Core.Bool.{Bool, true, false, true≢false}
 use mathlib.Core.List.{List}
 use mathlib.Core.Logic.{_⊎_, inl, inr}
-use Prim.Native.Nat.{ℕ, _<_}
+use Prim.Native.Nat.{ℕ, _≤_, _<_}
 use native.Mathlib.Omega.{arith}
 use borrow.Author.Tests.{ltb-true, ltb-false, eqb-true, eqb-false}
 use lib.Dec.{eqb, ltb}
@@ -14,42 +14,50 @@ use Rattle.buffer.specs.Bytes.{get16, get32}
 use Rattle.frame.specs.Aux.{typeOf}
 use Rattle.frame.specs.declared.element.Kind.{Kind}
 use Rattle.frame.specs.declared.element.Kind.the-variants.{Data, Marker, Eod}
+use Rattle.geometry.specs.declared.address.Address.{Address}
 use Rattle.geometry.specs.declared.address.Seq.{Seq}
 use Rattle.judgement.specs.declared.told.Told.{Told}
-use Rattle.judgement.specs.Judgement.{JudgementSaid, skipped, refused, foundSaid, expectedElement, asTable, judgeNumber, judgeKind, judgeType, judgeAux, judgeFrame}
+use Rattle.judgement.specs.Judgement.{JudgementSaid, skipped, refused, foundSaid, expectedElement, asTable, endsFrom, isEarlierEnd, judgeNumber, judgeKind, judgeType, judgeAux, judgeFrame}
 use Rattle.judgement.proofs.Cases.{no-kind}
 use Rattle.judgement.proofs.Facts.{Typed, Alike, FoundAs, alike-so, so-alike}
 
-pub data JudgeView (told : Told) (expected : Seq) (frame : List ℕ) : JudgementSaid → Type 0 where
-  wrong-length : (length frame ≡ 33280 → ⊥) → JudgeView told expected frame (refused 1)
-  other-format : length frame ≡ 33280 → (get32 (drop 32768 frame) 0 ≡ 0 → ⊥) → JudgeView told expected frame skipped
-  other-type : length frame ≡ 33280 → ((k : Kind) → get16 (drop 32768 frame) 16 ≡ typeOf k → ⊥) → JudgeView told expected frame skipped
-  other-partition : length frame ≡ 33280 → (getD (drop 32768 frame) 20 0 ≡ 0 → ⊥) → JudgeView told expected frame skipped
-  other-pass : length frame ≡ 33280 → (get16 (drop 32768 frame) 22 ≡ told .pass → ⊥) → JudgeView told expected frame skipped
-  below : (k : Kind) → Typed told k frame → get32 (drop 32768 frame) 44 < expected .0 → JudgeView told expected frame skipped
-  above : (k : Kind) → Typed told k frame → expected .0 < get32 (drop 32768 frame) 44 → JudgeView told expected frame (refused 10)
-  foreign : (k : Kind) → Typed told k frame → get32 (drop 32768 frame) 44 ≡ expected .0 → (Alike (expectedElement k told expected) (drop 32768 frame) → ⊥) → JudgeView told expected frame (refused 11)
-  found : (k : Kind) {j : JudgementSaid} → foundSaid k ≡ j → FoundAs told expected k frame → JudgeView told expected frame j
+pub data JudgeView (told : Told) (at : Address) (expected : Seq) (frame : List ℕ) : JudgementSaid → Type 0 where
+  wrong-length : (length frame ≡ 33280 → ⊥) → JudgeView told at expected frame (refused 1)
+  other-format : length frame ≡ 33280 → (get32 (drop 32768 frame) 0 ≡ 0 → ⊥) → JudgeView told at expected frame skipped
+  other-type : length frame ≡ 33280 → ((k : Kind) → get16 (drop 32768 frame) 16 ≡ typeOf k → ⊥) → JudgeView told at expected frame skipped
+  other-partition : length frame ≡ 33280 → (getD (drop 32768 frame) 20 0 ≡ 0 → ⊥) → JudgeView told at expected frame skipped
+  other-pass : length frame ≡ 33280 → (get16 (drop 32768 frame) 22 ≡ told .pass → ⊥) → JudgeView told at expected frame skipped
+  below : (k : Kind) → Typed told k frame → get32 (drop 32768 frame) 44 < expected .0 → JudgeView told at expected frame skipped
+  above : (k : Kind) → Typed told k frame → expected .0 < get32 (drop 32768 frame) 44 → JudgeView told at expected frame (refused 10)
+  earlier : Typed told Eod frame → get32 (drop 32768 frame) 44 ≡ expected .0 → at .0 < endsFrom told → JudgeView told at expected frame skipped
+  foreign : (k : Kind) → Typed told k frame → get32 (drop 32768 frame) 44 ≡ expected .0 → isEarlierEnd k told at ≡ false → (Alike (expectedElement k told expected) (drop 32768 frame) → ⊥) → JudgeView told at expected frame (refused 11)
+  found : (k : Kind) {j : JudgementSaid} → foundSaid k ≡ j → isEarlierEnd k told at ≡ false → FoundAs told expected k frame → JudgeView told at expected frame j
 
-module _ (told : Told) (expected : Seq) (frame : List ℕ) where
+module _ (told : Told) (at : Address) (expected : Seq) (frame : List ℕ) where
   abbrev View : JudgementSaid → Type 0
-  View j = JudgeView told expected frame j
+  View j = JudgeView told at expected frame j
 
   abbrev aux : List ℕ
   aux = drop 32768 frame
 
-  number-view : (k : Kind) → Typed told k frame → View (judgeNumber k told expected aux)
+  number-view : (k : Kind) → Typed told k frame → View (judgeNumber k told at expected aux)
   unfolding judgeNumber
   number-view k t =
       pick-by View (ltb (get32 aux 44) (expected .0)) (λ low. below k t (ltb-true _ _ low))
       (λ low. pick-by View (ltb (expected .0) (get32 aux 44)) (λ high. above k t (ltb-true _ _ high))
       (λ high.
       let same : get32 aux 44 ≡ expected .0 = omega (arith, ltb-false (get32 aux 44) (expected .0) low, ltb-false (expected .0) (get32 aux 44) high) in
-      pick-by View (asTable (expectedElement k told expected) aux) (λ a. found k refl (record { typed = t; number = same; alike = so-alike a }))
-      (λ a. foreign k t same (λ b. true≢false (sym (alike-so b) ∙ a)))))
+      pick-by View (isEarlierEnd k told at) (λ e. ends k t same e)
+      (λ e. pick-by View (asTable (expectedElement k told expected) aux) (λ a. found k refl e (record { typed = t; number = same; alike = so-alike a }))
+      (λ a. foreign k t same e (λ b. true≢false (sym (alike-so b) ∙ a))))))
+    where
+      ends : (k : Kind) → Typed told k frame → get32 aux 44 ≡ expected .0 → isEarlierEnd k told at ≡ true → View skipped
+      ends Data t same e = absurd (true≢false (sym e))
+      ends Marker t same e = absurd (true≢false (sym e))
+      ends Eod t same e = earlier t same (ltb-true _ _ e)
 
   module _ (long : length frame ≡ 33280) (format : get32 aux 0 ≡ 0) where
-    kind-view : (k : Kind) → get16 aux 16 ≡ typeOf k → View (judgeKind k told expected aux)
+    kind-view : (k : Kind) → get16 aux 16 ≡ typeOf k → View (judgeKind k told at expected aux)
     unfolding judgeKind
     kind-view k type =
         pick-by View (eqb (getD aux 20 0) 0)
@@ -58,7 +66,7 @@ module _ (told : Told) (expected : Seq) (frame : List ℕ) where
         (λ w. other-pass long (eqb-false _ _ w)))
         (λ p. other-partition long (eqb-false _ _ p))
 
-    type-view : View (judgeType told expected aux)
+    type-view : View (judgeType told at expected aux)
     unfolding judgeType
     type-view =
         pick-by View (eqb (get16 aux 16) (typeOf Data)) (λ d. kind-view Data (eqb-true _ _ d))
@@ -66,11 +74,11 @@ module _ (told : Told) (expected : Seq) (frame : List ℕ) where
         (λ m. pick-by View (eqb (get16 aux 16) (typeOf Eod)) (λ e. kind-view Eod (eqb-true _ _ e))
         (λ e. other-type long (no-kind (eqb-false _ _ d) (eqb-false _ _ m) (eqb-false _ _ e)))))
 
-  aux-view : length frame ≡ 33280 → View (judgeAux told expected aux)
+  aux-view : length frame ≡ 33280 → View (judgeAux told at expected aux)
   unfolding judgeAux
   aux-view long = pick-by View (eqb (get32 aux 0) 0) (λ f. type-view long (eqb-true _ _ f)) (λ f. other-format long (eqb-false _ _ f))
 
-  pub judge-view : View (judgeFrame told expected frame)
+  pub judge-view : View (judgeFrame told at expected frame)
   unfolding judgeFrame
   judge-view = pick-by View (eqb (length frame) 33280) (λ e. aux-view (eqb-true _ _ e)) (λ e. wrong-length (eqb-false _ _ e))
 
@@ -87,16 +95,17 @@ found-kind Eod Data e = cc
 found-kind Eod Marker e = cc
 
 -- a frame of the right length is refused with 10 or 11
-pub refused-known : {told : Told} {expected : Seq} {frame : List ℕ} {m : ℕ} → length frame ≡ 33280 → JudgeView told expected frame (refused m) → (m ≡ 10) ⊎ (m ≡ 11)
+pub refused-known : {told : Told} {at : Address} {expected : Seq} {frame : List ℕ} {m : ℕ} → length frame ≡ 33280 → JudgeView told at expected frame (refused m) → (m ≡ 10) ⊎ (m ≡ 11)
 refused-known long (wrong-length h) = absurd (h long)
 refused-known long (above _ _ _) = inl refl
-refused-known long (foreign _ _ _ _) = inr refl
-refused-known long (found Data e _) = never (cc)
-refused-known long (found Marker e _) = never (cc)
-refused-known long (found Eod e _) = never (cc)
+refused-known long (foreign _ _ _ _ _) = inr refl
+refused-known long (found Data e _ _) = never (cc)
+refused-known long (found Marker e _ _) = never (cc)
+refused-known long (found Eod e _ _) = never (cc)
 
-module _ {told : Told} {expected : Seq} {frame : List ℕ} where
-  pub found-known : (k : Kind) → JudgeView told expected frame (foundSaid k) → FoundAs told expected k frame
-  found-known Data (found m e h) = rw (← found-kind Data m e) h
-  found-known Marker (found m e h) = rw (← found-kind Marker m e) h
-  found-known Eod (found m e h) = rw (← found-kind Eod m e) h
+module _ {told : Told} {at : Address} {expected : Seq} {frame : List ℕ} where
+  -- an EOD that ends reading is no earlier end
+  pub end-known : JudgeView told at expected frame (foundSaid Eod) → FoundAs told expected Eod frame × (endsFrom told ≤ at .0)
+  end-known (found m e late h) =
+      let same = found-kind Eod m e in
+      (rw (← same) h, ltb-false (at .0) (endsFrom told) (subst (λ (k : Kind). isEarlierEnd k told at ≡ false) same late))

@@ -1,6 +1,6 @@
--- 01, "Reading a cartridge": what one frame read is to a reading. AUX 4 to 11 are never looked at.
+-- 01, "Reading a cartridge": what one frame read at an address is to a reading. AUX 4 to 11 are never looked at.
 use Prim.Native.Nat.{ℕ, _-_}
-use mathlib.Core.Bool.{Bool, _&&_}
+use mathlib.Core.Bool.{Bool, false, _&&_}
 use mathlib.Core.List.{List}
 use lib.Dec.{eqb, ltb}
 use lib.ListN.{length, getD, take, drop}
@@ -12,6 +12,7 @@ use Rattle.frame.specs.Aux.{typeOf, auxBytes, elementAux}
 use Rattle.frame.specs.declared.element.Element.{Element}
 use Rattle.frame.specs.declared.element.Kind.{Kind}
 use Rattle.frame.specs.declared.element.Kind.the-variants.{Data, Marker, Eod}
+use Rattle.geometry.specs.declared.address.Address.{Address}
 use Rattle.geometry.specs.declared.address.Seq.{Seq}
 use Rattle.frame.specs.Lengths.{frameLength, dataLength}
 use Rattle.judgement.specs.declared.told.Told.{Told}
@@ -58,12 +59,23 @@ asTable e aux =
     agree (part 18 36 aux) (part 18 36 (auxBytes (elementAux e)))
     && agree (part 44 68 aux) (part 44 68 (auxBytes (elementAux e)))
 
--- number below the expected, passed over; above, refusal 10; equal, refusal 11 if another field differs from the table, else delivered
-unfoldable pub judgeNumber : Kind → Told → Seq → List ℕ → JudgementSaid
-judgeNumber k told expected aux =
+-- an EOD ends reading only if its address is not below the header's EOD address or, where that is 0, the old end named there
+unfoldable pub endsFrom : Told → ℕ
+endsFrom told = pick (eqb (told .eod .0) 0) (told .old .0) (told .eod .0)
+
+abbrev pub isEarlierEnd : Kind → Told → Address → Bool
+isEarlierEnd Data told at = false
+isEarlierEnd Marker told at = false
+isEarlierEnd Eod told at = ltb (at .0) (endsFrom told)
+
+-- number below the expected, passed over; above, refusal 10; equal, passed over if it is an earlier end, refusal 11 if another field
+-- differs from the table, else delivered
+unfoldable pub judgeNumber : Kind → Told → Address → Seq → List ℕ → JudgementSaid
+judgeNumber k told at expected aux =
     pick (ltb (get32 aux 44) (expected .0)) skipped
     (pick (ltb (expected .0) (get32 aux 44)) (refused 10)
-    (pick (asTable (expectedElement k told expected) aux) (foundSaid k) (refused 11)))
+    (pick (isEarlierEnd k told at) skipped
+    (pick (asTable (expectedElement k told expected) aux) (foundSaid k) (refused 11))))
 
 -- ---- a frame is passed over unless AUX 0-3 are 0, type is data, marker or EOD, partition 00, pass the header's: one after another
 
@@ -71,24 +83,24 @@ abbrev unless : Bool → JudgementSaid → JudgementSaid → JudgementSaid
 unless test over next = pick test next over
 
 -- partition 00, then pass the header's
-unfoldable pub judgeKind : Kind → Told → Seq → List ℕ → JudgementSaid
-judgeKind k told expected aux =
+unfoldable pub judgeKind : Kind → Told → Address → Seq → List ℕ → JudgementSaid
+judgeKind k told at expected aux =
     unless (eqb (getD aux 20 0) 0) skipped
     (unless (eqb (get16 aux 22) (told .pass)) skipped
-    (judgeNumber k told expected aux))
+    (judgeNumber k told at expected aux))
 
 -- type is data, marker or EOD
-unfoldable pub judgeType : Told → Seq → List ℕ → JudgementSaid
-judgeType told expected aux =
-    pick (eqb (get16 aux 16) (typeOf Data)) (judgeKind Data told expected aux)
-    (pick (eqb (get16 aux 16) (typeOf Marker)) (judgeKind Marker told expected aux)
-    (pick (eqb (get16 aux 16) (typeOf Eod)) (judgeKind Eod told expected aux) skipped))
+unfoldable pub judgeType : Told → Address → Seq → List ℕ → JudgementSaid
+judgeType told at expected aux =
+    pick (eqb (get16 aux 16) (typeOf Data)) (judgeKind Data told at expected aux)
+    (pick (eqb (get16 aux 16) (typeOf Marker)) (judgeKind Marker told at expected aux)
+    (pick (eqb (get16 aux 16) (typeOf Eod)) (judgeKind Eod told at expected aux) skipped))
 
 -- AUX 0-3 are 0
-unfoldable pub judgeAux : Told → Seq → List ℕ → JudgementSaid
-judgeAux told expected aux = unless (eqb (get32 aux 0) 0) skipped (judgeType told expected aux)
+unfoldable pub judgeAux : Told → Address → Seq → List ℕ → JudgementSaid
+judgeAux told at expected aux = unless (eqb (get32 aux 0) 0) skipped (judgeType told at expected aux)
 
 -- a lent length that is not a frame's: refusal 1
-unfoldable pub judgeFrame : Told → Seq → List ℕ → JudgementSaid
-judgeFrame told expected frame =
-    pick (eqb (length frame) frameLength) (judgeAux told expected (drop dataLength frame)) (refused 1)
+unfoldable pub judgeFrame : Told → Address → Seq → List ℕ → JudgementSaid
+judgeFrame told at expected frame =
+    pick (eqb (length frame) frameLength) (judgeAux told at expected (drop dataLength frame)) (refused 1)

@@ -2,7 +2,8 @@
 ghost use mathlib.Core.Path.{_≡_};
 ghost use lib.ListN.{length};
 ghost use Rattle.frame.specs.Lengths.{auxLength};
-ghost use Rattle.judgement.specs.Judgement.{judgementSaid, expectedElement, judgeNumber, judgeKind, judgeType, judgeAux, judgeFrame};
+ghost use Rattle.judgement.specs.Judgement.{judgementSaid, expectedElement, endsFrom, isEarlierEnd};
+ghost use Rattle.judgement.specs.Judgement.{judgeNumber, judgeKind, judgeType, judgeAux, judgeFrame};
 use crate::table::as_table;
 use crate::told::Told;
 use buffer::be16_at;
@@ -40,10 +41,32 @@ fn expected_element(k: Kind, told: Told, expected: Seq) -> Element
     }
 }
 
+// The address from which an EOD ends reading.
+fn ends_from(told: Told) -> u32
+    ensures { λ r. ⌜ r ≡ endsFrom told ⌝ }
+{
+    if told.eod.0 == 0 {
+        told.old.0
+    } else {
+        told.eod.0
+    }
+}
+
+// Whether an EOD of the expected number, at this address, is an earlier end.
+fn is_earlier_end(k: Kind, told: Told, at: Address) -> bool
+    ensures { λ r. ⌜ r ≡ isEarlierEnd k told at ⌝ }
+{
+    match k {
+        Kind::Data => false,
+        Kind::Marker => false,
+        Kind::Eod => at.0 < ends_from(told),
+    }
+}
+
 // A frame of this pass whose type is k.
-fn judge_number(k: Kind, told: Told, expected: Seq, aux: &[u8]) -> Judgement
+fn judge_number(k: Kind, told: Told, at: Address, expected: Seq, aux: &[u8]) -> Judgement
     requires { ⌜ length (now aux) ≡ auxLength ⌝ }
-    ensures { λ r. ⌜ judgementSaid r ≡ judgeNumber k told expected (now (aux .entry)) ⌝ }
+    ensures { λ r. ⌜ judgementSaid r ≡ judgeNumber k told at expected (now (aux .entry)) ⌝ }
 {
     let n = be32_at(aux, 44);
     if n < expected.0 {
@@ -52,6 +75,9 @@ fn judge_number(k: Kind, told: Told, expected: Seq, aux: &[u8]) -> Judgement
     if expected.0 < n {
         return Judgement::Refused(Refusal::Missing);
     }
+    if is_earlier_end(k, told, at) {
+        return Judgement::Skipped;
+    }
     if as_table(expected_element(k, told, expected), aux) {
         return Judgement::Found(k);
     }
@@ -59,9 +85,9 @@ fn judge_number(k: Kind, told: Told, expected: Seq, aux: &[u8]) -> Judgement
 }
 
 // A frame whose type is k.
-fn judge_kind(k: Kind, told: Told, expected: Seq, aux: &[u8]) -> Judgement
+fn judge_kind(k: Kind, told: Told, at: Address, expected: Seq, aux: &[u8]) -> Judgement
     requires { ⌜ length (now aux) ≡ auxLength ⌝ }
-    ensures { λ r. ⌜ judgementSaid r ≡ judgeKind k told expected (now (aux .entry)) ⌝ }
+    ensures { λ r. ⌜ judgementSaid r ≡ judgeKind k told at expected (now (aux .entry)) ⌝ }
 {
     let partition = byte_at(aux, 20);
     if partition != 0 {
@@ -71,40 +97,40 @@ fn judge_kind(k: Kind, told: Told, expected: Seq, aux: &[u8]) -> Judgement
     if pass != told.pass {
         return Judgement::Skipped;
     }
-    judge_number(k, told, expected, aux)
+    judge_number(k, told, at, expected, aux)
 }
 
 // A frame whose AUX 0-3 are 0.
-fn judge_type(told: Told, expected: Seq, aux: &[u8]) -> Judgement
+fn judge_type(told: Told, at: Address, expected: Seq, aux: &[u8]) -> Judgement
     requires { ⌜ length (now aux) ≡ auxLength ⌝ }
-    ensures { λ r. ⌜ judgementSaid r ≡ judgeType told expected (now (aux .entry)) ⌝ }
+    ensures { λ r. ⌜ judgementSaid r ≡ judgeType told at expected (now (aux .entry)) ⌝ }
 {
     let t = be16_at(aux, 16);
     match t {
-        0x8000 => judge_kind(Kind::Data, told, expected, aux),
-        0x0200 => judge_kind(Kind::Marker, told, expected, aux),
-        0x0100 => judge_kind(Kind::Eod, told, expected, aux),
+        0x8000 => judge_kind(Kind::Data, told, at, expected, aux),
+        0x0200 => judge_kind(Kind::Marker, told, at, expected, aux),
+        0x0100 => judge_kind(Kind::Eod, told, at, expected, aux),
         _ => Judgement::Skipped,
     }
 }
 
-fn judge_aux(told: Told, expected: Seq, aux: &[u8]) -> Judgement
+fn judge_aux(told: Told, at: Address, expected: Seq, aux: &[u8]) -> Judgement
     requires { ⌜ length (now aux) ≡ auxLength ⌝ }
-    ensures { λ r. ⌜ judgementSaid r ≡ judgeAux told expected (now (aux .entry)) ⌝ }
+    ensures { λ r. ⌜ judgementSaid r ≡ judgeAux told at expected (now (aux .entry)) ⌝ }
 {
     let format = be32_at(aux, 0);
     if format != 0 {
         return Judgement::Skipped;
     }
-    judge_type(told, expected, aux)
+    judge_type(told, at, expected, aux)
 }
 
-// What a frame is to a reading that expects a sequence number.
-pub fn judge_frame(told: Told, expected: Seq, frame: &[u8]) -> Judgement
-    ensures { λ r. ⌜ judgementSaid r ≡ judgeFrame told expected (now (frame .entry)) ⌝ }
+// What a frame at an address is to a reading that expects a sequence number.
+pub fn judge_frame(told: Told, at: Address, expected: Seq, frame: &[u8]) -> Judgement
+    ensures { λ r. ⌜ judgementSaid r ≡ judgeFrame told at expected (now (frame .entry)) ⌝ }
 {
     if frame.len() != FRAME_LENGTH {
         return Judgement::Refused(Refusal::Length);
     }
-    judge_aux(told, expected, &frame[DATA_LENGTH..])
+    judge_aux(told, at, expected, &frame[DATA_LENGTH..])
 }

@@ -2,15 +2,16 @@
 ghost use mathlib.Core.Path.{_≡_};
 ghost use Rattle.geometry.specs.Refusal.{refusalNumber};
 ghost use Rattle.recording_state.specs.State.{outcomeSaid};
-ghost use Rattle.recording_state.specs.Open.{fresh, openRefused, openWith, openOf, openBlankOf};
+ghost use Rattle.recording_state.specs.Open.{startedAt, fresh, openRefused, isMisfit, openWith, openOf, openBlankOf};
 use carried_headers::blank_header;
 use carried_headers::is_exhausted;
 use carried_headers::renew;
 use copies::Copies;
 use drive::Exchange;
 use elements::Elements;
-use elements::no_trail;
 use frame::Header;
+use frame::Trail;
+use frame::no_trail;
 use geometry::Address;
 use geometry::FIRST_USER;
 use geometry::Geometry;
@@ -24,9 +25,16 @@ use recording_state::Setup;
 use recording_state::Stage;
 use recording_state::State;
 
-// A session at its first command.
-fn fresh_session(depth: u8, highest: u8, header: Header) -> State
-    ensures { λ r. ⌜ r ≡ fresh depth highest header ⌝ }
+// A session at its first command, whose elements start from an address, a number and a trail.
+pub fn session_at(
+    depth: u8,
+    highest: u8,
+    header: Header,
+    address: Address,
+    number: Seq,
+    trail: Trail,
+) -> State
+    ensures { λ r. ⌜ r ≡ startedAt depth highest header address number trail ⌝ }
 {
     let last = header.last;
     State {
@@ -39,35 +47,51 @@ fn fresh_session(depth: u8, highest: u8, header: Header) -> State
         closed: false,
         ended: false,
         copies: Copies::start(header),
-        elements: Elements::start(last, Address(FIRST_USER), Seq(0), no_trail()),
+        elements: Elements::start(last, address, number, trail),
     }
 }
 
+// That of a fresh recording.
+fn fresh_session(depth: u8, highest: u8, header: Header) -> State
+    ensures { λ r. ⌜ r ≡ fresh depth highest header ⌝ }
+{
+    session_at(
+        depth,
+        highest,
+        header,
+        Address(FIRST_USER),
+        Seq(0),
+        no_trail(),
+    )
+}
+
 // A refused opening returns an ended session.
-fn refuse_opening(refusal: Refusal) -> Outcome
+pub fn refuse_opening(refusal: Refusal) -> Outcome
     ensures { λ r. ⌜ outcomeSaid r ≡ openRefused (refusalNumber refusal) ⌝ }
 {
     let header = Header {
         last: Address(0),
         pass: 0,
         eod: Address(0),
+        old: Address(0),
         update: 0,
     };
     let session = fresh_session(0, 0, header);
     session.end(refusal)
 }
 
+// Whether D or W is none that a session can have.
+pub fn is_misfit(depth: u8, blocks: u8) -> bool
+    ensures { λ r. ⌜ r ≡ isMisfit depth blocks ⌝ }
+{
+    (depth == 0) | ((blocks == 0) | (64 < blocks))
+}
+
 // Refusal 4 for the sizes, then 5; else a session with this header.
 fn open_with(depth: u8, blocks: u8, exhausted: bool, header: Header) -> Outcome
     ensures { λ r. ⌜ outcomeSaid r ≡ openWith depth blocks exhausted header ⌝ }
 {
-    if depth == 0 {
-        return refuse_opening(Refusal::Capacity);
-    }
-    if blocks == 0 {
-        return refuse_opening(Refusal::Capacity);
-    }
-    if 64 < blocks {
+    if is_misfit(depth, blocks) {
         return refuse_opening(Refusal::Capacity);
     }
     if exhausted {

@@ -16,8 +16,8 @@ use reading_state::State;
 fn due(s: State) -> Command
     ensures { λ r. ⌜ commandSaid r ≡ commandOf s ⌝ }
 {
-    let next = s.next;
-    if s.locate {
+    let next = s.position.next;
+    if s.position.locate {
         return Command::Locate(next);
     }
     if next.0 == SECOND_GROUP {
@@ -57,7 +57,7 @@ pub fn fetch(mut s: State) -> Fetched
             answer: Answer::End,
         };
     }
-    if s.told.last.0 < s.next.0 {
+    if s.told.last.0 < s.position.next.0 {
         s.ended = true;
         return Fetched {
             session: s,

@@ -4,6 +4,7 @@ ghost use Rattle.geometry.specs.Refusal.{refusalNumber};
 ghost use Rattle.reading_state.specs.Open.{openedSaid, toldOf, fresh, openRefused, openOf};
 use drive::Exchange;
 use frame::Header;
+use frame::no_trail;
 use geometry::Address;
 use geometry::FIRST_USER;
 use geometry::Geometry;
@@ -14,6 +15,7 @@ use header::Checked;
 use header::read_header;
 use judgement::Told;
 use reading_state::Opened;
+use reading_state::Position;
 use reading_state::State;
 
 // A session at its first command.
@@ -22,9 +24,12 @@ fn fresh_session(told: Told) -> State
 {
     State {
         told: told,
-        next: Address(FIRST_USER),
-        locate: true,
+        position: Position {
+            next: Address(FIRST_USER),
+            locate: true,
+        },
         expected: Seq(0),
+        trail: no_trail(),
         exchange: Exchange::unsent(),
         finished: false,
         ended: false,
@@ -38,6 +43,9 @@ fn refuse_opening(refusal: Refusal) -> Opened
     let mut session = fresh_session(Told {
         last: Address(0),
         pass: 0,
+        eod: Address(0),
+        old: Address(0),
+        update: 0,
     });
     session.ended = true;
     Opened {
@@ -51,9 +59,14 @@ fn told_by(header: Header) -> Told
     ensures { λ r. ⌜ r ≡ toldOf header ⌝ }
 {
     let last = header.last;
+    let eod = header.eod;
+    let old = header.old;
     Told {
         last: last,
         pass: header.pass,
+        eod: eod,
+        old: old,
+        update: header.update,
     }
 }
 

@@ -23,16 +23,16 @@ pub record Ready (s : State) : Type 0 where
 pub record Due (s : State) : Type 0 where
   pub ready : Ready s
   pub unfinished : s .finished ≡ false
-  pub within : s .next .0 ≤ s .told .last .0
+  pub within : s .position .next .0 ≤ s .told .last .0
 
 pub data FetchView (s : State) : FetchedSaid → Type 0 where
   wrong-phase : (s .ended ≡ true) ⊎ (s .exchange .awaiting ≡ true) → FetchView s (record { session = s; said = refused 7 })
   repeats : Ready s → s .exchange .again ≡ true → FetchView s (record { session = awaits s (s .exchange .command); said = giving (commandSaid (s .exchange .command)) })
   ends : Ready s → s .exchange .again ≡ false → s .finished ≡ true → FetchView s (record { session = s; said = end })
-  past-last : Ready s → s .exchange .again ≡ false → s .finished ≡ false → s .told .last .0 < s .next .0 → FetchView s (record { session = endedOf s; said = refused 12 })
-  locates : Due s → s .exchange .again ≡ false → s .locate ≡ true → FetchView s (record { session = awaits s (Locate (s .next)); said = command 0x2B (s .next .0) })
-  crosses : Due s → s .exchange .again ≡ false → s .locate ≡ false → s .next .0 ≡ 2990 → FetchView s (record { session = awaits s (Locate (asAddress 3000)); said = command 0x2B 3000 })
-  reads : Due s → s .exchange .again ≡ false → s .locate ≡ false → (s .next .0 ≡ 2990 → ⊥) → FetchView s (record { session = awaits s (Read (s .next)); said = command 0x08 (s .next .0) })
+  past-last : Ready s → s .exchange .again ≡ false → s .finished ≡ false → s .told .last .0 < s .position .next .0 → FetchView s (record { session = endedOf s; said = refused 12 })
+  locates : Due s → s .exchange .again ≡ false → s .position .locate ≡ true → FetchView s (record { session = awaits s (Locate (s .position .next)); said = command 0x2B (s .position .next .0) })
+  crosses : Due s → s .exchange .again ≡ false → s .position .locate ≡ false → s .position .next .0 ≡ 2990 → FetchView s (record { session = awaits s (Locate (asAddress 3000)); said = command 0x2B 3000 })
+  reads : Due s → s .exchange .again ≡ false → s .position .locate ≡ false → (s .position .next .0 ≡ 2990 → ⊥) → FetchView s (record { session = awaits s (Read (s .position .next)); said = command 0x08 (s .position .next .0) })
 
 module _ (s : State) where
   abbrev Sent : CommandSaid → Type 0
@@ -41,8 +41,8 @@ module _ (s : State) where
   due-view : Due s → s .exchange .again ≡ false → Sent (commandOf s)
   unfolding commandOf
   due-view due once =
-      pick-by Sent (s .locate) (locates due once)
-      (λ there. pick-by Sent (eqb (s .next .0) 2990) (λ e. crosses due once there (eqb-true _ _ e))
+      pick-by Sent (s .position .locate) (locates due once)
+      (λ there. pick-by Sent (eqb (s .position .next .0) 2990) (λ e. crosses due once there (eqb-true _ _ e))
       (λ e. reads due once there (eqb-false _ _ e)))
 
   pub fetch-view : FetchView s (fetchOf s)
@@ -54,5 +54,5 @@ module _ (s : State) where
       let ready : Ready s = record { running = phase .0; free = phase .1 } in
       pick-by (FetchView s) (s .exchange .again) (repeats ready)
       (λ once. pick-by (FetchView s) (s .finished) (ends ready once)
-      (λ unfinished. pick-by (FetchView s) (ltb (s .told .last .0) (s .next .0)) (λ above. past-last ready once unfinished (ltb-true _ _ above))
-      (λ above. due-view (record { ready = ready; unfinished = unfinished; within = ltb-false (s .told .last .0) (s .next .0) above }) once))))
+      (λ unfinished. pick-by (FetchView s) (ltb (s .told .last .0) (s .position .next .0)) (λ above. past-last ready once unfinished (ltb-true _ _ above))
+      (λ above. due-view (record { ready = ready; unfinished = unfinished; within = ltb-false (s .told .last .0) (s .position .next .0) above }) once))))

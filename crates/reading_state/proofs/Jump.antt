@@ -12,9 +12,9 @@ use Rattle.reading_state.specs.Reply.{TakenSaid, addressOf, caseOf, repl
 use Rattle.reading_state.proofs.ReplyView.{Taken, taken-so}
 
 module _ (s : State) (r : Reply) (frame : List ℕ) (taken : Taken s frame) (jump : caseOf s r ≡ readEndOfData) (below : addressOf s .0 + 32 < 2 ^ 32) where
-  pub jump-next : replyOf s r frame .session .next .0 ≡ pastReserved (addressOf s .0 + 32)
+  pub jump-next : replyOf s r frame .session .position .next .0 ≡ pastReserved (addressOf s .0 + 32)
   unfolding replyBy
-  jump-next = ap (λ (t : TakenSaid). t .session .next .0) (taken-so s r frame taken jump) ∙ mod-eq-of-lt (past-reserved-below (addressOf s .0 + 32) below)
+  jump-next = ap (λ (t : TakenSaid). t .session .position .next .0) (taken-so s r frame taken jump) ∙ mod-eq-of-lt (past-reserved-below (addressOf s .0 + 32) below)
 
-  pub jump-clear : 2990 ≤ replyOf s r frame .session .next .0 → 3000 ≤ replyOf s r frame .session .next .0
+  pub jump-clear : 2990 ≤ replyOf s r frame .session .position .next .0 → 3000 ≤ replyOf s r frame .session .position .next .0
   jump-clear = rw jump-next (past-reserved-clear (addressOf s .0 + 32))

@@ -25,10 +25,10 @@ use Rattle.reading_state.proofs.ReplyView as replying
 use Rattle.reading_state.proofs.Cases.{case-parts}
 
 module _ (s : State) where
-  pub fetch-keeps : fetchOf s .session .next ≡ s .next
+  pub fetch-keeps : fetchOf s .session .position .next ≡ s .position .next
   fetch-keeps = go (fetching.fetch-view s)
     where
-      go : {f : FetchedSaid} → fetching.FetchView s f → f .session .next ≡ s .next
+      go : {f : FetchedSaid} → fetching.FetchView s f → f .session .position .next ≡ s .position .next
       go (fetching.wrong-phase _) = refl
       go (fetching.ends _ _ _) = refl
       go (fetching.past-last _ _ _ _) = refl
@@ -38,10 +38,10 @@ module _ (s : State) where
       go (fetching.reads _ _ _ _) = refl
 
   -- what the laws below ask of a command holds of every one that is fetched, but that one given again must have had it
-  pub fetch-ahead : (s .exchange .again ≡ true → s .next .0 ≤ addressOf s .0) → (code address : ℕ) → fetchOf s .said ≡ command code address → fetchOf s .session .next .0 ≤ addressOf (fetchOf s .session) .0
+  pub fetch-ahead : (s .exchange .again ≡ true → s .position .next .0 ≤ addressOf s .0) → (code address : ℕ) → fetchOf s .said ≡ command code address → fetchOf s .session .position .next .0 ≤ addressOf (fetchOf s .session) .0
   fetch-ahead again code address = go (fetching.fetch-view s)
     where
-      go : {f : FetchedSaid} → fetching.FetchView s f → f .said ≡ command code address → f .session .next .0 ≤ addressOf (f .session) .0
+      go : {f : FetchedSaid} → fetching.FetchView s f → f .said ≡ command code address → f .session .position .next .0 ≤ addressOf (f .session) .0
       go (fetching.wrong-phase _) e = never (cc)
       go (fetching.ends _ _ _) e = never (cc)
       go (fetching.past-last _ _ _ _) e = never (cc)
@@ -51,24 +51,24 @@ module _ (s : State) where
       go (fetching.reads _ _ _ _) e = omega arith
 
 -- a command at the next address or behind it, a jump's length below the end of the addresses
-module _ (s : State) (ahead : s .next .0 ≤ addressOf s .0) (below : addressOf s .0 + 32 < 2 ^ 32) where
-  grows : {n : ℕ} → addressOf s .0 < n → n < 2 ^ 32 → s .next .0 < n % 2 ^ 32
+module _ (s : State) (ahead : s .position .next .0 ≤ addressOf s .0) (below : addressOf s .0 + 32 < 2 ^ 32) where
+  grows : {n : ℕ} → addressOf s .0 < n → n < 2 ^ 32 → s .position .next .0 < n % 2 ^ 32
   grows {n} from h = rw (mod-eq-of-lt h) (omega arith)
 
-  one-further : s .next .0 < (addressOf s .0 + 1) % 2 ^ 32
+  one-further : s .position .next .0 < (addressOf s .0 + 1) % 2 ^ 32
   one-further = grows (omega arith) (omega arith)
 
-  jumps : s .next .0 < pastReserved (addressOf s .0 + 32) % 2 ^ 32
+  jumps : s .position .next .0 < pastReserved (addressOf s .0 + 32) % 2 ^ 32
   jumps = grows (omega (arith, past-reserved-least (addressOf s .0 + 32))) (past-reserved-below (addressOf s .0 + 32) below)
 
-  judged-at-least : (j : judgement.JudgementSaid) → s .next .0 ≤ judgedBy j s .session .next .0
+  judged-at-least : (j : judgement.JudgementSaid) → s .position .next .0 ≤ judgedBy j s .session .position .next .0
   judged-at-least judgement.skipped = omega (arith, one-further)
   judged-at-least (judgement.refused n) = omega arith
   judged-at-least judgement.block = omega (arith, one-further)
   judged-at-least judgement.filemark = omega (arith, one-further)
   judged-at-least judgement.end = omega (arith, one-further)
 
-  judged-further : (j : judgement.JudgementSaid) → ((n : ℕ) → judgedBy j s .said ≡ refused n → ⊥) → s .next .0 < judgedBy j s .session .next .0
+  judged-further : (j : judgement.JudgementSaid) → ((n : ℕ) → judgedBy j s .said ≡ refused n → ⊥) → s .position .next .0 < judgedBy j s .session .position .next .0
   judged-further judgement.skipped accepted = one-further
   judged-further (judgement.refused n) accepted = absurd (accepted n refl)
   judged-further judgement.block accepted = one-further
@@ -76,10 +76,10 @@ module _ (s : State) (ahead : s .next .0 ≤ addressOf s .0) (below : addressOf 
   judged-further judgement.end accepted = one-further
 
   module _ (r : Reply) (frame : List ℕ) where
-    pub reply-at-least : s .next .0 ≤ replyOf s r frame .session .next .0
+    pub reply-at-least : s .position .next .0 ≤ replyOf s r frame .session .position .next .0
     reply-at-least = go (replying.reply-view s r frame)
       where
-        go : {t : TakenSaid} → replying.ReplyView s r frame t → s .next .0 ≤ t .session .next .0
+        go : {t : TakenSaid} → replying.ReplyView s r frame t → s .position .next .0 ≤ t .session .position .next .0
         go (replying.wrong-phase _) = omega arith
         go (replying.wrong-length _ _) = omega arith
         go (replying.busy _ _) = omega arith
@@ -91,13 +91,13 @@ module _ (s : State) (ahead : s .next .0 ≤ addressOf s .0) (below : addressOf 
         go (replying.unlisted _ _) = omega arith
 
     -- a READ that is neither answered busy nor refused goes further
-    pub read-further : {a : Address} → s .exchange .command ≡ Read a → (meaningOf (r .key) (r .asc) (r .ascq) ≡ busy → ⊥) → ((n : ℕ) → replyOf s r frame .said ≡ refused n → ⊥) → s .next .0 < replyOf s r frame .session .next .0
+    pub read-further : {a : Address} → s .exchange .command ≡ Read a → (meaningOf (r .key) (r .asc) (r .ascq) ≡ busy → ⊥) → ((n : ℕ) → replyOf s r frame .said ≡ refused n → ⊥) → s .position .next .0 < replyOf s r frame .session .position .next .0
     read-further read not-busy = go (replying.reply-view s r frame)
       where
         not-locate : (meaning : ℕ) → meaning < 256 → caseOf s r ≡ caseNumber 0x2B meaning → ⊥
         not-locate meaning h e = omega (arith, case-parts s r 0x2B meaning h e .0, ap commandCode read)
 
-        go : {t : TakenSaid} → replying.ReplyView s r frame t → ((n : ℕ) → t .said ≡ refused n → ⊥) → s .next .0 < t .session .next .0
+        go : {t : TakenSaid} → replying.ReplyView s r frame t → ((n : ℕ) → t .said ≡ refused n → ⊥) → s .position .next .0 < t .session .position .next .0
         go (replying.wrong-phase _) accepted = absurd (accepted 7 refl)
         go (replying.wrong-length _ _) accepted = absurd (accepted 1 refl)
         go (replying.busy _ (inl e)) accepted = absurd (not-locate 2 (lit< tt) e)

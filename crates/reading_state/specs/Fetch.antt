@@ -17,8 +17,8 @@ use Rattle.reading_state.specs.State.{withExchange, endedOf}
 -- LOCATE 10 at first, and LOCATE after 08/00/05; before 2,990 LOCATE 3,000; else READ
 unfoldable pub commandOf : State → CommandSaid
 commandOf s =
-    pick (s .locate) (locate (s .next .0))
-    (pick (eqb (s .next .0) secondGroup) (locate secondUser) (read (s .next .0)))
+    pick (s .position .locate) (locate (s .position .next .0))
+    (pick (eqb (s .position .next .0) secondGroup) (locate secondUser) (read (s .position .next .0)))
 
 -- what a fetch answers: a command by its operation code and address, the end, or a refusal by its number
 pub data AnswerSaid : Type 0 where
@@ -56,5 +56,5 @@ fetchOf s =
     pick (s .ended || s .exchange .awaiting) (record { session = s; said = refused 7 })
     (pick (s .exchange .again) (sending s (s .exchange .command))
     (pick (s .finished) (record { session = s; said = end })
-    (pick (ltb (s .told .last .0) (s .next .0)) (record { session = endedOf s; said = refused 12 })
+    (pick (ltb (s .told .last .0) (s .position .next .0)) (record { session = endedOf s; said = refused 12 })
     (sending s (commandFor (commandOf s))))))

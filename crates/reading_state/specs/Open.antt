@@ -6,6 +6,7 @@ use Rattle.geometry.specs.Refusal.{verdictNumber}
 use Rattle.geometry.specs.Place.{asAddress, asSeq}
 use Rattle.geometry.specs.Cartridge.{firstUser}
 use Rattle.geometry.specs.declared.cartridge.Geometry.{Geometry}
+use Rattle.frame.specs.Trail.{noTrail}
 use Rattle.frame.specs.declared.header.Header.{Header}
 use Rattle.header.specs.Read.{CheckedSaid, valid, refused, readHeader}
 use Rattle.drive.specs.Exchange.{unsent}
@@ -24,23 +25,26 @@ openedSaid r = record { session = r .session; number = verdictNumber (r .verdict
 
 -- what the header tells
 abbrev pub toldOf : Header → Told
-toldOf h = record { last = h .last; pass = h .pass }
+toldOf h = record { last = h .last; pass = h .pass; eod = h .eod; old = h .old; update = h .update }
 
 -- a session whose LOCATE 10 is due and that expects number 0
 abbrev pub fresh : Told → State
 fresh told = record {
   told = told;
-  next = asAddress firstUser;
-  locate = true;
+  position = record { next = asAddress firstUser; locate = true };
   expected = asSeq 0;
+  trail = noTrail;
   exchange = unsent;
   finished = false;
   ended = false;
 }
 
 -- a refused opening returns a session that has ended
+abbrev pub toldNothing : Told
+toldNothing = record { last = asAddress 0; pass = 0; eod = asAddress 0; old = asAddress 0; update = 0 }
+
 abbrev pub openRefused : ℕ → OpenedSaid
-openRefused n = record { session = endedOf (fresh (record { last = asAddress 0; pass = 0 })); number = n }
+openRefused n = record { session = endedOf (fresh toldNothing); number = n }
 
 -- a header that is valid gives its fields; any other is refused with 1, 2 or 3
 abbrev pub openFor : CheckedSaid → OpenedSaid

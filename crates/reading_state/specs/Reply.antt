@@ -10,6 +10,8 @@ use Rattle.geometry.specs.Refusal.{refusalNumber}
 use Rattle.geometry.specs.Cartridge.{pastReserved}
 use Rattle.geometry.specs.declared.address.Address.{Address}
 use Rattle.frame.specs.Lengths.{frameLength}
+use Rattle.frame.specs.Trail.{marked}
+use Rattle.frame.specs.declared.trail.Trail.{Trail}
 use Rattle.drive.specs.Command.{commandAddress}
 use Rattle.drive.specs.Cases as cases
 use Rattle.drive.specs.Cases.{locateGood, locateBusy, readGood, readBusy, readRecovered, readUnreadable, readEndOfData, readEndOfMedium}
@@ -20,7 +22,7 @@ use Rattle.reading_state.specs.declared.state.State.{State}
 use Rattle.reading_state.specs.declared.state.Taken.{Taken}
 use Rattle.reading_state.specs.declared.state.Delivery.{Delivery}
 use Rattle.reading_state.specs.declared.state.Delivery.the-variants as D
-use Rattle.reading_state.specs.State.{withExchange, withNext, withExpected, withEnd, endedOf}
+use Rattle.reading_state.specs.State.{withExchange, withPosition, withExpected, withEnd, endedOf}
 
 -- what a reply is answered: nothing delivered, a block (the first 32,768 bytes of the lent frame), a filemark, the end, or a refusal by its number
 pub data DeliverySaid : Type 0 where
@@ -48,7 +50,7 @@ takenSaid t = record { session = t .session; said = deliverySaid (t .delivery) }
 abbrev pub delivering : State → DeliverySaid → TakenSaid
 delivering s said = record { session = s; said = said }
 
--- refusals 1 to 7: session unchanged; 8 to 12: session ended
+-- refusals 1 to 7: session unchanged; from 8 on: session ended
 abbrev pub refusing : State → ℕ → TakenSaid
 refusing s n = delivering s (refused n)
 
@@ -69,11 +71,11 @@ repeatedOf s = withExchange s (exchange.repeatedOf (s .exchange))
 
 -- the reply is taken in, and reading goes on at an address, with a LOCATE of it or without
 abbrev pub movedOf : State → Address → Bool → State
-movedOf s next locate = withNext (withExchange s (exchange.repliedOf (s .exchange))) next locate
+movedOf s next locate = withPosition (withExchange s (exchange.repliedOf (s .exchange))) next locate
 
 -- one address further
 abbrev pub advancedOf : State → State
-advancedOf s = movedOf s (wrapped (addressOf s .0 + 1)) (s .locate)
+advancedOf s = movedOf s (wrapped (addressOf s .0 + 1)) (s .position .locate)
 
 -- a LOCATE answered good
 abbrev pub locatedOf : State → TakenSaid
@@ -83,9 +85,13 @@ locatedOf s = delivering (movedOf s (addressOf s) false) nothing
 abbrev pub skippedOf : State → TakenSaid
 skippedOf s = delivering (advancedOf s) nothing
 
--- an element delivered, and the next number expected
-abbrev pub deliveredOf : State → DeliverySaid → TakenSaid
-deliveredOf s said = delivering (withExpected (advancedOf s) (asSeq ((s .expected .0 + 1) % 2 ^ 32))) said
+-- an element delivered: the next number is expected, behind a trail
+abbrev pub deliveredOf : State → Trail → DeliverySaid → TakenSaid
+deliveredOf s trail said = delivering (withExpected (advancedOf s) (asSeq ((s .expected .0 + 1) % 2 ^ 32)) trail) said
+
+-- a filemark counts in the trail, at the address that was read
+abbrev pub markedOf : State → Trail
+markedOf s = marked (s .trail) (addressOf s)
 
 -- EOD ends reading
 abbrev pub finishedOf : State → TakenSaid
@@ -95,12 +101,12 @@ finishedOf s = delivering (withEnd (advancedOf s)) end
 abbrev pub judgedBy : judgement.JudgementSaid → State → TakenSaid
 judgedBy judgement.skipped s = skippedOf s
 judgedBy (judgement.refused n) s = ending s n
-judgedBy judgement.block s = deliveredOf s block
-judgedBy judgement.filemark s = deliveredOf s filemark
+judgedBy judgement.block s = deliveredOf s (s .trail) block
+judgedBy judgement.filemark s = deliveredOf s (markedOf s) filemark
 judgedBy judgement.end s = finishedOf s
 
 unfoldable pub judgedOf : State → List ℕ → TakenSaid
-judgedOf s frame = judgedBy (judgement.judgeFrame (s .told) (s .expected) frame) s
+judgedOf s frame = judgedBy (judgement.judgeFrame (s .told) (addressOf s) (s .expected) frame) s
 
 -- after 08/00/05 at address a, LOCATE a + 32, 2,990 to 2,999 becoming 3,000
 abbrev pub jumpedOf : State → TakenSaid

@@ -6,5 +6,6 @@ pub use state::Answer;
 pub use state::Delivery;
 pub use state::Fetched;
 pub use state::Opened;
+pub use state::Position;
 pub use state::State;
 pub use state::Taken;

@@ -1,15 +1,21 @@
 // What a reply changes, and what it is answered: a step for each case that `reading_replying` tells apart.
 ghost use mathlib.Core.Path.{_≡_};
 ghost use Rattle.geometry.specs.Refusal.{refusalNumber};
-ghost use Rattle.reading_state.specs.Reply.{deliverySaid, takenSaid, delivering, refusing, ending, wrapped, repeatedOf, movedOf, advancedOf, locatedOf, skippedOf, deliveredOf, finishedOf, jumpedOf};
+ghost use Rattle.reading_state.specs.Reply.{deliverySaid, takenSaid, delivering, refusing, ending, wrapped, block, filemark};
+ghost use Rattle.reading_state.specs.Reply.{repeatedOf, movedOf, advancedOf, locatedOf, skippedOf, markedOf, deliveredOf, finishedOf, jumpedOf};
+ghost use Rattle.reading_state.specs.State.{isAtEnd, endOf};
 use crate::state::Delivery;
+use crate::state::Position;
 use crate::state::State;
 use crate::state::Taken;
 use drive::address;
+use frame::Trail;
+use frame::marked;
 use geometry::Address;
 use geometry::Refusal;
 use geometry::Seq;
 use geometry::past_reserved;
+use geometry::preceding;
 
 // A number as an address. It wraps only in a session that no call returned.
 fn wrapped(n: u64) -> Address
@@ -36,7 +42,7 @@ impl State {
         self.deliver(Delivery::Refused(refusal))
     }
 
-    // Refusals 8 to 12 end the session.
+    // Refusals from 8 on end the session.
     pub fn end(mut self, refusal: Refusal) -> Taken
         ensures { λ r. ⌜ takenSaid r ≡ ending self (refusalNumber refusal) ⌝ }
     {
@@ -59,8 +65,11 @@ impl State {
     {
         let exchange = self.exchange;
         self.exchange = exchange.replied();
-        self.next = next;
-        self.locate = locate;
+        let position = Position {
+            next: next,
+            locate: locate,
+        };
+        self.position = position;
         self
     }
 
@@ -71,7 +80,7 @@ impl State {
         let exchange = self.exchange;
         let c = exchange.command;
         let next = wrapped((address(c).0 as u64) + 1);
-        self.moved(next, self.locate)
+        self.moved(next, self.position.locate)
     }
 
     // The drive stands at the command's address.
@@ -90,14 +99,33 @@ impl State {
         self.advanced().deliver(Delivery::Nothing)
     }
 
-    // The expected element is delivered, and the next one expected.
-    pub fn delivered(self, delivery: Delivery) -> Taken
-        ensures { λ r. ⌜ takenSaid r ≡ deliveredOf self (deliverySaid delivery) ⌝ }
+    // The expected element is delivered, and the next one expected, behind a trail.
+    fn delivered(self, trail: Trail, delivery: Delivery) -> Taken
+        ensures { λ r. ⌜ takenSaid r ≡ deliveredOf self trail (deliverySaid delivery) ⌝ }
     {
         let expected = Seq(std::num::wrapping_add_u32(self.expected.0, 1));
         let mut session = self.advanced();
         session.expected = expected;
+        session.trail = trail;
         session.deliver(delivery)
+    }
+
+    // A block is delivered.
+    pub fn delivered_block(self) -> Taken
+        ensures { λ r. ⌜ takenSaid r ≡ deliveredOf self (self .trail) block ⌝ }
+    {
+        let trail = self.trail;
+        self.delivered(trail, Delivery::Block)
+    }
+
+    // A filemark is delivered, at the command's address.
+    pub fn delivered_filemark(self) -> Taken
+        ensures { λ r. ⌜ takenSaid r ≡ deliveredOf self (markedOf self) filemark ⌝ }
+    {
+        let trail = self.trail;
+        let exchange = self.exchange;
+        let c = exchange.command;
+        self.delivered(marked(trail, address(c)), Delivery::Filemark)
     }
 
     // EOD ends reading.
@@ -117,5 +145,21 @@ impl State {
         let c = exchange.command;
         let next = wrapped(past_reserved(address(c), 32));
         self.moved(next, true).deliver(Delivery::Nothing)
+    }
+
+    // Whether the reading is at its end.
+    pub fn is_at_end(self) -> bool
+        ensures { λ r. ⌜ r ≡ isAtEnd self ⌝ }
+    {
+        let exchange = self.exchange;
+        self.finished & !(self.ended | exchange.awaiting | exchange.again)
+    }
+
+    // The address of the EOD at which it ended.
+    pub fn end_address(self) -> Address
+        ensures { λ r. ⌜ r ≡ endOf self ⌝ }
+    {
+        let next = self.position.next;
+        preceding(next)
     }
 }

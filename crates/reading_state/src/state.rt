@@ -1,25 +1,33 @@
 // The state of a session, and what its calls return.
 use drive::Command;
 use drive::Exchange;
+use frame::Trail;
 use geometry::Address;
 use geometry::Refusal;
 use geometry::Seq;
 use geometry::Verdict;
 use judgement::Told;
 
+// The next address, and whether a LOCATE of it comes before the READ.
+pub struct Position {
+    pub next: Address,
+    pub locate: bool,
+}
+
 pub struct State {
     // What the newest header tells.
     pub told: Told,
-    // The next address, and whether a LOCATE of it comes before the READ.
-    pub next: Address,
-    pub locate: bool,
+    // Where reading goes on.
+    pub position: Position,
     // The number of the element that is expected next.
     pub expected: Seq,
+    // The filemarks delivered, and where the latest was.
+    pub trail: Trail,
     // The last command, and how it stands with its reply.
     pub exchange: Exchange,
     // Whether EOD was read.
     pub finished: bool,
-    // Whether a refusal of 8 to 12 has ended the session.
+    // Whether a refusal of 8 or more has ended the session, or a refused opening gave it.
     pub ended: bool,
 }
 

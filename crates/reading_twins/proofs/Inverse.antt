@@ -12,12 +12,12 @@ use Rattle.reading_twins.specs.Reading.{isReading, readingOf, readingTwi
 -- every session comes back from its numbers
 pub reading-back : (s : State) → readingOf (readingTwin s) ≡ s
 unfolding readingOf readingTwin
-reading-back s = rw (exchange-back (s .exchange), flag-back (s .locate), flag-back (s .finished), flag-back (s .ended))
+reading-back s = rw (exchange-back (s .exchange), flag-back (s .position .locate), flag-back (s .finished), flag-back (s .ended))
 
 -- and its numbers are a session's
 pub reading-known : (s : State) → isReading (readingTwin s) ≡ true
 unfolding isReading readingTwin
-reading-known s = rw (exchange-known (s .exchange), flag-known (s .locate), flag-known (s .finished), flag-known (s .ended))
+reading-known s = rw (exchange-known (s .exchange), flag-known (s .position .locate), flag-known (s .finished), flag-known (s .ended))
 
 -- numbers that are a session's come back from their session
 pub reading-numbers : (t : AdrReading) → isReading t ≡ true → readingTwin (readingOf t) ≡ t
@@ -25,5 +25,5 @@ unfolding isReading readingOf readingTwin
 reading-numbers t h =
     let h3 = and-true _ (isFlag (t .ended)) h in
     let h2 = and-true _ (isFlag (t .finished)) (h3 .0) in
-    let h1 = and-true (isExchange (t .exchange)) (isFlag (t .locate)) (h2 .0) in
-    rw (exchange-number (t .exchange) (h1 .0), flag-number (t .locate) (h1 .1), flag-number (t .finished) (h2 .1), flag-number (t .ended) (h3 .1))
+    let h1 = and-true (isExchange (t .exchange)) (isFlag (t .position .locate)) (h2 .0) in
+    rw (exchange-number (t .exchange) (h1 .0), flag-number (t .position .locate) (h1 .1), flag-number (t .finished) (h2 .1), flag-number (t .ended) (h3 .1))

@@ -32,7 +32,7 @@ pub struct Fetched {
 
 impl Outcome {
     // The outcome of a call on the state, for the session that holds it.
-    fn of(o: recording_state::Outcome) -> Outcome
+    pub fn of(o: recording_state::Outcome) -> Outcome
         ensures { λ r. ⌜ outcomeSaid r ≡ state.outcomeSaid o ⌝ }
     {
         let s = o.session;

@@ -7,3 +7,4 @@ pub mod FetchView
 pub mod ReplyView
 pub mod Refusals
 pub mod ListedReplies
+pub mod Sizes

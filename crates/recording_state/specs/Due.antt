@@ -19,7 +19,7 @@ elementDueBy (due.refused n) = refused n
 abbrev pub elementDue : State → AnswerSaid
 elementDue s = elementDueBy (due.dueOf (s .setup .depth) (s .elements))
 
--- by stage: opening headers, LOCATE 10 and elements and EOD, closing headers, done
+-- by stage: opening headers, LOCATE of the first address and elements and EOD, closing headers, done
 abbrev pub decisionBy : Stage → State → AnswerSaid
 decisionBy S.OpeningHeaders s = headerDue s
 decisionBy S.Elements s = elementDue s

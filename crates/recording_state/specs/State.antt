@@ -63,7 +63,7 @@ withElements s e = record { setup = s .setup; stage = s .stage; exchange = s .ex
 abbrev pub closedOf : State → State
 closedOf s = record { setup = s .setup; stage = s .stage; exchange = s .exchange; closed = true; ended = s .ended; copies = s .copies; elements = s .elements }
 
--- refusals 8 to 12: session ended
+-- refusals from 8 on: session ended
 abbrev pub endedOf : State → State
 endedOf s = record { setup = s .setup; stage = s .stage; exchange = s .exchange; closed = s .closed; ended = true; copies = s .copies; elements = s .elements }
 

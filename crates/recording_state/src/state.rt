@@ -13,7 +13,7 @@ use geometry::Verdict;
 
 pub enum Stage {
     OpeningHeaders,
-    // LOCATE 10, the elements and EOD.
+    // The LOCATE of the first element's address, the elements and EOD.
     Elements,
     ClosingHeaders,
     Done,
@@ -44,7 +44,7 @@ pub struct State {
     pub exchange: Exchange,
     // Whether close was called.
     pub closed: bool,
-    // Whether a refusal of 8 to 12 has ended the session.
+    // Whether a refusal of 8 or more has ended the session, or a refused opening gave it.
     pub ended: bool,
     pub copies: Copies,
     pub elements: Elements,
@@ -97,7 +97,7 @@ impl State {
         }
     }
 
-    // Refusals 8 to 12 end the session.
+    // Refusals from 8 on end the session.
     pub fn end(mut self, refusal: Refusal) -> Outcome
         ensures { λ r. ⌜ outcomeSaid r ≡ ending self (refusalNumber refusal) ⌝ }
     {

@@ -6,6 +6,7 @@ use Rattle.copies.specs.declared.copies.Copies.{Copies}
 use Rattle.elements.specs.declared.elements.Elements.{Elements}
 use Rattle.recording_state.specs.declared.state.State.{State}
 use Rattle.exchange_twins.specs.Numbers.{isFlag, flagOf, flagNumber, isExchange, exchangeOf, exchangeTwin}
+use Rattle.exchange_twins.specs.Trails.{trailOf, trailTwin}
 use Rattle.recording_twins.specs.declared.recording_numbers.AdrCopies.{AdrCopies}
 use Rattle.recording_twins.specs.declared.recording_numbers.AdrElements.{AdrElements}
 use Rattle.recording_twins.specs.declared.recording_numbers.AdrRecording.{AdrRecording}
@@ -14,7 +15,13 @@ use Rattle.recording_twins.specs.Marks.{allFlags}
 
 abbrev pub copiesOf : AdrCopies → Copies
 copiesOf c = record {
-  header = record { last = asAddress (c .header .last); pass = c .header .pass; eod = asAddress (c .header .eod); update = c .header .update };
+  header = record {
+    last = asAddress (c .header .last);
+    pass = c .header .pass;
+    eod = asAddress (c .header .eod);
+    old = asAddress (c .header .old);
+    update = c .header .update;
+  };
   group = c .group;
   copy = c .copy;
   outstanding = c .outstanding;
@@ -24,7 +31,7 @@ copiesOf c = record {
 
 abbrev pub copiesTwin : Copies → AdrCopies
 copiesTwin c = record {
-  header = record { last = c .header .last .0; eod = c .header .eod .0; update = c .header .update; pass = c .header .pass };
+  header = record { last = c .header .last .0; eod = c .header .eod .0; old = c .header .old .0; update = c .header .update; pass = c .header .pass };
   group = c .group;
   copy = c .copy;
   outstanding = c .outstanding;
@@ -42,7 +49,7 @@ elementsOf e = record {
   locate = flagOf (e .locate);
   target = asAddress (e .target);
   eod = flagOf (e .eod);
-  trail = record { filemarks = e .trail .filemarks; marker = asAddress (e .trail .marker) };
+  trail = trailOf (e .trail);
   marks = map flagOf (e .marks);
 }
 
@@ -52,7 +59,7 @@ elementsTwin e = record {
   next = e .next .0;
   limit = e .limit .0;
   target = e .target .0;
-  trail = record { filemarks = e .trail .filemarks; marker = e .trail .marker .0 };
+  trail = trailTwin (e .trail);
   pending = e .pending;
   outstanding = e .outstanding;
   locate = flagNumber (e .locate);

@@ -1,4 +1,5 @@
-//! Runs random cartridges for a while: `long SECONDS SEED`.
+//! Runs random cartridges and chains of recordings for a while:
+//! `long SECONDS SEED`.
 
 use std::process::ExitCode;
 

@@ -1,25 +1,34 @@
 //! Whole cartridges recorded and read back: the lists of demand 3.
 
 pub mod case;
+pub mod chain;
 pub mod content;
 pub mod guarded;
 pub mod layer;
 pub mod longer;
+mod opening;
 pub mod plain;
 pub mod reading_back;
 pub mod recorder;
 mod replies;
 pub mod shrink;
+mod trail;
 
 pub use case::{Call, Case};
+pub use chain::Chain;
 pub use layer::{Layer, Model};
 
 use crate::drive::{Drive, DEEDS};
-use crate::frame::HeaderFields;
 use crate::geometry::Address;
-use crate::tape::Shared;
+use crate::tape::Tape;
+use layer::RecordingCalls;
+use opening::{Opened, Opening};
 use plain::Recorded;
+use reading_back::ReadBack;
 use recorder::Recorder;
+
+/// The recordings of a pass that are told apart in a tally.
+const CHAIN: usize = 5;
 
 /// What the runs of a case came to.
 #[derive(Clone, Copy, Debug, Default, PartialEq, Eq)]
@@ -28,6 +37,8 @@ pub struct Tally {
     pub recordings: u64,
     /// Recordings that reported done and were read back.
     pub done: u64,
+    /// Of these, by how many of the same pass stood before.
+    pub added: [u64; CHAIN],
     /// Elements delivered.
     pub delivered: u64,
     /// Recordings that ended with refusals 8, 9 and 12.
@@ -45,12 +56,15 @@ impl Tally {
         self.done += other.done;
         self.delivered += other.delivered;
         self.crossed += other.crossed;
-        for (sum, more) in self.refused.iter_mut().zip(other.refused) {
-            *sum += more;
-        }
-        for (sum, more) in self.deeds.iter_mut().zip(other.deeds) {
-            *sum += more;
-        }
+        add_each(&mut self.added, &other.added);
+        add_each(&mut self.refused, &other.refused);
+        add_each(&mut self.deeds, &other.deeds);
+    }
+}
+
+fn add_each(sums: &mut [u64], more: &[u64]) {
+    for (sum, more) in sums.iter_mut().zip(more) {
+        *sum += more;
     }
 }
 
@@ -68,7 +82,7 @@ pub fn run(case: &Case) -> Result<Tally, String> {
 /// # Errors
 /// What was found wrong.
 pub fn run_on<L: Layer>(case: &Case) -> Result<Tally, String> {
-    run_with::<L>(case, record::<L>)
+    run_with(case, Turns::Anew, &Host::<L>::EXACT)
 }
 
 /// Runs a case as [`run`] does, but looks at nothing but what the demand
@@ -77,64 +91,169 @@ pub fn run_on<L: Layer>(case: &Case) -> Result<Tally, String> {
 /// # Errors
 /// What was found wrong.
 pub fn run_demand_only(case: &Case) -> Result<Tally, String> {
-    run_with::<Model>(case, record_plainly)
+    run_with(case, Turns::Anew, &PLAIN)
+}
+
+/// How the recordings of a case follow each other.
+#[derive(Clone, Copy)]
+enum Turns<'a> {
+    /// Each is a recording of its own.
+    Anew,
+    /// Each is added to the one before if that reported done; with so many
+    /// blocks of window each.
+    Added(&'a [u32]),
+}
+
+impl Turns<'_> {
+    fn adds(self) -> bool {
+        matches!(self, Turns::Added(_))
+    }
+
+    fn window_blocks(self, case: &Case, turn: usize) -> u32 {
+        match self {
+            Turns::Anew => case.window_blocks,
+            Turns::Added(windows) => windows.get(turn).copied().unwrap_or(case.window_blocks),
+        }
+    }
 }
 
 /// A cartridge about to be recorded.
-struct Before<'a> {
+struct Before<'a, L: Layer> {
     case: &'a Case,
     last: Address,
-    newest: Option<(Shared, HeaderFields)>,
+    opening: Opening<L::Reading>,
+    window_blocks: u32,
     calls: &'a [Call],
 }
 
-type Record = fn(&Before, Drive, &mut Tally) -> Result<(Drive, Recorded), String>;
+type Record<L> = fn(&Before<L>, Drive, &mut Tally) -> Result<(Drive, Recorded), String>;
 
-fn run_with<L: Layer>(case: &Case, record: Record) -> Result<Tally, String> {
+/// Who makes the calls and looks at what they come to.
+struct Host<L: Layer> {
+    record: Record<L>,
+    /// Whether it looks at what stands on tape besides what is delivered.
+    closely: bool,
+}
+
+impl<L: Layer> Host<L> {
+    /// Looks at everything.
+    const EXACT: Host<L> = Host {
+        record: record::<L>,
+        closely: true,
+    };
+}
+
+/// Looks at what the demand speaks of.
+const PLAIN: Host<Model> = Host {
+    record: record_plainly,
+    closely: false,
+};
+
+fn run_with<L: Layer>(case: &Case, turns: Turns, host: &Host<L>) -> Result<Tally, String> {
+    run_to_end(case, turns, host).map(|ran| ran.tally)
+}
+
+/// What became of a cartridge.
+struct Ran<R> {
+    tally: Tally,
+    /// The reading that the next recording would be added at the end of.
+    end: Option<ReadBack<R>>,
+}
+
+fn run_to_end<L: Layer>(
+    case: &Case,
+    turns: Turns,
+    host: &Host<L>,
+) -> Result<Ran<L::Reading>, String> {
     let mut tally = Tally::default();
     let last = case.geometry.last().ok_or("a geometry without frames")?;
-    let depth = usize::try_from(case.depth).unwrap_or(usize::MAX);
     let mut tape = case.cartridge(last);
     let mut seed = case.seed;
+    let mut end = None;
     for (turn, calls) in case.recordings.iter().enumerate() {
         seed = seed.wrapping_add(1);
-        let newest = tape.newest_header(last);
-        let pass = newest
-            .as_ref()
-            .map_or(1, |(_, old)| old.pass.wrapping_add(1));
-        tape.erase_pass(pass, last);
+        let opening = match end.take() {
+            Some(back) => Opening::AtEnd(back),
+            None => Opening::fresh(&mut tape, last),
+        };
         let before = Before {
             case,
             last,
-            newest,
+            opening,
+            window_blocks: turns.window_blocks(case, turn),
             calls,
         };
-        let drive = Drive::new(tape, depth, case.hostility, seed);
+        let drive = drive_with(tape, case, seed);
         let place = |wrong| format!("recording {turn}: {wrong}");
-        let (mut drive, recorded) = record(&before, drive, &mut tally).map_err(place)?;
+        let (mut drive, recorded) = (host.record)(&before, drive, &mut tally).map_err(place)?;
         tally.recordings += 1;
-        let accepted = &recorded.accepted;
         if recorded.done {
-            tally.done += 1;
-            tally.delivered += reading_back::read_back::<L>(case, last, &mut drive, accepted, seed)
-                .map_err(place)?;
+            let every_copy = turns.adds();
+            let accepted = &recorded.accepted;
+            let back =
+                reading_back::read_back::<L>(case, last, &mut drive, accepted, seed, every_copy);
+            let back = back.and_then(|back| finished(before, back, &drive, host, &mut tally));
+            end = Some(back.map_err(place)?).filter(|_| turns.adds());
         }
-        for (sum, more) in tally.deeds.iter_mut().zip(drive.log().deeds) {
-            *sum += more;
-        }
+        add_each(&mut tally.deeds, &drive.log().deeds);
         tape = drive.eject();
     }
-    Ok(tally)
+    Ok(Ran { tally, end })
+}
+
+fn drive_with(tape: Tape, case: &Case, seed: u64) -> Drive {
+    let depth = usize::try_from(case.depth).unwrap_or(usize::MAX);
+    Drive::new(tape, depth, case.hostility, seed)
+}
+
+/// Counts a recording that was read back.
+fn finished<L: Layer>(
+    before: Before<L>,
+    back: ReadBack<L::Reading>,
+    drive: &Drive,
+    host: &Host<L>,
+    tally: &mut Tally,
+) -> Result<ReadBack<L::Reading>, String> {
+    if host.closely {
+        if back.end != Some(back.header.eod) {
+            return Err(format!("{:?} is not the end that is named", back.end));
+        }
+        trail::is_right(drive.tape(), &back)?;
+    }
+    let behind = before.opening.behind();
+    tally.done += 1;
+    tally.delivered += back.elements.len() as u64;
+    if let Some(count) = tally.added.get_mut(behind) {
+        *count += 1;
+    }
+    Ok(ReadBack {
+        recordings: behind + 1,
+        ..back
+    })
+}
+
+/// Opens a session and makes its calls; every one is looked at.
+fn recorded_on<L: Layer>(
+    before: &Before<L>,
+    drive: Drive,
+) -> Result<Recorder<L::Recording>, String> {
+    let (mut session, outcome) = opening::open(before);
+    let opened = Opened::of(before);
+    if outcome != opened.outcome {
+        return Err(format!("opening answered {outcome:?}"));
+    }
+    session.plant(before.case.fault);
+    let mut recorder = Recorder::of(drive, session, before.window_blocks, opened);
+    recorder.run(before.calls)?;
+    Ok(recorder)
 }
 
 fn record<L: Layer>(
-    before: &Before,
+    before: &Before<L>,
     drive: Drive,
     tally: &mut Tally,
 ) -> Result<(Drive, Recorded), String> {
-    let newest = before.newest.clone();
-    let mut recorder = Recorder::<L::Recording>::open(before.case, before.last, drive, newest)?;
-    recorder.run(before.calls)?;
+    let recorder = recorded_on(before, drive)?;
     let written = &recorder.drive.log().written;
     tally.crossed += u64::from(written.iter().any(|address| address.0 >= 3_000));
     match recorder.refused {
@@ -149,19 +268,19 @@ fn record<L: Layer>(
     };
     let mut drive = recorder.drive;
     if !recorded.done {
-        let (pass, seed) = (recorder.pass, before.case.seed);
+        let (pass, seed) = (recorder.opening.pass, before.case.seed);
         let accepted = &recorded.accepted;
-        reading_back::read_unfinished::<L>(before.case, pass, &mut drive, accepted, seed)?;
+        let closed = before.opening.closed();
+        reading_back::read_unfinished::<L>(before.case, pass, &mut drive, accepted, closed, seed)?;
     }
     Ok((drive, recorded))
 }
 
 fn record_plainly(
-    before: &Before,
+    before: &Before<Model>,
     mut drive: Drive,
     _: &mut Tally,
 ) -> Result<(Drive, Recorded), String> {
-    let newest = before.newest.as_ref().map(|(frame, _)| frame.as_slice());
-    let recorded = plain::record(before.case, before.last, &mut drive, newest, before.calls)?;
+    let recorded = plain::record(before, &mut drive)?;
     Ok((drive, recorded))
 }

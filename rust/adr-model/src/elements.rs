@@ -9,6 +9,29 @@ use crate::geometry::{Address, SequenceNumber, FIRST_USER, GAP_END, GAP_FIRST};
 use crate::reply::{Meaning, Reply};
 use crate::state::{ElementsState, Going};
 
+/// What the first element of a recording follows.
+#[derive(Clone, Copy, Debug, PartialEq, Eq)]
+pub struct Start {
+    /// The address it goes to.
+    pub at: Address,
+    /// Its number.
+    pub number: SequenceNumber,
+    /// Filemarks before it.
+    pub filemarks: u32,
+    /// The marker of the latest of these.
+    pub latest_marker: Option<Address>,
+}
+
+impl Start {
+    /// The start of a recording of its own.
+    pub const FRESH: Start = Start {
+        at: FIRST_USER,
+        number: SequenceNumber(0),
+        filemarks: 0,
+        latest_marker: None,
+    };
+}
+
 /// The state of a recording between its headers.
 #[derive(Clone, Debug, PartialEq, Eq)]
 pub struct Elements {
@@ -25,9 +48,9 @@ pub struct Elements {
     waiting: VecDeque<Kind>,
     /// The first so many waiting are taken by the drive.
     outstanding: usize,
-    /// Elements known on tape.
+    /// Elements known on tape, those before the start too.
     confirmed: u32,
-    /// Filemarks known on tape.
+    /// Filemarks known on tape, those before the start too.
     filemarks: u32,
     /// The latest marker known on tape.
     latest_marker: Option<Address>,
@@ -46,28 +69,34 @@ pub(crate) fn count(number: usize) -> u32 {
 impl Elements {
     /// No elements yet.
     #[must_use]
-    pub fn new(depth: usize, pass: u16, last: Address) -> Elements {
+    pub fn new(depth: usize, pass: u16, last: Address, start: Start) -> Elements {
         Elements {
             depth,
             pass,
             last,
             end: last,
-            next: FIRST_USER,
+            next: start.at,
             target: None,
             waiting: VecDeque::new(),
             outstanding: 0,
-            confirmed: 0,
-            filemarks: 0,
-            latest_marker: None,
+            confirmed: start.number.0,
+            filemarks: start.filemarks,
+            latest_marker: start.latest_marker,
             eod: None,
             fault: Fault::None,
             remembered: BTreeMap::new(),
         }
     }
 
-    /// Plants a fault.
+    /// Plants a fault, before the first element is accepted.
     pub fn plant(&mut self, fault: Fault) {
         self.fault = fault;
+        if fault == Fault::NumberRestarted {
+            self.confirmed = 0;
+        }
+        if fault == Fault::TrailRestarted {
+            (self.filemarks, self.latest_marker) = (0, None);
+        }
     }
 
     /// Elements not known on tape.
@@ -85,14 +114,20 @@ impl Elements {
         SequenceNumber(self.confirmed.saturating_add(count(self.waiting.len())))
     }
 
+    /// Where the next frame goes, but for a write error's target.
+    #[must_use]
+    pub fn next(&self) -> Address {
+        self.next
+    }
+
     /// Where EOD is known on tape.
     #[must_use]
     pub fn eod(&self) -> Option<Address> {
         self.eod
     }
 
-    /// Where they stand. Before LOCATE 10 was answered, that is where they go;
-    /// EOD that a fetch would make due is due.
+    /// Where they stand. Before the first LOCATE was answered, that is where
+    /// they go; EOD that a fetch would make due is due.
     #[must_use]
     pub fn state(&self, located: bool, eod_due: bool) -> ElementsState {
         let mut pending: Vec<Kind> = self.waiting.iter().copied().collect();
@@ -106,7 +141,7 @@ impl Elements {
             going: match self.target {
                 Some(target) => Going::Locate(target),
                 None if located => Going::Next(self.next),
-                None => Going::Locate(FIRST_USER),
+                None => Going::Locate(self.next),
             },
             end: self.end,
             filemarks: self.filemarks,

@@ -30,9 +30,19 @@ pub enum Fault {
     UpdateCountKept,
     /// A window block serves again as soon as the drive took it.
     WindowReusedEarly,
+    /// What is added is numbered from 0 again.
+    NumberRestarted,
+    /// What is added counts filemarks and names markers from none on.
+    TrailRestarted,
+    /// The opening headers of what is added keep the update count.
+    CountNotRaised,
+    /// The opening headers of what is added do not name the old end.
+    OldEndNotNamed,
+    /// A reading ends at an EOD below the address at which it is to end.
+    EarlierEndTaken,
 }
 
-/// Every planted fault.
+/// The faults that recordings of their own show.
 pub const PLANTED: [Fault; 12] = [
     Fault::OldMarkerAddress,
     Fault::LocateWhileBuffered,
@@ -46,4 +56,13 @@ pub const PLANTED: [Fault; 12] = [
     Fault::FirstResentOnly,
     Fault::UpdateCountKept,
     Fault::WindowReusedEarly,
+];
+
+/// The faults in adding to a cartridge and in reading one that was added to.
+pub const PLANTED_IN_ADDING: [Fault; 5] = [
+    Fault::NumberRestarted,
+    Fault::TrailRestarted,
+    Fault::CountNotRaised,
+    Fault::OldEndNotNamed,
+    Fault::EarlierEndTaken,
 ];

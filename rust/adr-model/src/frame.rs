@@ -17,6 +17,8 @@ pub const HEADER_TYPE: [u8; 2] = [0x08, 0x00];
 const NO_MARKER: u32 = u32::MAX;
 /// The last address named in a header's AUX.
 const HEADER_LAST: u32 = 2_999;
+/// Where a header's AUX names the old end.
+pub(crate) const OLD_END: usize = 224;
 
 /// What a frame among the user frames stands for.
 #[derive(Clone, Copy, Debug, PartialEq, Eq, Hash)]
@@ -86,6 +88,28 @@ pub struct HeaderFields {
     pub last: Address,
     /// The address of EOD, or 0 if the recording is not closed.
     pub eod: Address,
+    /// The address of the EOD that the recording began at, or 0.
+    pub old_end: Address,
+}
+
+impl HeaderFields {
+    /// A header that says nothing.
+    pub const NONE: HeaderFields = HeaderFields {
+        pass: 0,
+        update_count: 0,
+        last: Address(0),
+        eod: Address(0),
+        old_end: Address(0),
+    };
+
+    /// The address from which on an EOD ends a reading.
+    #[must_use]
+    pub fn ends_from(&self) -> Address {
+        match self.eod {
+            Address(0) => self.old_end,
+            eod => eod,
+        }
+    }
 }
 
 /// The bytes at `at`, or zeros where there are none.
@@ -178,6 +202,7 @@ pub fn fill_header(frame: &mut Frame, fields: &HeaderFields) {
     put_partition(aux, 20, 0xFF, u16::MAX, Address(0), Address(HEADER_LAST));
     put_access_table(aux, 0, [0; 8]);
     put(aux, 196, &[0xFF; 8]);
+    put(aux, OLD_END, &fields.old_end.0.to_be_bytes());
 }
 
 #[cfg(test)]
@@ -240,6 +265,7 @@ mod tests {
             update_count: 0x0102_0304,
             last: Address(0x0A0B_0C0D),
             eod: Address(0x0506_0708),
+            old_end: Address(0x1112_1314),
         };
         let mut frame = [0xA5; FRAME_LENGTH];
         fill_header(&mut frame, &fields);
@@ -251,6 +277,7 @@ mod tests {
                 (20, &[0xFF, 1, 0xFF, 0xFF, 0, 0, 0, 0, 0, 0, 0x0B, 0xB7]),
                 (56, &[8, 0, 0, 0]),
                 (196, &[0xFF; 8]),
+                (224, &[0x11, 0x12, 0x13, 0x14]),
             ],
         );
         let mut data = [0u8; BLOCK_LENGTH];
@@ -260,6 +287,20 @@ mod tests {
             0, 1, 0x12, 0x34, 0, 0, 0, 10, 0x0A, 0x0B, 0x0C, 0x0D, 5, 6, 7, 8,
         ]);
         assert_eq!(data_of(&frame), data);
+    }
+
+    #[test]
+    fn where_an_eod_ends_a_reading() {
+        for (eod, old_end, ends_from) in [(0, 0, 0), (0, 12, 12), (20, 12, 20), (12, 20, 12)] {
+            let fields = HeaderFields {
+                pass: 1,
+                update_count: 0,
+                last: Address(3_000),
+                eod: Address(eod),
+                old_end: Address(old_end),
+            };
+            assert_eq!(fields.ends_from(), Address(ends_from));
+        }
     }
 
     #[test]

@@ -1,6 +1,6 @@
 //! Header frames read: validity, fields and the choice between two.
 
-use crate::frame::{aux_of, bytes, data_of, number_at, Frame, HeaderFields, HEADER_TYPE};
+use crate::frame::{aux_of, bytes, data_of, number_at, Frame, HeaderFields, HEADER_TYPE, OLD_END};
 use crate::geometry::{Address, Geometry, FIRST_USER};
 
 /// Refusal number: lent length wrong.
@@ -19,6 +19,7 @@ pub fn fields_of(frame: &Frame, last: Address) -> Option<HeaderFields> {
         update_count: number_at(aux, 12),
         last: Address(number_at(data, 28)),
         eod: Address(number_at(data, 32)),
+        old_end: Address(number_at(aux, OLD_END)),
     };
     let [major, minor] = bytes(data, 8);
     let named = data.starts_with(b"ADR_SEQ\0")
@@ -86,6 +87,7 @@ mod tests {
             update_count,
             last: Address(11_999),
             eod: Address(0),
+            old_end: Address(0),
         };
         fill_header(&mut frame, &fields);
         frame
@@ -94,12 +96,13 @@ mod tests {
     #[test]
     fn fields_read_back() {
         for eod in [0, 10, 2_989, 3_000, 11_999] {
-            for pass in [0, 1, 65_534] {
+            for (pass, old_end) in [(0, 0), (1, u32::MAX), (65_534, 2_990)] {
                 let fields = HeaderFields {
                     pass,
                     update_count: u32::MAX,
                     last: Address(11_999),
                     eod: Address(eod),
+                    old_end: Address(old_end),
                 };
                 let mut frame = [0; FRAME_LENGTH];
                 fill_header(&mut frame, &fields);

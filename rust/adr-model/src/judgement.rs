@@ -7,7 +7,7 @@ use crate::geometry::{Address, SequenceNumber, AUX_LENGTH};
 /// What a frame read is to a reading that expects a certain number.
 #[derive(Clone, Copy, Debug, PartialEq, Eq)]
 pub enum Judgement {
-    /// Not of this recording, or delivered before.
+    /// Not of this recording, delivered before, or an earlier end.
     PassedOver,
     /// The expected element, or EOD.
     Expected(Kind),
@@ -28,15 +28,39 @@ pub struct Expectation {
     pub number: SequenceNumber,
 }
 
-/// Judges a frame read.
+/// Where the frame judged stands.
+#[derive(Clone, Copy, Debug, PartialEq, Eq)]
+pub struct Standing {
+    /// Its address.
+    pub at: Address,
+    /// The address from which on an EOD ends the reading.
+    pub ends_from: Address,
+}
+
+/// Judges a frame by itself, as one that stands where an EOD ends a reading.
 #[must_use]
 pub fn judge(expectation: &Expectation, frame: &Frame) -> Judgement {
-    judge_with(expectation, frame, Fault::None)
+    let standing = Standing {
+        at: Address(0),
+        ends_from: Address(0),
+    };
+    judge_at(expectation, standing, frame)
+}
+
+/// Judges a frame read.
+#[must_use]
+pub fn judge_at(expectation: &Expectation, standing: Standing, frame: &Frame) -> Judgement {
+    judge_with(expectation, standing, frame, Fault::None)
 }
 
 /// Judges a frame read, with a planted fault.
 #[must_use]
-pub fn judge_with(expectation: &Expectation, frame: &Frame, fault: Fault) -> Judgement {
+pub fn judge_with(
+    expectation: &Expectation,
+    standing: Standing,
+    frame: &Frame,
+    fault: Fault,
+) -> Judgement {
     let aux = aux_of(frame);
     let Some(kind) = Kind::of_type_bytes(bytes(aux, 16)) else {
         return Judgement::PassedOver;
@@ -58,6 +82,10 @@ pub fn judge_with(expectation: &Expectation, frame: &Frame, fault: Fault) -> Jud
     }
     if number > expectation.number {
         return Judgement::Missing;
+    }
+    let earlier = standing.at < standing.ends_from && fault != Fault::EarlierEndTaken;
+    if kind == Kind::Eod && earlier {
+        return Judgement::PassedOver;
     }
     if is_as_recorded(aux, kind, expectation) {
         Judgement::Expected(kind)
@@ -140,6 +168,48 @@ mod tests {
                     };
                     assert_eq!(judge(&EXPECTATION, &frame), expected, "{kind:?} {at} {bit}");
                 }
+            }
+        }
+    }
+
+    /// An EOD of the expected number, as recorded or not, is an earlier end
+    /// below the address from which on one ends a reading.
+    #[test]
+    fn earlier_ends() {
+        let judge_standing = |frame: &Frame, at, ends_from| {
+            let standing = Standing {
+                at: Address(at),
+                ends_from: Address(ends_from),
+            };
+            judge_at(&EXPECTATION, standing, frame)
+        };
+        for (at, ends_from, earlier) in [
+            (11, 12, true),
+            (12, 12, false),
+            (13, 12, false),
+            (10, 0, false),
+            (11_999, u32::MAX, true),
+        ] {
+            let eod = frame_of(Kind::Eod, 260);
+            let mut foreign = eod;
+            foreign[BLOCK_LENGTH + 18] = 1;
+            let passed = |otherwise| {
+                if earlier {
+                    Judgement::PassedOver
+                } else {
+                    otherwise
+                }
+            };
+            let expected = passed(Judgement::Expected(Kind::Eod));
+            assert_eq!(judge_standing(&eod, at, ends_from), expected);
+            let expected = passed(Judgement::Foreign);
+            assert_eq!(judge_standing(&foreign, at, ends_from), expected);
+            let later = frame_of(Kind::Eod, 261);
+            assert_eq!(judge_standing(&later, at, ends_from), Judgement::Missing);
+            for kind in [Kind::Data, Kind::Marker] {
+                let element = frame_of(kind, 260);
+                let judgement = judge_standing(&element, at, ends_from);
+                assert_eq!(judgement, Judgement::Expected(kind));
             }
         }
     }

@@ -10,7 +10,7 @@
 //! * [`check`]: whole cartridges recorded and read back; [`fault`]: planted
 //!   faults that the checks must find.
 //!
-//! No call panics, whatever it is given; refusals are numbers from 1 to 12.
+//! No call panics, whatever it is given; refusals are numbers from 1 to 13.
 
 pub mod check;
 pub mod command;

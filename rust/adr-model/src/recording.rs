@@ -1,12 +1,13 @@
 //! A recording session.
 
 use crate::command::{Answer, Command, Outcome};
-use crate::elements::{count, Elements};
+use crate::elements::{count, Elements, Start};
 use crate::fault::Fault;
 use crate::frame::{fill_frame, fill_header, Frame, HeaderFields, Kind};
-use crate::geometry::{Address, Geometry, BLOCK_LENGTH, FIRST_USER, FRAME_LENGTH};
+use crate::geometry::{Address, Geometry, BLOCK_LENGTH, FRAME_LENGTH};
 use crate::header;
 use crate::header_copies::{HeaderCopies, Walk};
+use crate::reading::Reading;
 use crate::reply::{Meaning, Reply};
 use crate::state::{CopiesState, ElementsState, ExchangeState, RecordingState, StageName};
 
@@ -20,14 +21,45 @@ enum Stage {
     Done,
 }
 
+/// What a session is opened with that goes to no header.
+#[derive(Clone, Copy, Debug, PartialEq, Eq)]
+struct Sizes {
+    depth: usize,
+    window_blocks: usize,
+}
+
+impl Sizes {
+    /// Of a refused opening.
+    const NONE: Sizes = Sizes {
+        depth: 0,
+        window_blocks: 0,
+    };
+
+    fn of(depth: u32, window_blocks: u32) -> Result<Sizes, u8> {
+        if !(1..=255).contains(&depth) || !(1..=64).contains(&window_blocks) {
+            return Err(4);
+        }
+        Ok(Sizes {
+            depth: usize::try_from(depth).map_err(|_| 4)?,
+            window_blocks: usize::try_from(window_blocks).map_err(|_| 4)?,
+        })
+    }
+}
+
+/// The next update count, which leaves room for that of the closing headers.
+fn raised(update_count: u32) -> Result<u32, u8> {
+    match update_count {
+        0..=4_294_967_293 => Ok(update_count + 1),
+        _ => Err(5),
+    }
+}
+
 /// A recording session.
 #[derive(Clone, Debug, PartialEq, Eq)]
 pub struct Recording {
-    depth: usize,
-    window_blocks: usize,
-    pass: u16,
-    update_count: u32,
-    last: Address,
+    sizes: Sizes,
+    /// What the opening headers say.
+    opening: HeaderFields,
     stage: Stage,
     elements: Elements,
     closed: bool,
@@ -48,10 +80,21 @@ impl Recording {
         window_blocks: u32,
         newest: Option<&[u8]>,
     ) -> (Recording, Outcome) {
-        match Recording::try_open(geometry, depth, window_blocks, newest) {
+        Recording::opened(Recording::try_open(geometry, depth, window_blocks, newest))
+    }
+
+    /// Opens a session at the end that a reading found, which goes on with
+    /// the recording read; a refused opening returns an ended session.
+    #[must_use]
+    pub fn open_at_end(reading: &Reading, depth: u32, window_blocks: u32) -> (Recording, Outcome) {
+        Recording::opened(Recording::try_open_at_end(reading, depth, window_blocks))
+    }
+
+    fn opened(session: Result<Recording, u8>) -> (Recording, Outcome) {
+        match session {
             Ok(session) => (session, Outcome::Accepted),
             Err(number) => {
-                let mut session = Recording::fresh(0, 0, 0, 0, Address(0));
+                let mut session = Recording::begun(Sizes::NONE, HeaderFields::NONE, Start::FRESH);
                 session.ended = true;
                 (session, Outcome::Refused(number))
             }
@@ -71,40 +114,43 @@ impl Recording {
         let old = newest
             .map(|header| header::check(geometry, header))
             .transpose()?;
-        if !(1..=255).contains(&depth) || !(1..=64).contains(&window_blocks) {
-            return Err(4);
-        }
+        let sizes = Sizes::of(depth, window_blocks)?;
         let (pass, update_count) = match old {
             None => (1, 0),
-            Some(old) if old.pass >= 65_534 || old.update_count > 4_294_967_293 => return Err(5),
-            Some(old) => (old.pass + 1, old.update_count + 1),
+            Some(old) if old.pass >= 65_534 => return Err(5),
+            Some(old) => (old.pass + 1, raised(old.update_count)?),
         };
-        let depth = usize::try_from(depth).map_err(|_| 4)?;
-        let window_blocks = usize::try_from(window_blocks).map_err(|_| 4)?;
-        Ok(Recording::fresh(
-            depth,
-            window_blocks,
+        let opening = HeaderFields {
             pass,
             update_count,
             last,
-        ))
+            ..HeaderFields::NONE
+        };
+        Ok(Recording::begun(sizes, opening, Start::FRESH))
     }
 
-    fn fresh(
-        depth: usize,
-        window_blocks: usize,
-        pass: u16,
-        update_count: u32,
-        last: Address,
-    ) -> Recording {
-        Recording {
-            depth,
-            window_blocks,
-            pass,
+    fn try_open_at_end(reading: &Reading, depth: u32, window_blocks: u32) -> Result<Recording, u8> {
+        let (old, start) = reading.end().ok_or(7)?;
+        let sizes = Sizes::of(depth, window_blocks)?;
+        let update_count = raised(old.update_count)?;
+        if old.eod == Address(0) || old.eod != start.at {
+            return Err(13);
+        }
+        let opening = HeaderFields {
             update_count,
-            last,
-            stage: Stage::OpeningHeaders(HeaderCopies::new(depth)),
-            elements: Elements::new(depth, pass, last),
+            eod: Address(0),
+            old_end: start.at,
+            ..old
+        };
+        Ok(Recording::begun(sizes, opening, start))
+    }
+
+    fn begun(sizes: Sizes, opening: HeaderFields, start: Start) -> Recording {
+        Recording {
+            sizes,
+            opening,
+            stage: Stage::OpeningHeaders(HeaderCopies::new(sizes.depth)),
+            elements: Elements::new(sizes.depth, opening.pass, opening.last, start),
             closed: false,
             ended: false,
             awaited: None,
@@ -113,26 +159,33 @@ impl Recording {
         }
     }
 
-    /// Plants a fault for the checks to find.
+    /// Plants a fault for the checks to find, before any other call.
     pub fn plant(&mut self, fault: Fault) {
         self.fault = fault;
         self.elements.plant(fault);
+        let added = self.opening.old_end != Address(0);
+        if added && fault == Fault::CountNotRaised {
+            self.opening.update_count = self.opening.update_count.saturating_sub(1);
+        }
+        if fault == Fault::OldEndNotNamed {
+            self.opening.old_end = Address(0);
+        }
     }
 
     /// The write pass of this recording.
     #[must_use]
     pub fn pass(&self) -> u16 {
-        self.pass
+        self.opening.pass
     }
 
     fn window_length(&self) -> usize {
-        self.window_blocks.saturating_mul(BLOCK_LENGTH)
+        self.sizes.window_blocks.saturating_mul(BLOCK_LENGTH)
     }
 
     fn window_place(&self, number: u32) -> std::ops::Range<usize> {
         let block = usize::try_from(number)
             .unwrap_or(0)
-            .checked_rem(self.window_blocks)
+            .checked_rem(self.sizes.window_blocks)
             .unwrap_or(0);
         let start = block.saturating_mul(BLOCK_LENGTH);
         start..start.saturating_add(BLOCK_LENGTH)
@@ -146,7 +199,7 @@ impl Recording {
         if block.len() != BLOCK_LENGTH || window.len() != self.window_length() {
             return Outcome::Refused(1);
         }
-        if self.elements.unconfirmed() >= self.window_blocks {
+        if self.elements.unconfirmed() >= self.sizes.window_blocks {
             return Outcome::Refused(6);
         }
         if let Some(place) = window.get_mut(self.window_place(self.elements.next_number().0)) {
@@ -161,7 +214,7 @@ impl Recording {
         if self.ended || self.closed {
             return Outcome::Refused(7);
         }
-        if self.elements.unconfirmed() >= self.window_blocks {
+        if self.elements.unconfirmed() >= self.sizes.window_blocks {
             return Outcome::Refused(6);
         }
         self.elements.accept(Kind::Marker);
@@ -211,7 +264,7 @@ impl Recording {
             Stage::OpeningHeaders(copies) | Stage::ClosingHeaders(copies) => {
                 Answer::Command(copies.command())
             }
-            Stage::LocateFirst => Answer::Command(Command::Locate(FIRST_USER)),
+            Stage::LocateFirst => Answer::Command(Command::Locate(self.elements.next())),
             Stage::Elements => {
                 if self.closed {
                     self.elements.end_if_whole();
@@ -224,13 +277,15 @@ impl Recording {
 
     /// What the header copies say: the closing ones from their stage on.
     fn header(&self) -> HeaderFields {
-        let closing = matches!(self.stage, Stage::ClosingHeaders(_) | Stage::Done);
-        let counted = closing && self.fault != Fault::UpdateCountKept;
+        if !matches!(self.stage, Stage::ClosingHeaders(_) | Stage::Done) {
+            return self.opening;
+        }
+        let counted = self.fault != Fault::UpdateCountKept;
         HeaderFields {
-            pass: self.pass,
-            update_count: self.update_count.saturating_add(u32::from(counted)),
-            last: self.last,
+            update_count: self.opening.update_count.saturating_add(u32::from(counted)),
             eod: self.elements.eod().unwrap_or(Address(0)),
+            old_end: Address(0),
+            ..self.opening
         }
     }
 
@@ -248,8 +303,8 @@ impl Recording {
     #[must_use]
     pub fn state(&self) -> Option<RecordingState> {
         (!self.ended).then(|| RecordingState {
-            depth: count(self.depth),
-            window_blocks: count(self.window_blocks),
+            depth: count(self.sizes.depth),
+            window_blocks: count(self.sizes.window_blocks),
             stage: match self.stage {
                 Stage::OpeningHeaders(_) => StageName::OpeningHeaders,
                 Stage::LocateFirst | Stage::Elements => StageName::Elements,
@@ -318,7 +373,7 @@ impl Recording {
             Stage::LocateFirst | Stage::Elements => {
                 self.elements.reply(command, reply)?;
                 self.stage = if self.elements.eod().is_some() {
-                    Stage::ClosingHeaders(HeaderCopies::new(self.depth))
+                    Stage::ClosingHeaders(HeaderCopies::new(self.sizes.depth))
                 } else {
                     Stage::Elements
                 };

@@ -6,12 +6,13 @@ use crate::command::Command;
 use crate::frame::{HeaderFields, Kind};
 use crate::geometry::{Address, SequenceNumber};
 
-/// The stages of a recording; LOCATE 10 belongs to the elements.
+/// The stages of a recording; the first LOCATE of a user frame belongs to the
+/// elements.
 #[derive(Clone, Copy, Debug, PartialEq, Eq)]
 pub enum StageName {
     /// Opening headers.
     OpeningHeaders,
-    /// LOCATE 10, elements and EOD.
+    /// LOCATE of where they begin, elements and EOD.
     Elements,
     /// Closing headers.
     ClosingHeaders,
@@ -67,7 +68,8 @@ pub struct CopiesState {
 /// Where the next frame goes.
 #[derive(Clone, Copy, Debug, PartialEq, Eq)]
 pub enum Going {
-    /// Behind a LOCATE that is due: LOCATE 10 or a write error's target.
+    /// Behind a LOCATE that is due: of where the elements begin, or of a
+    /// write error's target.
     Locate(Address),
     /// To this address, where the drive stands.
     Next(Address),
@@ -95,16 +97,18 @@ pub struct ElementsState {
 /// Where a reading stands.
 #[derive(Clone, Copy, Debug, PartialEq, Eq)]
 pub struct ReadingState {
-    /// The pass of the header.
-    pub pass: u16,
-    /// LAST.
-    pub last: Address,
+    /// What the header says.
+    pub header: HeaderFields,
     /// The next address.
     pub next: Address,
     /// Whether a LOCATE of it is due.
     pub locate: bool,
     /// The number expected.
     pub expected: SequenceNumber,
+    /// Filemarks delivered.
+    pub filemarks: u32,
+    /// Where the latest of these was delivered.
+    pub latest_marker: Option<Address>,
     /// Whether EOD was read.
     pub finished: bool,
     /// The command last given.

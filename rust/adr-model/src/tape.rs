@@ -95,12 +95,21 @@ impl Tape {
     /// A newest header: valid, at the header groups, of the highest count.
     #[must_use]
     pub fn newest_header(&self, last: Address) -> Option<(Shared, HeaderFields)> {
-        HEADER_GROUPS
+        self.newest_headers(last).pop()
+    }
+
+    /// Every newest header.
+    #[must_use]
+    pub fn newest_headers(&self, last: Address) -> Vec<(Shared, HeaderFields)> {
+        let mut valid: Vec<(Shared, HeaderFields)> = HEADER_GROUPS
             .iter()
             .flatten()
             .filter_map(|address| self.read(*address))
             .filter_map(|frame| fields_of(frame, last).map(|fields| (frame.clone(), fields)))
-            .max_by_key(|(_, fields)| fields.update_count)
+            .collect();
+        let highest = valid.iter().map(|(_, fields)| fields.update_count).max();
+        valid.retain(|(_, fields)| Some(fields.update_count) == highest);
+        valid
     }
 
     /// Makes every user frame that bears `pass` read as nothing.

@@ -1,11 +1,15 @@
 //! Every planted fault is found, and the sound model has none.
 
-use adr_model::check::{run, run_demand_only, shrink::shrink, Case};
-use adr_model::fault::PLANTED;
+use adr_model::check::chain::{run_chain, run_chain_demand_and_tape, run_chain_demand_only};
+use adr_model::check::shrink::{shrink, shrink_chain_on};
+use adr_model::check::{run, run_demand_only, Case, Chain, Model};
+use adr_model::fault::{PLANTED, PLANTED_IN_ADDING};
 use adr_model::Fault;
 
 /// The seeds within which each planted fault must be found.
 const SEEDS: u64 = 100;
+/// The same of chains, which take longer.
+const CHAINS: u64 = 40;
 
 #[test]
 fn planted_faults_are_found() {
@@ -44,4 +48,59 @@ fn a_failing_case_is_shrunk() {
         let calls = |case: &Case| case.recordings.iter().map(Vec::len).sum::<usize>();
         assert!(calls(&small) <= calls(&case).min(30), "{small:?}");
     }
+}
+
+#[test]
+fn faults_in_adding_are_found() {
+    for fault in PLANTED_IN_ADDING {
+        let found = (0..CHAINS).find(|seed| run_chain(&Chain::of_seed(*seed, fault)).is_err());
+        let seed = found.unwrap_or_else(|| panic!("{fault:?} was not found"));
+        println!("{fault:?}: seed {seed}");
+        assert!(run_chain(&Chain::of_seed(seed, Fault::None)).is_ok());
+        // Recordings of their own show only the fault of a reading.
+        let alone = fault == Fault::EarlierEndTaken || run(&Case::of_seed(seed, fault)).is_ok();
+        assert!(alone, "{fault:?}");
+    }
+}
+
+/// The demand alone finds those that a reading meets after a recording that
+/// reported done: its closing headers are the newest whatever the opening ones
+/// said, and no reading looks at what a frame names of filemarks.
+#[test]
+fn the_demand_alone_finds_faults_in_adding() {
+    for fault in PLANTED_IN_ADDING {
+        let mut chains = (0..CHAINS).map(|seed| Chain::of_seed(seed, fault));
+        let found = chains.any(|chain| run_chain_demand_only(&chain).is_err());
+        let seen = matches!(fault, Fault::NumberRestarted | Fault::EarlierEndTaken);
+        assert_eq!(found, seen, "{fault:?}");
+    }
+    for seed in 0..CHAINS {
+        let run = run_chain_demand_and_tape(&Chain::of_seed(seed, Fault::None));
+        assert!(run.is_ok(), "seed {seed}: {run:?}");
+    }
+}
+
+/// What the frames on tape name of filemarks shows the faults that nothing
+/// but them shows.
+#[test]
+fn the_frames_on_tape_show_a_wrong_trail() {
+    for fault in [Fault::TrailRestarted, Fault::OldMarkerAddress] {
+        let mut chains = (0..CHAINS).map(|seed| Chain::of_seed(seed, fault));
+        assert!(
+            chains.any(|chain| run_chain_demand_and_tape(&chain).is_err()),
+            "{fault:?}"
+        );
+    }
+}
+
+#[test]
+fn a_failing_chain_is_shrunk() {
+    let mut chains = (0..CHAINS).map(|seed| Chain::of_seed(seed, Fault::EarlierEndTaken));
+    let Some(chain) = chains.find(|chain| run_chain(chain).is_err()) else {
+        panic!("the fault was not found");
+    };
+    let small = shrink_chain_on::<Model>(&chain);
+    assert!(run_chain(&small).is_err());
+    assert!(small.case.recordings.len() <= 2, "{small:?}");
+    assert!(small.case.recordings.iter().map(Vec::len).sum::<usize>() < 10);
 }

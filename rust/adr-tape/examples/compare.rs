@@ -1,5 +1,5 @@
-//! Compares the layer with the model on random cartridges for a while:
-//! `compare SECONDS SEED`.
+//! Compares the layer with the model on random cartridges and on chains of
+//! recordings for a while: `compare SECONDS SEED`.
 
 #[path = "../tests/compared/mod.rs"]
 mod compared;

@@ -1,5 +1,6 @@
 //! How whole recordings and readings fail.
 
+use std::convert::Infallible;
 use std::error::Error;
 use std::fmt;
 
@@ -42,6 +43,18 @@ pub enum ReadError<D, S> {
     Sink(S),
 }
 
+/// Why nothing, or not everything, was added to a cartridge.
+///
+/// It is shown as what failed; [`Error::source`] gives the error in it.
+#[derive(Clone, Copy, Debug, PartialEq, Eq)]
+pub enum AppendError<D, S> {
+    /// What is on the cartridge was not read to its end. Nothing was written.
+    Read(ReadError<D, Infallible>),
+    /// The recording behind it did not become whole. One that was refused with a
+    /// number below 8, or with [`Refusal::EndElsewhere`], wrote nothing.
+    Record(RecordError<D, S>),
+}
+
 impl<D> From<Refusal> for HeaderError<D> {
     fn from(refusal: Refusal) -> Self {
         HeaderError::Refused(refusal)
@@ -57,6 +70,18 @@ impl<D, S> From<Refusal> for RecordError<D, S> {
 impl<D, S> From<Refusal> for ReadError<D, S> {
     fn from(refusal: Refusal) -> Self {
         ReadError::Refused(refusal)
+    }
+}
+
+impl<D, S> From<ReadError<D, Infallible>> for AppendError<D, S> {
+    fn from(error: ReadError<D, Infallible>) -> Self {
+        AppendError::Read(error)
+    }
+}
+
+impl<D, S> From<RecordError<D, S>> for AppendError<D, S> {
+    fn from(error: RecordError<D, S>) -> Self {
+        AppendError::Record(error)
     }
 }
 
@@ -89,6 +114,15 @@ impl<D, S> fmt::Display for ReadError<D, S> {
     }
 }
 
+impl<D, S> fmt::Display for AppendError<D, S> {
+    fn fmt(&self, formatter: &mut fmt::Formatter<'_>) -> fmt::Result {
+        formatter.write_str(match self {
+            AppendError::Read(_) => "nothing was added: the end of data was not read",
+            AppendError::Record(_) => "what was to be added was not recorded whole",
+        })
+    }
+}
+
 impl<D: Error + 'static> Error for HeaderError<D> {
     fn source(&self) -> Option<&(dyn Error + 'static)> {
         Some(match self {
@@ -114,6 +148,15 @@ impl<D: Error + 'static, S: Error + 'static> Error for ReadError<D, S> {
             ReadError::Refused(refusal) => refusal,
             ReadError::Drive(error) => error,
             ReadError::Sink(error) => error,
+        })
+    }
+}
+
+impl<D: Error + 'static, S: Error + 'static> Error for AppendError<D, S> {
+    fn source(&self) -> Option<&(dyn Error + 'static)> {
+        Some(match self {
+            AppendError::Read(error) => error,
+            AppendError::Record(error) => error,
         })
     }
 }

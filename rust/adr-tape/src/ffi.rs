@@ -76,6 +76,11 @@ mod calls {
             depth: u32,
             blocks: u32,
         ) -> RecordOutcome;
+        pub(super) fn adr_record_open_at_end(
+            reading: Reading,
+            depth: u32,
+            blocks: u32,
+        ) -> RecordOutcome;
         pub(super) fn adr_record_block(
             session: Recording,
             block: *const u8,
@@ -163,6 +168,13 @@ pub fn record_open(geometry: Geometry, depth: u32, blocks: u32, header: &[u8]) -
 pub fn record_open_blank(geometry: Geometry, depth: u32, blocks: u32) -> RecordOutcome {
     // SAFETY: only numbers go over.
     unsafe { calls::adr_record_open_blank(geometry, depth, blocks) }
+}
+
+/// `adr_record_open_at_end`: opens a recording at the end that a reading found.
+#[must_use]
+pub fn record_open_at_end(reading: Reading, depth: u32, blocks: u32) -> RecordOutcome {
+    // SAFETY: only numbers go over.
+    unsafe { calls::adr_record_open_at_end(reading, depth, blocks) }
 }
 
 /// `adr_record_block`: accepts a block into the window.

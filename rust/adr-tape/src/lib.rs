@@ -5,8 +5,9 @@
 //! drive's replies; cables, packets and sense data stay with the host.
 //!
 //! * [`Recorder`] and [`Reader`]: the two sessions, a call at a time.
-//! * [`Drive`], [`newest_header`], [`record_all`] and [`read_all`]: whole
-//!   recordings and readings over the host's own transport.
+//! * [`Drive`], [`newest_header`], [`record_all`], [`append_all`] and
+//!   [`read_all`]: whole recordings, additions and readings over the host's own
+//!   transport.
 //! * [`ffi`]: the calls as C sees them, for hosts with buffers of their own.
 //!
 //! A drive in memory, recorded and read back:
@@ -76,6 +77,7 @@
 //! # Ok::<(), Box<dyn std::error::Error>>(())
 //! ```
 
+mod append_all;
 mod command;
 mod drive;
 mod element;
@@ -94,15 +96,16 @@ mod unclosed;
 #[cfg(doctest)]
 mod unused;
 
+pub use append_all::{append_all, Appended};
 pub use command::Command;
 pub use drive::Drive;
 pub use element::Element;
-pub use error::{HeaderError, ReadError, RecordError};
+pub use error::{AppendError, HeaderError, ReadError, RecordError};
 pub use geometry::{header_addresses, Address, Geometry, LoadPoint, BLOCK_LENGTH, FRAME_LENGTH};
 pub use header::{newer, newest_header};
-pub use read_all::read_all;
+pub use read_all::{read_all, read_with};
 pub use reader::{Delivery, ReadNext, Reader};
-pub use record_all::record_all;
+pub use record_all::{record_all, record_with};
 pub use recorder::{Next, Recorder};
 pub use refusal::Refusal;
 pub use reply::{Reply, Sense};

@@ -24,10 +24,25 @@ pub fn read_all<D: Drive, S>(
     drive: &mut D,
     geometry: Geometry,
     header: &[u8],
+    sink: impl FnMut(Element<'_>) -> Result<ControlFlow<()>, S>,
+    progress: impl FnMut(&Summary),
+) -> Result<Summary, ReadError<D::Error, S>> {
+    let mut reader = Reader::open(geometry, header)?;
+    read_with(drive, &mut reader, sink, progress)
+}
+
+/// The same with a reader that is open, which is then at its end unless the
+/// sink broke: [`Recorder::open_at_end`](crate::Recorder::open_at_end) goes on
+/// from there.
+///
+/// # Errors
+/// As [`read_all`].
+pub fn read_with<D: Drive, S>(
+    drive: &mut D,
+    reader: &mut Reader,
     mut sink: impl FnMut(Element<'_>) -> Result<ControlFlow<()>, S>,
     mut progress: impl FnMut(&Summary),
 ) -> Result<Summary, ReadError<D::Error, S>> {
-    let mut reader = Reader::open(geometry, header)?;
     let mut frame = vec![0; FRAME_LENGTH];
     let mut summary = Summary::default();
     while let ReadNext::Send(command) = reader.fetch()? {

@@ -33,7 +33,8 @@ pub enum Delivery<'f> {
 /// A reading session.
 ///
 /// Fetch a command, send it, bring the reply with the frame read, until the
-/// end.
+/// end. There [`Recorder::open_at_end`](crate::Recorder::open_at_end) can add to
+/// what was read.
 ///
 /// ```
 /// use adr_tape::{Address, Command, Delivery, Geometry, Next, ReadNext, Reader, Recorder, Reply};
@@ -80,6 +81,11 @@ impl Reader {
         Ok(Reader {
             session: opened.session,
         })
+    }
+
+    /// The session, for a recording that is opened at its end.
+    pub(crate) fn session(&self) -> ffi::Reading {
+        self.session
     }
 
     /// Fetches the next command.

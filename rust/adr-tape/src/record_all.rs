@@ -26,9 +26,23 @@ pub fn record_all<'a, D: Drive, S>(
     blocks: u32,
     header: Option<&[u8]>,
     elements: impl IntoIterator<Item = Result<Element<'a>, S>>,
+    progress: impl FnMut(&Summary),
+) -> Result<Summary, RecordError<D::Error, S>> {
+    let recorder = Recorder::open(geometry, depth, blocks, header)?;
+    record_with(drive, recorder, elements, progress)
+}
+
+/// The same with a recorder that was opened before, for one that
+/// [`Recorder::open_at_end`] opened.
+///
+/// # Errors
+/// As [`record_all`].
+pub fn record_with<'a, D: Drive, S>(
+    drive: &mut D,
+    mut recorder: Recorder,
+    elements: impl IntoIterator<Item = Result<Element<'a>, S>>,
     mut progress: impl FnMut(&Summary),
 ) -> Result<Summary, RecordError<D::Error, S>> {
-    let mut recorder = Recorder::open(geometry, depth, blocks, header)?;
     let source = Source {
         elements: elements.into_iter(),
         waiting: None,

@@ -5,6 +5,7 @@ use std::fmt;
 use crate::command::Command;
 use crate::ffi;
 use crate::geometry::{Geometry, BLOCK_LENGTH, FRAME_LENGTH};
+use crate::reader::Reader;
 use crate::refusal::Refusal;
 use crate::reply::Reply;
 use crate::unclosed::Unclosed;
@@ -83,6 +84,75 @@ impl Recorder {
             Some(header) => ffi::record_open(geometry.into(), depth, blocks, header),
             None => ffi::record_open_blank(geometry.into(), depth, blocks),
         };
+        Recorder::opened(opened, blocks)
+    }
+
+    /// Opens a recording at the end that `reader` found, behind what it
+    /// delivered: a later reading gives that and then what is recorded here.
+    /// `depth` and `blocks` as for [`Recorder::open`]. The reader is left as it
+    /// is.
+    ///
+    /// The write pass stays what it was. What that needs and no call can see:
+    ///
+    /// * The reading was of this cartridge as it stands now, on its newest
+    ///   header.
+    /// * The last recording on the cartridge came to [`Next::Done`]. Frames that
+    ///   one left behind the end and did not close are of the same pass; they may
+    ///   be read as if they were recorded here.
+    ///
+    /// Where a recording was cut short, the newest header mostly names no end;
+    /// then every such opening is refused, with [`Refusal::EndElsewhere`], or with
+    /// [`Refusal::Phase`] where the reading finds no end either.
+    ///
+    /// Blocks that no filemark closes are one run with the blocks recorded here.
+    ///
+    /// ```
+    /// # use std::collections::BTreeMap;
+    /// use adr_tape::{Address, Command, Geometry, Next, ReadNext, Reader, Recorder, Refusal, Reply};
+    ///
+    /// # type Frames = BTreeMap<Address, Vec<u8>>;
+    /// # fn finish(mut recorder: Recorder, frames: &mut Frames) -> Result<(), Refusal> {
+    /// #     recorder.close()?;
+    /// #     while let Next::Send(command, frame) = recorder.fetch()? {
+    /// #         if let (Command::Write(address), Some(frame)) = (command, frame) {
+    /// #             frames.insert(address, frame.to_vec());
+    /// #         }
+    /// #         recorder.reply(Reply::good())?;
+    /// #     }
+    /// #     Ok(())
+    /// # }
+    /// # let geometry = Geometry::beginning(3_001, 1);
+    /// # let mut frames = Frames::new();
+    /// # let mut monday = Recorder::open(geometry, 4, 2, None)?;
+    /// # monday.accept_block(&[1; adr_tape::BLOCK_LENGTH])?;
+    /// # finish(monday, &mut frames)?;
+    /// // `frames` is what stands at each address of a tape with one block.
+    /// let mut reader = Reader::open(geometry, &frames[&Address(5)])?;
+    /// assert_eq!(Recorder::open_at_end(&reader, 4, 2).err(), Some(Refusal::Phase));
+    /// while let ReadNext::Send(command) = reader.fetch()? {
+    ///     let frame = command.address().and_then(|address| frames.get(&address));
+    ///     let _ = reader.reply(Reply::good(), frame.expect("it was recorded"))?;
+    /// }
+    /// let mut recorder = Recorder::open_at_end(&reader, 4, 2)?;
+    /// recorder.accept_block(&[2; adr_tape::BLOCK_LENGTH])?;
+    /// # finish(recorder, &mut frames)?;
+    /// // When it is done, the new block stands where the end of data stood.
+    /// assert_eq!(frames[&Address(10)][0], 1);
+    /// assert_eq!(frames[&Address(11)][0], 2);
+    /// # Ok::<(), Refusal>(())
+    /// ```
+    ///
+    /// # Errors
+    /// [`Refusal::Phase`] if the reading is not at its end, [`Refusal::Capacity`],
+    /// [`Refusal::Exhausted`] or [`Refusal::EndElsewhere`].
+    #[must_use = "nothing is recorded by opening alone"]
+    pub fn open_at_end(reader: &Reader, depth: u32, blocks: u32) -> Result<Recorder, Refusal> {
+        let opened = ffi::record_open_at_end(reader.session(), depth, blocks);
+        Recorder::opened(opened, blocks)
+    }
+
+    /// The session that an opening gave, with its buffers.
+    fn opened(opened: ffi::RecordOutcome, blocks: u32) -> Result<Recorder, Refusal> {
         Refusal::check(opened.number)?;
         let room = usize::try_from(blocks).map_err(|_| Refusal::Capacity)?;
         Ok(Recorder {

@@ -6,8 +6,9 @@ use std::fmt;
 /// Why a call was refused.
 ///
 /// The first seven leave the session as it was: the call counts for nothing.
-/// The last five end it: whatever is called then is refused with
-/// [`Refusal::Phase`].
+/// The others end it: whatever is called then is refused with
+/// [`Refusal::Phase`]. A refused opening gives no session; the last refusal
+/// comes from an opening alone.
 #[derive(Clone, Copy, Debug, PartialEq, Eq, Hash)]
 pub enum Refusal {
     /// 1: a buffer has the wrong length.
@@ -35,10 +36,12 @@ pub enum Refusal {
     Foreign,
     /// 12: no header copy could be written, or no end was found.
     NotFound,
+    /// 13: the header does not name the end that the reading found.
+    EndElsewhere,
 }
 
 /// Every refusal, by its number less one.
-const REFUSALS: [Refusal; 12] = [
+const REFUSALS: [Refusal; 13] = [
     Refusal::Length,
     Refusal::Geometry,
     Refusal::Header,
@@ -51,10 +54,11 @@ const REFUSALS: [Refusal; 12] = [
     Refusal::Missing,
     Refusal::Foreign,
     Refusal::NotFound,
+    Refusal::EndElsewhere,
 ];
 
 impl Refusal {
-    /// The refusal's number, 1 to 12.
+    /// The refusal's number, 1 to 13.
     ///
     /// ```
     /// assert_eq!(adr_tape::Refusal::TapeFull.number(), 9);
@@ -74,10 +78,12 @@ impl Refusal {
             Refusal::Missing => 10,
             Refusal::Foreign => 11,
             Refusal::NotFound => 12,
+            Refusal::EndElsewhere => 13,
         }
     }
 
-    /// Whether this refusal ends its session.
+    /// Whether this refusal ends its session. [`Refusal::EndElsewhere`] counts
+    /// among these: what it is given by is an opening, and no session goes on.
     #[must_use]
     pub const fn ends_session(self) -> bool {
         self.number() >= 8
@@ -137,6 +143,11 @@ impl Refusal {
             Refusal::NotFound => {
                 "no header copy could be written, or no end of data was found: \
                  clean the drive and read again, or record on another cartridge"
+            }
+            Refusal::EndElsewhere => {
+                "the header does not name the end that was read to, as after a recording \
+                 that was not closed: read again on the newest header, \
+                 or record on another cartridge"
             }
         }
     }

@@ -5,23 +5,17 @@ mod compared;
 use adr_model::check::content::block;
 use adr_model::check::guarded::Guarded;
 use adr_model::check::layer::{Layer, ReadingCalls, RecordingCalls};
-use adr_model::frame::{fill_frame, fill_header, Frame, HeaderFields, Kind, Label};
+use adr_model::frame::{fill_header, Frame, HeaderFields};
 use adr_model::geometry::{BLOCK_LENGTH, FRAME_LENGTH, HEADER_GROUPS};
 use adr_model::random::Random;
-use adr_model::reply::{BECOMING_READY, GOOD, SENSES, WRITE_ERROR};
-use adr_model::{
-    header, Address, Answer, Command, Geometry, Outcome, ReadAnswer, ReadOutcome, Reply, Sense,
-    SequenceNumber,
-};
+use adr_model::reply::{GOOD, WRITE_ERROR};
+use adr_model::{header, Address, Geometry, Outcome, Reply, Sense};
 use adr_tape::ffi;
-use compared::{geometry_of, Compared, ComparedReading, ComparedRecording};
+use compared::any_calls::{make_any_calls, Lent};
+use compared::any_reads::make_any_reads;
+use compared::{geometry_of, right, Compared, ComparedReading, ComparedRecording};
 
 const ROUNDS: u32 = if cfg!(debug_assertions) { 600 } else { 3_000 };
-
-#[track_caller]
-fn right(wrong: Option<String>, seed: u32) {
-    assert_eq!(wrong, None, "seed {seed}");
-}
 
 fn any_geometry(random: &mut Random) -> Geometry {
     let frames_per_track = [0, 1, 99, 100, 101, 3_000, 3_001, 3_020, 65_534, 65_535];
@@ -109,6 +103,7 @@ fn valid_header(pass: u16, update_count: u32, last: u32) -> Box<Frame> {
         update_count,
         last: Address(last),
         eod: Address(0),
+        old_end: Address(0),
     };
     fill_header(&mut frame, &fields);
     frame
@@ -136,6 +131,10 @@ fn any_header(random: &mut Random, geometry: &Geometry) -> Vec<u8> {
     let eod = random.one_of(&eods).copied().unwrap_or(0);
     if random.chance(500) {
         frame[32..36].copy_from_slice(&eod.to_be_bytes());
+    }
+    // No condition of validity.
+    if random.chance(300) {
+        frame[BLOCK_LENGTH + 224..][..4].copy_from_slice(&random.word().to_be_bytes());
     }
     let bits = if random.chance(500) {
         0
@@ -248,121 +247,6 @@ fn every_size() {
     }
 }
 
-fn any_sense(random: &mut Random) -> Sense {
-    match random.one_of(&SENSES) {
-        Some((sense, _)) if random.chance(900) => *sense,
-        _ => Sense {
-            key: random.byte() % 16,
-            asc: random.byte() % 32,
-            ascq: random.byte() % 16,
-        },
-    }
-}
-
-/// A reply that often fits where the session stands.
-fn any_reply(random: &mut Random, session: &ffi::Recording) -> Reply {
-    let (next, outstanding) = match session.stage {
-        1 => (
-            session.elements.next,
-            u32::from(session.elements.outstanding),
-        ),
-        _ => (
-            ffi::header_address(session.copies.group.into(), 0)
-                .wrapping_add(session.copies.copy.into()),
-            u32::from(session.copies.outstanding),
-        ),
-    };
-    let writing = session.exchange.command.code != ffi::LOCATE && outstanding > 0;
-    let sense = match random.below(10) {
-        0 => BECOMING_READY,
-        1 | 2 if writing => WRITE_ERROR,
-        3 if random.chance(30) => any_sense(random),
-        _ => GOOD,
-    };
-    let skips = [0, 1, 3, 14, 255, 255, 255, 256, u32::MAX];
-    Reply {
-        sense,
-        buffered: if random.chance(998) {
-            random.below(outstanding + 1)
-        } else {
-            random.word()
-        },
-        position: Address(if random.chance(998) {
-            next.wrapping_sub(random.between(1, outstanding.max(1)))
-        } else {
-            random.between(5, 3_001)
-        }),
-        skip: match random.one_of(&skips) {
-            Some(skip) if random.chance(998) => (*skip).min(255),
-            skip => skip.copied().unwrap_or(0),
-        },
-    }
-}
-
-/// The buffers of a recording, and what they must hold.
-struct Lent {
-    window: Guarded,
-    held: Guarded,
-    frame: Guarded,
-    untouched: Guarded,
-}
-
-impl Lent {
-    fn new(blocks: usize) -> Lent {
-        let window = Guarded::filled(0x11, blocks * BLOCK_LENGTH);
-        let frame = Guarded::filled(0x22, FRAME_LENGTH);
-        Lent {
-            held: window.clone(),
-            window,
-            untouched: frame.clone(),
-            frame,
-        }
-    }
-
-    /// Accepts a block with the window from here on; the session compares
-    /// what becomes of it.
-    fn accept(&mut self, session: &mut ComparedRecording, block: &[u8], from: usize) -> Outcome {
-        let outcome = session.accept_block(block, &mut self.window[from..]);
-        if outcome == Outcome::Accepted {
-            self.held.copy_from_slice(&self.window);
-        }
-        outcome
-    }
-
-    /// Fetches with window and frame from here on; only a WRITE alters the
-    /// frame.
-    fn fetch(&mut self, session: &mut ComparedRecording, window: usize, frame: usize) -> Outcome {
-        let answer = session.fetch(&self.window[window..], &mut self.frame[frame..]);
-        if let Answer::Command(Command::Write(_)) = answer {
-            assert!(self.frame.is_intact(), "bytes beside the frame");
-            self.frame.copy_from_slice(&self.untouched);
-        }
-        number_of(answer)
-    }
-
-    fn is_as_held(&self) -> bool {
-        self.window == self.held && self.frame == self.untouched
-    }
-}
-
-/// A call of any kind, now and then with a wrong length.
-fn any_call(random: &mut Random, session: &mut ComparedRecording, lent: &mut Lent) -> Outcome {
-    match random.below(12) {
-        0 | 1 => lent.accept(session, block(random.byte().into()), 0),
-        2 => session.accept_filemark(),
-        3 if random.chance(30) => session.close(),
-        4 if random.chance(30) => lent.accept(session, &[1; 7], 0),
-        5 if random.chance(30) => lent.accept(session, block(1), 1),
-        6 if random.chance(30) => lent.fetch(session, 0, 1),
-        7 if random.chance(30) => lent.fetch(session, 1, 0),
-        3..=7 => lent.fetch(session, 0, 0),
-        _ => {
-            let reply = any_reply(random, &session.layer);
-            session.reply(&reply)
-        }
-    }
-}
-
 /// Lists of calls with replies that no drive vouches for.
 #[test]
 fn any_recording() {
@@ -376,102 +260,12 @@ fn any_recording() {
         };
         let depth = random.between(1, 6);
         let (mut session, _) = ComparedRecording::open(&geometry, depth, 3, None);
-        let mut lent = Lent::new(3);
-        for _ in 0..random.below(1_000) {
-            let before = session.clone();
-            let outcome = any_call(&mut random, &mut session, &mut lent);
-            right(session.wrong(), seed);
-            assert!(lent.is_as_held(), "seed {seed}: a buffer was altered");
-            match outcome {
-                Outcome::Refused(number @ 1..=7) => {
-                    assert!(
-                        before == session,
-                        "seed {seed}: {number} altered the session"
-                    );
-                }
-                Outcome::Refused(number) => {
-                    ends[usize::from(number)] += 1;
-                    assert_eq!(session.accept_filemark(), Outcome::Refused(7));
-                    break;
-                }
-                Outcome::Accepted => {}
-            }
-        }
+        let calls = random.below(1_000);
+        let end = make_any_calls(seed, &mut random, &mut session, 3, calls);
+        ends[usize::from(end)] += 1;
     }
     println!("{ends:?}");
     assert!(ends[8] > 0 && ends[9] > 0, "{ends:?}");
-}
-
-fn number_of(answer: Answer) -> Outcome {
-    match answer {
-        Answer::Refused(number) => Outcome::Refused(number),
-        _ => Outcome::Accepted,
-    }
-}
-
-/// A frame near what the reading expects.
-fn any_frame(random: &mut Random, expected: u32) -> Guarded {
-    let kinds = [Kind::Data, Kind::Data, Kind::Data, Kind::Marker, Kind::Eod];
-    let number = match random.below(20) {
-        0 => expected.wrapping_sub(1),
-        1 if random.chance(100) => expected + 1,
-        _ => expected,
-    };
-    let kind = random.one_of(&kinds).copied().unwrap_or(Kind::Data);
-    let label = Label {
-        kind: if kind == Kind::Eod && random.chance(950) {
-            Kind::Data
-        } else {
-            kind
-        },
-        pass: if random.chance(900) { 7 } else { 6 },
-        last: Address(3_000),
-        number: SequenceNumber(number),
-        filemarks: random.below(3),
-        latest_marker: None,
-    };
-    let mut frame = Box::new([0; FRAME_LENGTH]);
-    fill_frame(&mut frame, &label, Some(block(random.byte().into())));
-    if random.chance(60) {
-        let at = BLOCK_LENGTH + usize::try_from(random.below(210)).unwrap_or(0);
-        frame[at] ^= 1 << random.below(8);
-    }
-    let length = if random.chance(20) { 5 } else { FRAME_LENGTH };
-    Guarded::of(&frame[..length])
-}
-
-/// A reply that is often one for where the reading stands.
-fn any_read_reply(random: &mut Random, session: &ffi::Reading) -> Reply {
-    let sense = match random.below(12) {
-        0 => any_sense(random),
-        1 => BECOMING_READY,
-        2 => adr_model::reply::BLANK,
-        3 => adr_model::reply::UNREADABLE,
-        4 => adr_model::reply::RECOVERED,
-        _ => GOOD,
-    };
-    Reply::of(match session.exchange.command.code {
-        ffi::LOCATE if random.chance(950) => GOOD,
-        _ => sense,
-    })
-}
-
-/// A call of any kind; the refusal, 0 for none.
-fn any_read_call(random: &mut Random, session: &mut ComparedReading) -> u8 {
-    if random.chance(550) {
-        return match session.fetch() {
-            ReadAnswer::Refused(number) => number,
-            _ => 0,
-        };
-    }
-    let frame = any_frame(random, session.layer.expected);
-    let lent = frame.clone();
-    let outcome = session.reply(&any_read_reply(random, &session.layer), &lent);
-    assert!(lent == frame, "{outcome:?} altered the frame");
-    match outcome {
-        ReadOutcome::Refused(number) => number,
-        _ => 0,
-    }
 }
 
 /// Lists of a reading's calls with frames of every kind.
@@ -483,19 +277,9 @@ fn any_reading() {
         let mut random = Random::new(u64::from(seed) + 99);
         let geometry = Geometry::beginning(3_001, 1);
         let (mut session, _) = ComparedReading::open(&geometry, newest.as_slice());
-        for _ in 0..random.below(400) {
-            let before = session.clone();
-            let number = any_read_call(&mut random, &mut session);
-            right(session.wrong(), seed);
-            match number {
-                0 => {}
-                1..=7 => assert!(before == session, "seed {seed}"),
-                number => {
-                    ends[usize::from(number)] += 1;
-                    break;
-                }
-            }
-        }
+        let calls = random.below(400);
+        let end = make_any_reads(seed, &mut random, &mut session, 10, calls);
+        ends[usize::from(end)] += 1;
     }
     println!("{ends:?}");
     assert!(

@@ -116,7 +116,11 @@ fn marker_address_after_an_error() {
 
 /// Reads frames from these addresses; what comes of the reading.
 fn read(header: &[u8], frames: &[(u32, Vec<u8>)]) -> Result<Vec<String>, Refusal> {
-    let mut reader = Reader::open(GEOMETRY, header)?;
+    read_with(&mut Reader::open(GEOMETRY, header)?, frames)
+}
+
+/// Reads on with a reader, which is then at its end or refused.
+fn read_with(reader: &mut Reader, frames: &[(u32, Vec<u8>)]) -> Result<Vec<String>, Refusal> {
     let blank = vec![0; FRAME_LENGTH];
     let mut delivered = Vec::new();
     while let ReadNext::Send(command) = reader.fetch()? {
@@ -285,4 +289,114 @@ fn refusals_of_a_reading() {
     let early = Reply::sense(Sense::EARLY_END);
     assert_eq!(reader.reply(early, &frame), Err(Refusal::Reply));
     assert_eq!(reader.fetch(), Err(Refusal::Phase));
+}
+
+/// A reader at the end of these frames.
+fn read_to_end(header: &[u8], frames: &[(u32, Vec<u8>)]) -> Reader {
+    let mut reader = Reader::open(GEOMETRY, header).expect("opens");
+    read_with(&mut reader, frames).expect("reads to its end");
+    reader
+}
+
+/// What stands on tape behind a recording that was added.
+struct Added {
+    frames: Vec<(u32, Vec<u8>)>,
+    /// The header of the opening.
+    opening: Vec<u8>,
+    /// The header of the end.
+    closing: Vec<u8>,
+}
+
+/// A block added behind [`recorded`], whose first write fails at the old end
+/// while the old EOD still reads.
+fn added() -> Added {
+    let (mut frames, header) = recorded();
+    let reader = read_to_end(&header, &frames);
+    let mut recorder = Recorder::open_at_end(&reader, 8, 2).expect("opens");
+    assert_eq!(recorder.accept_block(&[3; BLOCK_LENGTH]), Ok(()));
+    let opening = write_headers(&mut recorder);
+    step(&mut recorder, locate(16), Reply::good());
+    step(&mut recorder, write(16), Reply::good());
+    step(&mut recorder, Command::ReadPosition, error(16, 2));
+    step(&mut recorder, locate(18), Reply::good());
+    frames.push((18, step(&mut recorder, write(18), Reply::good())));
+    assert_eq!(recorder.close(), Ok(()));
+    step(&mut recorder, Command::ReadPosition, Reply::buffered(0));
+    frames.push((19, step(&mut recorder, write(19), Reply::good())));
+    step(&mut recorder, Command::ReadPosition, Reply::buffered(0));
+    let closing = write_headers(&mut recorder);
+    assert_eq!(recorder.fetch(), Ok(Next::Done));
+    Added {
+        frames,
+        opening,
+        closing,
+    }
+}
+
+#[test]
+fn added_behind_the_old_end() {
+    let (_, before) = recorded();
+    let Added {
+        frames,
+        opening,
+        closing,
+    } = added();
+    // Pass, count, EOD's address and old end of both headers.
+    let says = |header: &[u8]| {
+        let eod = u32::from_be_bytes(header[32..36].try_into().expect("four bytes"));
+        let count = number_at(header, 12) - number_at(&before, 12);
+        assert_eq!(header[22..24], before[22..24]);
+        (count, eod, number_at(header, 224))
+    };
+    assert_eq!(says(&opening), (1, 0, 16));
+    assert_eq!(says(&closing), (2, 19, 0));
+    for (address, number) in [(18, 3), (19, 4)] {
+        let (_, frame) = frames.iter().find(|(at, _)| *at == address).expect("frame");
+        assert_eq!((number_at(frame, 44), number_at(frame, 192)), (number, 1));
+        assert_eq!((number_at(frame, 200), number_at(frame, 224)), (14, 0));
+    }
+    let delivered = read(&closing, &frames);
+    let expected = ["block of 1", "filemark", "block of 2", "block of 3", "end"];
+    assert_eq!(delivered, Ok(expected.map(String::from).to_vec()));
+    // On the header of the opening, the old EOD is the end.
+    let delivered = read(&opening, &frames);
+    let expected = ["block of 1", "filemark", "block of 2", "end"];
+    assert_eq!(delivered, Ok(expected.map(String::from).to_vec()));
+}
+
+#[test]
+fn refusals_of_openings_at_the_end() {
+    let Added {
+        frames,
+        opening,
+        closing,
+    } = added();
+    let open =
+        |reader: &Reader, depth, blocks| Recorder::open_at_end(reader, depth, blocks).map(|_| ());
+    let unread = Reader::open(GEOMETRY, &closing).expect("opens");
+    assert_eq!(open(&unread, 0, 0), Err(Refusal::Phase));
+    let reader = read_to_end(&closing, &frames);
+    for (depth, blocks) in [(0, 1), (256, 1), (1, 0), (1, 65), (1, 320)] {
+        assert_eq!(open(&reader, depth, blocks), Err(Refusal::Capacity));
+    }
+    for (depth, blocks) in [(1, 1), (255, 64)] {
+        assert_eq!(open(&reader, depth, blocks), Ok(()));
+    }
+    let with = |at: usize, bytes: [u8; 4]| {
+        let mut header = closing.clone();
+        header[at..at + 4].copy_from_slice(&bytes);
+        read_to_end(&header, &frames)
+    };
+    let counted = |count: u32| with(BLOCK_LENGTH + 12, count.to_be_bytes());
+    assert_eq!(open(&counted(4_294_967_293), 1, 1), Ok(()));
+    assert_eq!(open(&counted(4_294_967_294), 1, 1), Err(Refusal::Exhausted));
+    assert_eq!(open(&counted(u32::MAX), 0, 1), Err(Refusal::Capacity));
+    // The header names no end, or another.
+    let elsewhere = Err(Refusal::EndElsewhere);
+    assert_eq!(open(&read_to_end(&opening, &frames), 1, 1), elsewhere);
+    assert_eq!(open(&with(32, 18u32.to_be_bytes()), 1, 1), elsewhere);
+    // The reading was refused.
+    let mut refused = Reader::open(GEOMETRY, &closing).expect("opens");
+    assert_eq!(read_with(&mut refused, &frames[1..]), Err(Refusal::Missing));
+    assert_eq!(open(&refused, 1, 1), Err(Refusal::Phase));
 }

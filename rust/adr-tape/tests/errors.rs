@@ -3,10 +3,10 @@
 use std::error::Error;
 use std::fmt;
 
-use adr_tape::{HeaderError, ReadError, RecordError, Refusal};
+use adr_tape::{AppendError, HeaderError, ReadError, RecordError, Refusal};
 
 /// An error of the host's own.
-#[derive(Debug, PartialEq)]
+#[derive(Clone, Copy, Debug, PartialEq)]
 struct Cable;
 
 impl fmt::Display for Cable {
@@ -45,4 +45,13 @@ fn a_reading_fails() {
     comes_from(&Failed::Refused(Refusal::Missing), &Refusal::Missing);
     comes_from(&Failed::Drive(Cable), &Cable);
     comes_from(&Failed::Sink(fmt::Error), &fmt::Error);
+}
+
+#[test]
+fn an_addition_fails() {
+    type Failed = AppendError<Cable, fmt::Error>;
+    let read = ReadError::Drive(Cable);
+    comes_from(&Failed::Read(read), &read);
+    let record = RecordError::Source(fmt::Error);
+    comes_from(&Failed::Record(record), &record);
 }

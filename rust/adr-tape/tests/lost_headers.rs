@@ -1,14 +1,17 @@
 //! What `include/adr.h` says under WRITE PASSES: a recording whose closing
 //! headers are lost leaves frames of a pass that the next one takes again, and
-//! a recording without elements before that one helps.
+//! a recording without elements before that one helps. And what
+//! `Recorder::open_at_end` says: an addition that is lost so leaves frames that
+//! the next one's are mixed with.
 
 use std::collections::BTreeMap;
 use std::convert::Infallible;
 use std::ops::ControlFlow;
 
 use adr_tape::{
-    header_addresses, newest_header, read_all, record_all, Address, Drive, Element, Geometry,
-    ReadError, RecordError, Refusal, Reply, Sense, Summary, BLOCK_LENGTH,
+    append_all, header_addresses, newest_header, read_all, record_all, Address, AppendError,
+    Appended, Drive, Element, Geometry, ReadError, RecordError, Refusal, Reply, Sense, Summary,
+    BLOCK_LENGTH,
 };
 
 const GEOMETRY: Geometry = Geometry::beginning(3_001, 1);
@@ -79,6 +82,12 @@ impl Drive for Memory {
     }
 }
 
+/// Blocks of these bytes.
+fn blocks(bytes: &[u8]) -> impl Iterator<Item = Result<Element<'static>, Infallible>> + '_ {
+    let blocks = bytes.iter().map(|byte| vec![*byte; BLOCK_LENGTH]);
+    blocks.map(|block| Ok(Element::from(block)))
+}
+
 impl Memory {
     fn newest_header(&mut self) -> Option<Vec<u8>> {
         newest_header(self, GEOMETRY).expect("the headers agree")
@@ -91,22 +100,57 @@ impl Memory {
         bytes: &[u8],
         bad: &[u32],
     ) -> Result<Summary, RecordError<Infallible, Infallible>> {
-        let bad = bad.iter().map(|address| (Address(*address), Spot::Bad));
-        self.spots.extend(bad);
+        self.spoil(bad);
         let header = self.newest_header();
-        let blocks = bytes.iter().map(|byte| vec![*byte; BLOCK_LENGTH]);
-        let blocks = blocks.map(|block| Ok(Element::from(block)));
-        record_all(self, GEOMETRY, 1, 2, header.as_deref(), blocks, |_| {})
+        record_all(
+            self,
+            GEOMETRY,
+            1,
+            2,
+            header.as_deref(),
+            blocks(bytes),
+            |_| {},
+        )
     }
 
-    /// A recording of which one opening header reads, at 5, and all closing
-    /// ones fail: the header before it is the newest again.
-    fn lose(&mut self, bytes: &[u8], bad: &[u32]) {
+    /// Adds blocks of these bytes on the newest header, over these bad spots.
+    fn append(
+        &mut self,
+        bytes: &[u8],
+        bad: &[u32],
+    ) -> Result<Appended, AppendError<Infallible, Infallible>> {
+        self.spoil(bad);
+        let header = self.newest_header().expect("a header");
+        append_all(self, GEOMETRY, 1, 2, &header, blocks(bytes), |_| {})
+    }
+
+    fn spoil(&mut self, bad: &[u32]) {
+        let bad = bad.iter().map(|address| (Address(*address), Spot::Bad));
+        self.spots.extend(bad);
+    }
+
+    /// From now on one opening header reads, at 5, and all closing ones fail:
+    /// the header before them is the newest again.
+    fn wear_headers(&mut self) {
         let copies = header_addresses().map(|address| (address, Spot::Bad));
         self.spots.extend(copies);
         self.spots.insert(Address(5), Spot::Wearing);
+    }
+
+    /// A recording whose closing headers are lost.
+    fn lose(&mut self, bytes: &[u8], bad: &[u32]) {
+        self.wear_headers();
         let lost = self.record(bytes, bad);
         assert_eq!(lost, Err(RecordError::Refused(Refusal::NotFound)));
+        self.spots.clear();
+    }
+
+    /// An addition whose closing headers are lost.
+    fn lose_addition(&mut self, bytes: &[u8], bad: &[u32]) {
+        self.wear_headers();
+        let lost = self.append(bytes, bad);
+        let not_found = RecordError::Refused(Refusal::NotFound);
+        assert_eq!(lost, Err(AppendError::Record(not_found)));
         self.spots.clear();
     }
 
@@ -138,17 +182,18 @@ struct Lost {
     /// What a reading on the older header gives in between.
     between: (&'static [u8], Option<Refusal>),
     /// What is read in the end, without an empty recording.
-    wrong: &'static [u8],
+    wrong: (&'static [u8], Option<Refusal>),
 }
 
 const LOST: [Lost; 2] = [
-    // EOD fails at 11, where the lost recording's second block reads.
+    // EOD fails at 11, where the lost recording's second block reads; that
+    // one's EOD, at 12, stands below the end that the header names.
     Lost {
         before: &[1, 1, 1],
         lost: &[2, 2],
         bad: [&[], &[11]],
         between: (&[], Some(Refusal::Missing)),
-        wrong: &[3, 2],
+        wrong: (&[3, 2], Some(Refusal::NotFound)),
     },
     // The lost recording went on behind the older one's end, so that the older
     // one can be read to it; the block fails at 20 where its first reads.
@@ -157,7 +202,7 @@ const LOST: [Lost; 2] = [
         lost: &[2],
         bad: [&[10], &[10, 20]],
         between: (&[1], None),
-        wrong: &[2],
+        wrong: (&[2], None),
     },
 ];
 
@@ -174,8 +219,41 @@ fn an_empty_recording_leaves_the_lost_pass_behind() {
                 assert!(drive.record(&[], &[]).is_ok());
             }
             assert!(drive.record(&[3], case.bad[1]).is_ok());
-            let expected = if empty_first { &[3] } else { case.wrong };
-            assert_eq!(drive.read(), (expected.to_vec(), None));
+            let expected = if empty_first {
+                (&[3][..], None)
+            } else {
+                case.wrong
+            };
+            let (bytes, refusal) = drive.read();
+            assert_eq!((bytes.as_slice(), refusal), expected);
         }
     }
+}
+
+/// The first block of the lost addition fails at 12, where the end still reads
+/// on; so its blocks stand at 22 and 23, and the header before it still leads
+/// to that end. The next one's end of data fails at 13, and at 23 too.
+#[test]
+fn a_lost_addition_is_mixed_with_the_next() {
+    let mut drive = Memory::default();
+    assert!(drive.record(&[1, 1], &[]).is_ok());
+    drive.lose_addition(&[2, 2], &[12]);
+    assert_eq!(drive.read(), (vec![1, 1], None));
+    assert!(drive.append(&[3], &[13, 23]).is_ok());
+    let mixed = (vec![1, 1, 3, 2], Some(Refusal::NotFound));
+    assert_eq!(drive.read(), mixed);
+}
+
+/// The same bad spots do no harm to additions that were all done.
+#[test]
+fn additions_over_bad_spots() {
+    let mut drive = Memory::default();
+    assert!(drive.record(&[1, 1], &[]).is_ok());
+    assert!(drive.append(&[2, 2], &[12]).is_ok());
+    assert_eq!(drive.read(), (vec![1, 1, 2, 2], None));
+    // The end stands at 24 by now.
+    assert!(drive.append(&[3], &[24, 34]).is_ok());
+    assert_eq!(drive.read(), (vec![1, 1, 2, 2, 3], None));
+    assert!(drive.append(&[], &[]).is_ok());
+    assert_eq!(drive.read(), (vec![1, 1, 2, 2, 3], None));
 }

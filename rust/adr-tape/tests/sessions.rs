@@ -4,14 +4,14 @@ mod compared;
 
 use adr_model::check::content::block;
 use adr_model::check::guarded::Guarded;
-use adr_model::check::layer::{ReadingCalls, RecordingCalls};
-use adr_model::frame::{fill_header, HeaderFields};
+use adr_model::check::layer::{Layer, ReadingCalls, RecordingCalls};
+use adr_model::frame::{fill_frame, fill_header, HeaderFields, Kind, Label};
 use adr_model::geometry::{BLOCK_LENGTH, FRAME_LENGTH};
 use adr_model::reply::{GOOD, WRITE_ERROR};
-use adr_model::{Address, Geometry, Reply};
+use adr_model::{Address, Geometry, Outcome, Reply, SequenceNumber};
 use adr_tape::ffi;
 use compared::sessions::{reading_state, recording_state};
-use compared::{ComparedReading, ComparedRecording};
+use compared::{Compared, ComparedReading, ComparedRecording};
 
 const GEOMETRY: Geometry = Geometry {
     frames_per_track: 3_001,
@@ -21,7 +21,7 @@ const GEOMETRY: Geometry = Geometry {
 
 type Alter<S> = (&'static str, fn(&mut S));
 
-const IN_EVERY_STAGE: [Alter<ffi::Recording>; 11] = [
+const IN_EVERY_STAGE: [Alter<ffi::Recording>; 12] = [
     ("depth", |s| s.setup.depth += 1),
     ("window", |s| s.setup.highest += 1),
     ("stage", |s| s.stage ^= 1),
@@ -31,6 +31,7 @@ const IN_EVERY_STAGE: [Alter<ffi::Recording>; 11] = [
     ("again", |s| s.exchange.again ^= 1),
     ("last", |s| s.copies.header.last += 1),
     ("header's eod", |s| s.copies.header.eod += 1),
+    ("header's old end", |s| s.copies.header.old += 1),
     ("update count", |s| s.copies.header.update += 1),
     ("pass", |s| s.copies.header.pass += 1),
 ];
@@ -57,14 +58,19 @@ const OF_ELEMENTS: [Alter<ffi::Recording>; 9] = [
     }),
 ];
 
-const OF_READING: [Alter<ffi::Reading>; 9] = [
+const OF_READING: [Alter<ffi::Reading>; 14] = [
     ("last", |s| s.told.last += 1),
+    ("header's eod", |s| s.told.eod += 1),
+    ("header's old end", |s| s.told.old += 1),
+    ("update count", |s| s.told.update += 1),
     ("pass", |s| s.told.pass += 1),
-    ("next", |s| s.next += 1),
+    ("next", |s| s.position.next += 1),
     ("expected", |s| s.expected += 1),
+    ("filemarks", |s| s.trail.filemarks += 1),
+    ("marker", |s| s.trail.marker ^= 1),
     ("awaiting", |s| s.exchange.awaiting ^= 1),
     ("again", |s| s.exchange.again ^= 1),
-    ("LOCATE", |s| s.locate ^= 1),
+    ("LOCATE", |s| s.position.locate ^= 1),
     ("finished", |s| s.finished ^= 1),
     ("ended", |s| s.ended ^= 1),
 ];
@@ -101,9 +107,9 @@ impl Host {
     }
 }
 
-#[test]
-fn recordings() {
-    let (session, _) = ComparedRecording::open(&GEOMETRY, 3, 4, None);
+/// Looks at a recording whose first element goes to this address, from its
+/// opening to done.
+fn seen_in_every_stage(session: ComparedRecording, start: u32) {
     let mut host = Host {
         session,
         window: Guarded::filled(0, 4 * BLOCK_LENGTH),
@@ -127,7 +133,7 @@ fn recordings() {
     all_seen(&host.session, &[("next", |s| s.elements.next += 1)]);
     let error = Reply {
         sense: WRITE_ERROR,
-        position: Address(11),
+        position: Address(start + 1),
         ..Reply::of(GOOD)
     };
     host.exchange(&error);
@@ -142,27 +148,78 @@ fn recordings() {
 }
 
 #[test]
-fn readings() {
+fn recordings() {
+    let (session, _) = ComparedRecording::open(&GEOMETRY, 3, 4, None);
+    seen_in_every_stage(session, 10);
+}
+
+#[test]
+fn recordings_at_the_end() {
+    let reading = read_to_end();
+    let (session, outcome) = Compared::open_at_end(&reading, 3, 4);
+    assert_eq!(outcome, Outcome::Accepted);
+    seen_in_every_stage(session, 13);
+}
+
+fn frame(kind: Kind, number: u32) -> Guarded {
+    let label = Label {
+        kind,
+        pass: 7,
+        last: Address(3_000),
+        number: SequenceNumber(number),
+        filemarks: 0,
+        latest_marker: None,
+    };
+    let mut frame = Box::new([0; FRAME_LENGTH]);
+    fill_frame(&mut frame, &label, None);
+    Guarded::of(frame.as_slice())
+}
+
+/// A reading of a block, a filemark and EOD with another frame before; all is
+/// seen at each step.
+fn read_to_end() -> ComparedReading {
     let mut header = Box::new([0; FRAME_LENGTH]);
     let fields = HeaderFields {
         pass: 7,
         update_count: 3,
         last: Address(3_000),
-        eod: Address(0),
+        eod: Address(13),
+        old_end: Address(0),
     };
     fill_header(&mut header, &fields);
     let (mut session, _) = ComparedReading::open(&GEOMETRY, header.as_slice());
-    let frame = Guarded::filled(0, FRAME_LENGTH);
-    for _ in 0..4 {
-        let model = Ok(session.model.state());
-        assert_eq!(reading_state(&session.layer), model);
-        for (name, alter) in OF_READING {
-            let mut altered = session.layer;
-            alter(&mut altered);
-            assert_ne!(reading_state(&altered), model, "{name}");
-        }
+    // The first goes with LOCATE.
+    let frames = [
+        Guarded::filled(0, FRAME_LENGTH),
+        frame(Kind::Data, 0),
+        Guarded::filled(0, FRAME_LENGTH),
+        frame(Kind::Marker, 1),
+        frame(Kind::Eod, 2),
+    ];
+    all_seen_of_reading(&session);
+    for frame in frames {
         session.fetch();
         session.reply(&Reply::of(GOOD), &frame);
         assert_eq!(session.wrong(), None);
+        all_seen_of_reading(&session);
     }
+    session
+}
+
+#[track_caller]
+fn all_seen_of_reading(session: &ComparedReading) {
+    let model = Ok(session.model.state());
+    assert_eq!(reading_state(&session.layer), model);
+    for (name, alter) in OF_READING {
+        let mut altered = session.layer;
+        alter(&mut altered);
+        assert_ne!(reading_state(&altered), model, "{name}");
+    }
+}
+
+#[test]
+fn readings() {
+    let layer = read_to_end().layer;
+    assert_eq!((layer.finished, layer.position.next), (1, 14));
+    assert_eq!((layer.trail.filemarks, layer.trail.marker), (1, 12));
 }

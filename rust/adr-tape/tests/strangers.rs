@@ -36,6 +36,13 @@ impl<F: FnMut() -> u8> Bytes<F> {
         }
     }
 
+    fn trail(&mut self) -> ffi::Trail {
+        ffi::Trail {
+            filemarks: self.word(),
+            marker: self.word(),
+        }
+    }
+
     fn recording(&mut self) -> ffi::Recording {
         ffi::Recording {
             setup: ffi::Setup {
@@ -50,6 +57,7 @@ impl<F: FnMut() -> u8> Bytes<F> {
                 header: ffi::Header {
                     last: self.word(),
                     eod: self.word(),
+                    old: self.word(),
                     update: self.word(),
                     pass: self.half(),
                 },
@@ -64,10 +72,7 @@ impl<F: FnMut() -> u8> Bytes<F> {
                 next: self.word(),
                 limit: self.word(),
                 target: self.word(),
-                trail: ffi::Trail {
-                    filemarks: self.word(),
-                    marker: self.word(),
-                },
+                trail: self.trail(),
                 pending: self.half(),
                 outstanding: self.half(),
                 locate: self.byte(),
@@ -81,12 +86,18 @@ impl<F: FnMut() -> u8> Bytes<F> {
         ffi::Reading {
             told: ffi::Told {
                 last: self.word(),
+                eod: self.word(),
+                old: self.word(),
+                update: self.word(),
                 pass: self.half(),
             },
-            next: self.word(),
+            position: ffi::Position {
+                next: self.word(),
+                locate: self.byte(),
+            },
             expected: self.word(),
+            trail: self.trail(),
             exchange: self.exchange(),
-            locate: self.byte(),
             finished: self.byte(),
             ended: self.byte(),
         }
@@ -143,6 +154,11 @@ fn distinct_values_come_back() {
     );
     let taken = ffi::read_reply(session, reply, &frame);
     assert_eq!((taken.session, taken.answer, taken.number), (session, 0, 7));
+    // 7 comes before 4.
+    for depth in [1, 0, 256] {
+        let opened = ffi::record_open_at_end(session, depth, 1);
+        assert_eq!((opened.number, opened.session.ended), (7, 1));
+    }
 }
 
 /// A session of distinct numbers is altered in the fields a call names.
@@ -210,11 +226,20 @@ fn fields_are_where_they_are_named() {
     let reading = ffi::Reading {
         told: ffi::Told {
             last: 9_000,
+            eod: 510,
+            old: 8_000,
+            update: 1_234,
             pass: 77,
         },
-        next: 500,
+        position: ffi::Position {
+            next: 500,
+            locate: 1,
+        },
         expected: 60,
-        locate: 1,
+        trail: ffi::Trail {
+            filemarks: 17,
+            marker: 333,
+        },
         exchange: ffi::Exchange {
             command: ffi::Command {
                 code: ffi::READ,
@@ -233,9 +258,58 @@ fn fields_are_where_they_are_named() {
     (sent.exchange.command, sent.exchange.awaiting) = (command, 1);
     assert_eq!((fetched.session, fetched.command), (sent, command));
     let mut located = sent;
-    (located.exchange.awaiting, located.locate) = (0, 0);
+    (located.exchange.awaiting, located.position.locate) = (0, 0);
     let taken = ffi::read_reply(sent, ffi::Reply::default(), &[0; FRAME_LENGTH]);
     assert_eq!((taken.session, taken.answer), (located, ffi::NOTHING));
+    fields_of_an_opening_at_the_end(&located);
+}
+
+/// Each number of a reading comes to where an opening at its end names it.
+fn fields_of_an_opening_at_the_end(reading: &ffi::Reading) {
+    let mut at_end = *reading;
+    at_end.position.next = 511;
+    at_end.finished = 1;
+    let opened = ffi::record_open_at_end(at_end, 9, 21);
+    assert_eq!(opened.number, 0);
+    let session = opened.session;
+    let expected = ffi::Recording {
+        setup: ffi::Setup {
+            depth: 9,
+            highest: 20,
+        },
+        stage: 0,
+        closed: 0,
+        ended: 0,
+        exchange: session.exchange,
+        copies: ffi::Copies {
+            header: ffi::Header {
+                last: 9_000,
+                eod: 0,
+                old: 510,
+                update: 1_235,
+                pass: 77,
+            },
+            group: 0,
+            copy: 0,
+            outstanding: 0,
+            confirmed: 0,
+            locate: 1,
+        },
+        elements: ffi::Elements {
+            first: 60,
+            next: session.elements.next,
+            limit: 9_001,
+            target: 510,
+            trail: at_end.trail,
+            pending: 0,
+            outstanding: 0,
+            locate: 1,
+            eod: 0,
+            marks: [0; 64],
+        },
+    };
+    assert_eq!(session, expected);
+    assert_eq!((session.exchange.awaiting, session.exchange.again), (0, 0));
 }
 
 /// Makes a random session one that passes for a session.
@@ -390,7 +464,7 @@ fn readings_that_no_call_returned() {
         let mut bytes = Random::new(u64::from(seed) ^ 0xB17E);
         let mut session = Bytes(|| bytes.byte()).reading();
         let flags = [
-            &mut session.locate,
+            &mut session.position.locate,
             &mut session.finished,
             &mut session.ended,
             &mut session.exchange.awaiting,
@@ -418,7 +492,12 @@ fn readings_that_no_call_returned() {
             |_| false,
         );
         assert!(fetched.number <= 12 && taken.number <= 12, "seed {seed}");
+        let opened = ffi::record_open_at_end(session, 1 + random.below(300), 1);
+        let refused = opened.number != 0;
+        assert!(is_session(&opened.session), "seed {seed}");
+        assert_eq!(opened.session.ended, u8::from(refused), "seed {seed}");
         if !known {
+            assert_eq!(opened.number, 7, "seed {seed}");
             assert_eq!(
                 (fetched.number, fetched.session),
                 (7, session),

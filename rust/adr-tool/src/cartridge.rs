@@ -1,13 +1,12 @@
 //! An image in the simulated drive.
 
-use std::ops::ControlFlow;
 use std::path::Path;
 
 use adr_model::drive::Drive as SimulatedDrive;
 use adr_model::frame::Frame;
 use adr_tape::{
-    newest_header, read_all, record_all, Address, Element, Geometry, HeaderError, ReadError,
-    RecordError, Refusal, Reply, Sense, Summary, FRAME_LENGTH,
+    newest_header, read_with, record_with, Address, Element, Geometry, HeaderError, ReadError,
+    Reader, RecordError, Recorder, Refusal, Reply, Sense, Summary, FRAME_LENGTH,
 };
 
 use crate::failure::Failure;
@@ -21,6 +20,9 @@ use crate::size::bytes_in;
 
 /// Where an EOD address stands in a header.
 const EOD_ADDRESS: std::ops::Range<usize> = 32..36;
+
+/// What helps where a cartridge cannot be read.
+const IF_UNREADABLE: &str = "use a copy of the file, or 'adr salvage' for what is left";
 
 /// The address of the end of data that a header tells.
 fn end_of_data(header: &[u8]) -> Address {
@@ -45,6 +47,15 @@ impl WriteError {
         let position = adr_model::Address(self.position.0);
         Address(position.plus(self.skip.max(1)).out_of_gap().0)
     }
+}
+
+/// The end of a cartridge that was read.
+pub struct End {
+    reader: Reader,
+    /// The jobs before it.
+    pub jobs: u64,
+    /// Whether a filemark ends the last of them.
+    pub closed: bool,
 }
 
 /// A cartridge in the drive.
@@ -123,6 +134,36 @@ impl Cartridge {
         Ok(header)
     }
 
+    /// The header of a recording that can be added to. Only the newest of all
+    /// tells where it ends; so every copy must be whole.
+    pub fn header_for_appending(&mut self) -> Result<Vec<u8>, Failure> {
+        let header = self.header_of_frames(IF_UNREADABLE)?;
+        self.image().require_whole_headers()?;
+        let cannot = |why: &str| {
+            let path = self.image().path().display();
+            Failure::new(format!("{path}: {why}"))
+        };
+        let header = header.ok_or_else(|| {
+            cannot("the cartridge holds no recording to add to: record without '--append'")
+        })?;
+        // The layer would refuse it too, but only when all was read.
+        if end_of_data(&header) == Address(0) {
+            return Err(cannot(
+                "the last recording was not closed, and nothing can be added behind it; \
+                 nothing was changed: restore what can be read, and use another cartridge",
+            ));
+        }
+        Ok(header)
+    }
+
+    /// Refuses sizes that no recording takes, before a tape is read for one.
+    pub fn require_sizes(&self, (depth, window): (u32, u32)) -> Result<(), Failure> {
+        match Recorder::open(self.geometry, depth, window, None) {
+            Err(Refusal::Capacity) => Err(Failure::usage(Refusal::Capacity)),
+            _ => Ok(()),
+        }
+    }
+
     /// How much the cartridge holds, and how much of that is free.
     pub fn room(&mut self) -> Result<Room, Failure> {
         let end = self.header()?.as_deref().map(end_of_data);
@@ -134,26 +175,42 @@ impl Cartridge {
         self.image().known().any(|(_, reads, _)| reads)
     }
 
-    /// Records elements and puts the recording in force.
+    /// Records elements from the beginning and puts the recording in force.
     pub fn record(
         &mut self,
         (depth, window): (u32, u32),
         elements: impl Iterator<Item = Result<Element<'static>, Failure>>,
-        mut progress: impl FnMut(&Summary),
+        progress: impl FnMut(&Summary),
     ) -> Result<Summary, Failure> {
         let header = self.header_for_recording()?;
-        let header = header.as_deref();
-        let geometry = self.geometry;
+        let opened = Recorder::open(self.geometry, depth, window, header.as_deref());
+        self.record_with(opened, elements, progress)
+    }
+
+    /// Records elements behind what was read and puts them in force with it.
+    /// A job there that has no filemark gets one first: it would go on with
+    /// the new blocks.
+    pub fn append(
+        &mut self,
+        end: &End,
+        (depth, window): (u32, u32),
+        elements: impl Iterator<Item = Result<Element<'static>, Failure>>,
+        progress: impl FnMut(&Summary),
+    ) -> Result<Summary, Failure> {
+        let opened = Recorder::open_at_end(&end.reader, depth, window);
+        let filemark = (!end.closed).then_some(Ok(Element::Filemark));
+        self.record_with(opened, filemark.into_iter().chain(elements), progress)
+    }
+
+    fn record_with(
+        &mut self,
+        opened: Result<Recorder, Refusal>,
+        elements: impl Iterator<Item = Result<Element<'static>, Failure>>,
+        progress: impl FnMut(&Summary),
+    ) -> Result<Summary, Failure> {
         self.image_mut().give_back_leavings();
-        let recorded = record_all(
-            self,
-            geometry,
-            depth,
-            window,
-            header,
-            elements,
-            &mut progress,
-        );
+        let opened = opened.map_err(RecordError::from);
+        let recorded = opened.and_then(|recorder| record_with(self, recorder, elements, progress));
         let recorded = recorded.map_err(|error| match error {
             RecordError::Refused(Refusal::Capacity) => Failure::usage(Refusal::Capacity),
             RecordError::Refused(refusal) => self.refused("recording stopped", refusal),
@@ -165,26 +222,6 @@ impl Cartridge {
         Ok(summary)
     }
 
-    /// Reads elements to the end of data, or until `sink` breaks. An empty
-    /// cartridge has none.
-    fn read(
-        &mut self,
-        sink: impl FnMut(Element<'_>) -> Result<ControlFlow<()>, Failure>,
-        progress: &mut Progress,
-    ) -> Result<Summary, ReadError<Failure, Failure>> {
-        let header =
-            self.header_of_frames("use a copy of the file, or 'adr salvage' for what is left");
-        let Some(header) = header.map_err(ReadError::Drive)? else {
-            return Ok(Summary::default());
-        };
-        let end = u64::from(end_of_data(&header).0);
-        let geometry = self.geometry;
-        read_all(self, geometry, &header, sink, |summary| {
-            let bytes = bytes_in(summary.blocks);
-            progress.update(bytes, u64::from(summary.address.0), Some(end));
-        })
-    }
-
     /// Reads jobs to the end of data, or until `taker` breaks. An empty
     /// cartridge has none.
     pub fn read_jobs<'t>(
@@ -192,16 +229,42 @@ impl Cartridge {
         taker: &'t mut Taker<'t>,
         progress: &mut Progress,
     ) -> Result<u64, Failure> {
+        let Some(header) = self.header_of_frames(IF_UNREADABLE)? else {
+            return Ok(0);
+        };
+        let end = self.read_to_end(&header, taker, progress)?;
+        if end.closed {
+            return Ok(end.jobs);
+        }
+        Err(Failure::new(format!(
+            "{}: job {} has no filemark at its end",
+            self.image().path().display(),
+            end.jobs
+        )))
+    }
+
+    /// Reads jobs on the newest header, as [`Cartridge::read_jobs`] does, and
+    /// tells where the reading ended.
+    pub fn read_to_end<'t>(
+        &mut self,
+        header: &[u8],
+        taker: &'t mut Taker<'t>,
+        progress: &mut Progress,
+    ) -> Result<End, Failure> {
+        let opened = Reader::open(self.geometry, header);
+        let mut reader = opened.map_err(|refusal| self.refused("reading stopped", refusal))?;
+        let end = u64::from(end_of_data(header).0);
         let mut jobs = Jobs::new(taker);
         let mut stopped = false;
-        let read = self.read(
-            |element| {
-                let flow = jobs.take(&element)?;
-                stopped = flow.is_break();
-                Ok(flow)
-            },
-            progress,
-        );
+        let sink = |element: Element<'_>| {
+            let flow = jobs.take(&element)?;
+            stopped = flow.is_break();
+            Ok(flow)
+        };
+        let read = read_with(self, &mut reader, sink, |summary| {
+            let bytes = bytes_in(summary.blocks);
+            progress.update(bytes, u64::from(summary.address.0), Some(end));
+        });
         match read {
             // What the jobs are handed to tells itself where it failed.
             Err(ReadError::Sink(failure)) => Err(failure),
@@ -210,12 +273,11 @@ impl Cartridge {
                 let stopped = jobs.place(self.refused("reading stopped", refusal));
                 Err(stopped.with("'adr salvage' restores the jobs behind it that are whole"))
             }
-            Ok(_) if jobs.is_within() && !stopped => Err(Failure::new(format!(
-                "{}: job {} has no filemark at its end",
-                self.image().path().display(),
-                jobs.begun()
-            ))),
-            Ok(_) => Ok(jobs.begun()),
+            Ok(_) => Ok(End {
+                reader,
+                jobs: jobs.begun(),
+                closed: stopped || !jobs.is_within(),
+            }),
         }
     }
 

@@ -26,6 +26,7 @@ mod record;
 mod restore;
 mod room;
 mod salvage;
+mod shelf;
 mod size;
 #[allow(unsafe_code)]
 mod system;

@@ -16,13 +16,14 @@ use crate::job::source::{Elements, Input};
 use crate::output;
 use crate::progress::Progress;
 use crate::room::{frames_of_job, Room};
+use crate::shelf::Shelf;
 use crate::size::bytes_in;
 use crate::text::{amount, count, grouped, printable};
 
 /// The options of `record`.
 pub const OPTIONS: Options = Options {
     valued: &["--name", "--faults", "--depth", "--window"],
-    plain: &["--allow-empty", "--overwrite", "--quiet"],
+    plain: &["--allow-empty", "--append", "--overwrite", "--quiet"],
 };
 
 /// Frames that the simulated drive buffers.
@@ -35,26 +36,38 @@ pub fn run(arguments: &Arguments) -> Result<(), Failure> {
     let (path, files) = arguments.image()?;
     let depth = arguments.number("--depth")?.unwrap_or(DEPTH);
     let window = arguments.number("--window")?.unwrap_or(WINDOW);
+    let sizes = (depth, window);
     let seed = arguments.number("--faults")?;
     let name = arguments.value("--name");
+    if arguments.has("--append") && arguments.has("--overwrite") {
+        return Err(Failure::usage("give --append or --overwrite, not both"));
+    }
     let inputs = inputs(path, files, name)?;
     let jobs = u64::try_from(inputs.len()).unwrap_or(u64::MAX);
     let total = known_length(&inputs);
+    let quiet = arguments.has("--quiet");
 
     let mut cartridge = Cartridge::load(path, Access::Record, depth, seed)?;
-    if !arguments.has("--overwrite") {
-        refuse_content(&cartridge, path)?;
-    }
-    refuse_too_much(&cartridge, path, &inputs)?;
-    tell_names_that_come_again(&inputs);
     interruption::watch();
-    let quiet = arguments.has("--quiet");
+    let shelf = if arguments.has("--append") {
+        cartridge.require_sizes(sizes)?;
+        read_shelf(&mut cartridge, path, &inputs, quiet)?
+    } else {
+        require_place(&cartridge, path, &inputs, arguments.has("--overwrite"))?;
+        Shelf::default()
+    };
+    tell_names_that_come_again(&inputs, &shelf);
     let mut progress = Progress::new("recording", quiet);
-    let mut elements = Elements::new(inputs, arguments.has("--allow-empty"));
-    let summary = cartridge.record((depth, window), &mut elements, |summary| {
+    let update = |summary: &Summary| {
         let bytes = bytes_in(summary.blocks);
         progress.update(bytes, bytes, total);
-    })?;
+    };
+    let elements = Elements::new(inputs, arguments.has("--allow-empty"));
+    let mut elements = elements.behind(shelf.jobs());
+    let summary = match shelf.end() {
+        None => cartridge.record(sizes, &mut elements, update),
+        Some(end) => cartridge.append(end, sizes, &mut elements, update),
+    }?;
     drop(progress);
     if !quiet {
         if std::io::stderr().is_terminal() {
@@ -65,6 +78,39 @@ pub fn run(arguments: &Arguments) -> Result<(), Failure> {
     tell_changed(path, elements.changed())
 }
 
+/// Refuses files that cannot be recorded from the beginning on.
+fn require_place(
+    cartridge: &Cartridge,
+    path: &Path,
+    inputs: &[Input],
+    overwrite: bool,
+) -> Result<(), Failure> {
+    if !overwrite {
+        refuse_content(cartridge, path)?;
+    }
+    let room = Room::new(cartridge.image().geometry(), None).map_err(Failure::new)?;
+    refuse_too_much(&room, path, inputs)
+}
+
+/// Reads what the cartridge holds, if there is room behind it.
+fn read_shelf(
+    cartridge: &mut Cartridge,
+    path: &Path,
+    inputs: &[Input],
+    quiet: bool,
+) -> Result<Shelf, Failure> {
+    let header = cartridge.header_for_appending()?;
+    refuse_too_much(&cartridge.room()?, path, inputs)?;
+    let shelf = Shelf::read(cartridge, &header, quiet)?;
+    if let Some(end) = shelf.end().filter(|end| !end.closed) {
+        let (shown, job) = (path.display(), end.jobs);
+        output::message(format!(
+            "{shown}: job {job} has no filemark at its end: one is recorded before the new jobs"
+        ));
+    }
+    Ok(shelf)
+}
+
 /// The bytes of all inputs together, if they are known.
 fn known_length(inputs: &[Input]) -> Option<u64> {
     inputs.iter().try_fold(0u64, |sum, input| {
@@ -73,38 +119,40 @@ fn known_length(inputs: &[Input]) -> Option<u64> {
 }
 
 /// Refuses files of known length that the cartridge has no room for.
-fn refuse_too_much(cartridge: &Cartridge, path: &Path, inputs: &[Input]) -> Result<(), Failure> {
-    let room = Room::new(cartridge.image().geometry(), None).map_err(Failure::new)?;
+fn refuse_too_much(room: &Room, path: &Path, inputs: &[Input]) -> Result<(), Failure> {
+    let free = room.free();
+    let what = if room.is_empty() { "" } else { " free" };
     let mut needed = 0u64;
     let mut full = None;
     for input in inputs {
         let length = input.description().length.unwrap_or(0);
         needed = needed.saturating_add(frames_of_job(length));
-        if needed > room.frames {
+        if needed > free {
             full.get_or_insert(input.shown().display());
         }
     }
     match full {
         None => Ok(()),
         Some(file) => Err(Failure::new(format!(
-            "{}: the files take {} frames, and the cartridge has at most {} ({}): \
+            "{}: the files take {} frames, and the cartridge has at most {}{what} ({}): \
              it would be full in '{file}'; nothing was changed: \
              record fewer or smaller files, or use a larger cartridge",
             path.display(),
             grouped(needed),
-            grouped(room.frames),
-            amount(bytes_in(room.frames)),
+            grouped(free),
+            amount(bytes_in(free)),
         ))),
     }
 }
 
 /// Tells jobs that have the name of an earlier one: they are recorded, but
 /// two files of one name cannot be restored to one directory.
-fn tell_names_that_come_again(inputs: &[Input]) {
+fn tell_names_that_come_again(inputs: &[Input], shelf: &Shelf) {
     let mut first: BTreeMap<&[u8], u64> = BTreeMap::new();
-    for (number, input) in (1..).zip(inputs) {
+    for (number, input) in (shelf.jobs().saturating_add(1)..).zip(inputs) {
         let name = input.description().name.as_slice();
-        let earlier = *first.entry(name).or_insert(number);
+        let there = shelf.first_named(name).unwrap_or(number);
+        let earlier = *first.entry(name).or_insert(there);
         if earlier != number {
             output::message(format!(
                 "job {number}, '{}': job {earlier} has that name too, \
@@ -138,7 +186,8 @@ fn refuse_content(cartridge: &Cartridge, path: &Path) -> Result<(), Failure> {
     }
     Err(Failure::new(format!(
         "{}: the cartridge holds a recording, and a new one replaces it; \
-         nothing was changed: use '--overwrite' to replace it, or another cartridge",
+         nothing was changed: use '--overwrite' to replace it, or another cartridge; \
+         '--append' records behind it",
         path.display()
     )))
 }

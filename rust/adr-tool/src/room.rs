@@ -26,7 +26,7 @@ pub fn frames_of_job(length: u64) -> u64 {
 #[derive(Clone, Copy, Debug, PartialEq, Eq)]
 pub struct Room {
     /// All of them.
-    pub frames: u64,
+    frames: u64,
     /// Those before the end of data.
     used: u64,
 }
@@ -41,6 +41,16 @@ impl Room {
             used: user_frames_below(end),
         })
     }
+
+    /// Whether nothing stands before the end of data.
+    pub fn is_empty(&self) -> bool {
+        self.used == 0
+    }
+
+    /// The frames behind the end of data.
+    pub fn free(&self) -> u64 {
+        self.frames.saturating_sub(self.used)
+    }
 }
 
 impl fmt::Display for Room {
@@ -50,7 +60,7 @@ impl fmt::Display for Room {
             "capacity at most {}: {} used, at most {} free",
             amount(bytes_in(self.frames)),
             amount(bytes_in(self.used)),
-            amount(bytes_in(self.frames.saturating_sub(self.used))),
+            amount(bytes_in(self.free())),
         )
     }
 }
@@ -76,6 +86,11 @@ mod tests {
             (3_001, 2_981),
         ] {
             assert_eq!(user_frames_below(below), frames, "below {below}");
+        }
+        let geometry = Geometry::beginning(3_001, 1);
+        for (end, free) in [(None, 2_980), (Some(10), 2_980), (Some(3_000), 0)] {
+            let room = Room::new(geometry, end.map(Address)).expect("a cartridge");
+            assert_eq!((room.free(), room.is_empty()), (free, free > 0));
         }
         for (length, frames) in [(0, 3), (1, 4), (32_768, 4), (32_769, 5)] {
             assert_eq!(frames_of_job(length), frames, "{length} bytes");

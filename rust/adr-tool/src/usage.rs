@@ -23,6 +23,7 @@ commands:
 examples:
   adr format parts.adr
   tar c parts | adr record parts.adr -
+  adr record --append parts.adr more.tar
   adr restore parts.adr 1 | tar x
 
 exit status: 0 done, 1 failed, 2 wrong command line
@@ -49,16 +50,24 @@ usage: adr record [OPTION...] IMAGE FILE...
 
 Records files, each as a job under its name without directories; '-' is
 standard input. A recording starts at the beginning of the cartridge: one that
-holds jobs is not recorded without --overwrite, which replaces all of them.
+holds jobs is not recorded without --overwrite, which replaces all of them, or
+--append, which adds to them.
 
 The old content stays in force until the new is whole: after a power cut, on a
 full disk or when this is interrupted, the image holds what it held before.
 Room in the file that the cartridge does not need is then given back.
 
+With --append the cartridge is read to its end, and the files are recorded
+behind its jobs, with the numbers that follow. It is refused, and nothing is
+changed, where there is no recording, where the last one was not closed, where
+a reading does not come to the end, and where there is no room. A last job
+without a filemark, which only another program leaves, gets one first.
+
 Files that cannot fit are told before anything is written. A file that changes
 while it is recorded is told, and the exit status is then 1: the recording is
 in force, its other jobs are whole. Names that come again are told.
 
+  --append        record behind the jobs on the cartridge
   --overwrite     replace the jobs on the cartridge
   --allow-empty   record standard input or a pipe even if there is nothing to
                   read, which otherwise is an error, and nothing is replaced
@@ -78,7 +87,7 @@ usage: adr list [OPTION...] IMAGE
 Lists the jobs: number, bytes, when the file was last changed (UTC), name. A
 job whose file shrank or grew while it was recorded is marked. Standard error
 tells the capacity and what is free; bad spots make both less. A new recording
-has all of the capacity, for it replaces the jobs.
+has all of the capacity, for it replaces the jobs; --append has what is free.
 
 A tape has no directory: the whole recording is read, to the end of data. A
 drive would take 8 minutes for each GB, 2 hours for a full cartridge of 15 GB,

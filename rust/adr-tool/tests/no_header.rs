@@ -5,12 +5,13 @@ mod place;
 use place::image::{cells_with, entries, number, seal_frame, seal_index, CELL, CELLS};
 use place::{bytes, Place};
 
-/// Commands that read, and one that records.
-const COMMANDS: [(&[&str], &str); 5] = [
+/// Commands that read, one that adds and one that records.
+const COMMANDS: [(&[&str], &str); 6] = [
     (&["list", "a.adr"], "use a copy"),
     (&["check", "a.adr"], "use a copy"),
     (&["restore", "--into", "out", "a.adr"], "use a copy"),
     (&["restore", "a.adr", "1"], "use a copy"),
+    (&["record", "--append", "a.adr", "file"], "use a copy"),
     (
         &["record", "--overwrite", "a.adr", "file"],
         "'adr format --overwrite'",

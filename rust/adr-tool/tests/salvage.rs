@@ -7,12 +7,11 @@ use std::process::Stdio;
 
 use adr_model::random::Random;
 use place::image::{
-    cells_with, entries, index_of, newer_root, number, seal_description, CELL, CELLS, PAGE, ROOTS,
+    cells_with, entries, frame_at, index_of, newer_root, number, remove_labels, seal_description,
+    CELL, CELLS, FRAME, PAGE, ROOTS,
 };
 use place::{bytes, Place, Ran};
 
-/// Bytes of a frame; a cell's label stands behind it.
-const FRAME: usize = 33_280;
 /// Where a frame tells its type, its number and the filemarks before it.
 const TYPE: usize = 32_768 + 16;
 const NUMBER: usize = 32_768 + 44;
@@ -39,13 +38,6 @@ fn recorded(name: &str) -> Place {
     place
 }
 
-/// Where the frame of an address starts, as the index has it.
-fn frame_at(image: &[u8], address: usize) -> usize {
-    let all = entries(image).into_iter();
-    let mut at = all.filter(|entry| number(image, *entry) >> 32 == address);
-    CELLS + number(image, at.next().expect("an entry") + 8) * CELL
-}
-
 /// Damages the frame of an element.
 fn lose(image: &mut [u8], element: usize) {
     let start = frame_at(image, FIRST + element);
@@ -62,16 +54,6 @@ fn damage_index(image: &mut [u8]) {
 fn damage_roots(image: &mut [u8]) {
     for root in ROOTS {
         image[root + 100] ^= 1;
-    }
-}
-
-/// Makes cells as they were before there were labels.
-fn remove_labels(image: &mut [u8]) {
-    for cell in (CELLS..image.len()).step_by(CELL) {
-        let is_index = cell == index_of(image);
-        if !is_index {
-            image[cell + FRAME..cell + CELL].fill(0);
-        }
     }
 }
 

@@ -64,3 +64,25 @@ fn progress_gives_way() {
     }
     assert_eq!(on_a_terminal(&place, "restore a.adr 2 -o -"), "x");
 }
+
+/// What is added to is read first.
+#[test]
+fn both_parts_of_an_addition() {
+    let place = Place::recorded("terminal-append", 300_000, 200_000);
+    let sent = on_a_terminal(&place, "record --append a.adr new");
+    let reading = sent.find("\rreading ").expect("progress of the reading");
+    let recording = sent
+        .find("\rrecording ")
+        .expect("progress of the recording");
+    assert!(reading < recording, "{sent:?}");
+    let screen = screen(&sent);
+    let starts = [
+        "adr: recorded 1 job in 9 blocks ",
+        "adr: a.adr: capacity ",
+        "",
+    ];
+    assert_eq!(screen.len(), starts.len(), "{sent:?}");
+    for (line, start) in screen.iter().zip(starts) {
+        assert!(line.starts_with(start), "{line}");
+    }
+}

@@ -50,25 +50,25 @@ module _ {told : Told} {t : Tape} (k : ReadTape told t) where
     unfolding fetch.fetchOf
     sends-again a g = pick-f _ (neither _ _ (u .going-on) a) ∙ pick-t _ g
 
-    sends : (x : CommandSaid) → w .session .exchange .awaiting ≡ false → w .session .exchange .again ≡ false → w .session .next .0 ≤ told .last .0 → fetch.commandOf (w .session) ≡ x → fetch.fetchOf (w .session) ≡ fetch.sending (w .session) (commandFor x)
+    sends : (x : CommandSaid) → w .session .exchange .awaiting ≡ false → w .session .exchange .again ≡ false → w .session .position .next .0 ≤ told .last .0 → fetch.commandOf (w .session) ≡ x → fetch.fetchOf (w .session) ≡ fetch.sending (w .session) (commandFor x)
     unfolding fetch.fetchOf
     sends x a g l e =
         pick-f _ (neither _ _ (u .going-on) a)
         ∙ pick-f _ g
         ∙ pick-f _ (u .unfinished)
-        ∙ pick-f _ (le-ltb (w .session .told .last .0) (w .session .next .0) (omega (arith, last-is)))
+        ∙ pick-f _ (le-ltb (w .session .told .last .0) (w .session .position .next .0) (omega (arith, last-is)))
         ∙ ap (λ (y : CommandSaid). fetch.sending (w .session) (commandFor y)) e
 
-    past-last : w .session .exchange .awaiting ≡ false → w .session .exchange .again ≡ false → told .last .0 < w .session .next .0 → fetch.fetchOf (w .session) ≡ record { session = endedOf (w .session); said = fetch.refused 12 }
+    past-last : w .session .exchange .awaiting ≡ false → w .session .exchange .again ≡ false → told .last .0 < w .session .position .next .0 → fetch.fetchOf (w .session) ≡ record { session = endedOf (w .session); said = fetch.refused 12 }
     unfolding fetch.fetchOf
     past-last a g l =
         pick-f _ (neither _ _ (u .going-on) a)
         ∙ pick-f _ g
         ∙ pick-f _ (u .unfinished)
-        ∙ pick-t _ (lt-ltb (w .session .told .last .0) (w .session .next .0) (omega (arith, last-is)))
+        ∙ pick-t _ (lt-ltb (w .session .told .last .0) (w .session .position .next .0) (omega (arith, last-is)))
 
     -- a command is given where the next address is on the tape
-    pub command-given : (w .session .next .0 ≤ told .last .0) → Agreed (told .last .0) t (w .session) (w .at) (w .notes .replies) readings.no-command → GivesCommand (fetch.fetchOf (w .session) .said)
+    pub command-given : (w .session .position .next .0 ≤ told .last .0) → Agreed (told .last .0) t (w .session) (w .at) (w .notes .replies) readings.no-command → GivesCommand (fetch.fetchOf (w .session) .said)
     unfolding fetch.commandOf
     command-given within agreed = given agreed
       where
@@ -79,7 +79,7 @@ module _ {told : Told} {t : Tape} (k : ReadTape told t) where
         named e x = subst (λ (y : fetch.FetchedSaid). GivesCommand (y .said)) (sym e) x
 
         due : Reads (commandFor (fetch.commandOf (w .session)))
-        due = pick-by (λ (x : CommandSaid). Reads (commandFor x)) (w .session .locate) (λ _. inr refl) (λ _. pick-by (λ (x : CommandSaid). Reads (commandFor x)) (eqb (w .session .next .0) 2990) (λ _. inr refl) (λ _. inl refl))
+        due = pick-by (λ (x : CommandSaid). Reads (commandFor x)) (w .session .position .locate) (λ _. inr refl) (λ _. pick-by (λ (x : CommandSaid). Reads (commandFor x)) (eqb (w .session .position .next .0) 2990) (λ _. inr refl) (λ _. inl refl))
 
         ordered : {c : Command} → Ordered (told .last .0) (w .session) (w .notes .replies) c → Reads c
         ordered (locates _ _ _ _ _) = inr refl
@@ -112,22 +112,22 @@ module _ {told : Told} {t : Tape} (k : ReadTape told t) where
           stood ReadPosition h = tt
 
       -- no end was found
-      ends-without : w .flight ≡ readings.no-command → w .session .exchange .awaiting ≡ false → w .session .exchange .again ≡ false → told .last .0 < w .session .next .0 → ReadInv told t (afterFetch w)
-      ends-without q a g l = fetched-as w (past-last a g l) (halted m refl q (finds-no-end refl (sym (fold-above k (w .session .next .0) l) ∙ u .so-far)))
+      ends-without : w .flight ≡ readings.no-command → w .session .exchange .awaiting ≡ false → w .session .exchange .again ≡ false → told .last .0 < w .session .position .next .0 → ReadInv told t (afterFetch w)
+      ends-without q a g l = fetched-as w (past-last a g l) (halted m refl q (finds-no-end refl (sym (fold-above k (w .session .position .next .0) l) ∙ u .so-far)))
 
       fetch-none : w .flight ≡ readings.no-command → Agreed (told .last .0) t (w .session) (w .at) (w .notes .replies) readings.no-command → ReadInv told t (afterFetch w)
       unfolding fetch.commandOf
       fetch-none q (to-seek a g (inr above) l few) = ends-without q a g above
       fetch-none q (to-seek a g (inl h) l few) =
-          orders (Locate (w .session .next)) (sends (locate (w .session .next .0)) a g (stands-within (k .large) h) (pick-t _ l)) (locates (w .session .next) refl h l few) tt
+          orders (Locate (w .session .position .next)) (sends (locate (w .session .position .next .0)) a g (stands-within (k .large) h) (pick-t _ l)) (locates (w .session .position .next) refl h l few) tt
       fetch-none q (to-read a g (inr above) l p few) = ends-without q a g above
       fetch-none q (to-read a g (inl (inr e)) l p few) =
-          orders (Locate (asAddress 3000)) (sends (locate 3000) a g (stands-within (k .large) (inr e)) (pick-f _ l ∙ pick-t _ (eq-eqb (w .session .next .0) 2990 e))) (crosses (asAddress 3000) refl e l few) tt
-      fetch-none q (to-read a g (inl (inl user)) l p few) = go (ℕ-discrete (w .session .next .0) 2990)
+          orders (Locate (asAddress 3000)) (sends (locate 3000) a g (stands-within (k .large) (inr e)) (pick-f _ l ∙ pick-t _ (eq-eqb (w .session .position .next .0) 2990 e))) (crosses (asAddress 3000) refl e l few) tt
+      fetch-none q (to-read a g (inl (inl user)) l p few) = go (ℕ-discrete (w .session .position .next .0) 2990)
         where
-          go : Dec (w .session .next .0 ≡ 2990) → ReadInv told t (afterFetch w)
-          go (yes e) = absurd (⊎-elim (λ h. let x = h .1 in omega arith) (λ h. let x = h .0 in omega arith) (user-ranges (told .last .0) (w .session .next .0) user))
-          go (no e) = orders (Read (w .session .next)) (sends (read (w .session .next .0)) a g (stands-within (k .large) (inl user)) (pick-f _ l ∙ pick-f _ (ne-eqb (w .session .next .0) 2990 e))) (reads (w .session .next) refl user l few) p
+          go : Dec (w .session .position .next .0 ≡ 2990) → ReadInv told t (afterFetch w)
+          go (yes e) = absurd (⊎-elim (λ h. let x = h .1 in omega arith) (λ h. let x = h .0 in omega arith) (user-ranges (told .last .0) (w .session .position .next .0) user))
+          go (no e) = orders (Read (w .session .position .next)) (sends (read (w .session .position .next .0)) a g (stands-within (k .large) (inl user)) (pick-f _ l ∙ pick-f _ (ne-eqb (w .session .position .next .0) 2990 e))) (reads (w .session .position .next) refl user l few) p
       fetch-none q (again a g o st) = orders (w .session .exchange .command) (sends-again a g) o st
 
       pub fetch-flight : {g : Flight} → w .flight ≡ g → Agreed (told .last .0) t (w .session) (w .at) (w .notes .replies) g → TakesEffect (readings.refusal (w .session) readings.fetching) → ReadInv told t (afterFetch w)

@@ -1,7 +1,7 @@
 -- What the invariant of a reading promises: every list of its calls gives the fold. Assumes nothing.
 use Prim.Native.Nat.{ℕ, _+_, _≤_}
 use mathlib.Core.Path.{_≡_, refl, sym, ap, subst, _∙_}
-use mathlib.Core.Bool.{true}
+use mathlib.Core.Bool.{true, false}
 use mathlib.Core.List.{List}
 use mathlib.Core.Option.{Option, some}
 use native.Mathlib.Omega.{arith}
@@ -31,33 +31,33 @@ use Rattle.archive.proofs.reading.Serves.{none-answered}
 use Rattle.archive.proofs.reading.Fetches.{fetch-awaited, command-given}
 use Rattle.archive.proofs.reading.Replies.{lent-same, answers, frame-read, replied-frame}
 use Rattle.archive.proofs.reading.Invariant as invariant
-use Rattle.archive.proofs.reading.Invariant.{Under, Ordered, locates, crosses, reads, Served, located, brought, missed, blank, no-more, waits, Agreed, to-seek, to-read, again, under-way, served, ReadInv, under, over, halted}
+use Rattle.archive.proofs.reading.Invariant.{Under, Ended, Ordered, locates, crosses, reads, Served, located, brought, missed, blank, no-more, waits, Agreed, to-seek, to-read, again, under-way, served, ReadInv, under, over, halted}
 
 -- ---- how far it has come
 
 module _ {told : Told} {t : Tape} {w : World} where
   standing : ReadInv told t w → Standing told t w
   standing (under n m u a) = goes-on n m (u .so-far)
-  standing (over n m f e a g q d b) = at-end n m d
+  standing (over n m f e a g q d b) = at-end n m (d .so-far) (d .whole)
   standing (halted m e q (invariant.stops n d)) = stops n m d
   standing (halted m e q (invariant.finds-no-end n d)) = finds-no-end n m d
 
 -- ---- where the fold ends
 
-stopped-finished : {A : Type 0} {n : ℕ} {xs : List Element} → stopped n ≡ finished xs → A
+stopped-finished : {A : Type 0} {n e : ℕ} {xs : List Element} → stopped n ≡ finished xs e → A
 stopped-finished e = never (cc)
 
-finished-same : {got xs : List Element} → finished got ≡ finished xs → got ≡ xs
+finished-same : {got xs : List Element} {d e : ℕ} → finished got d ≡ finished xs e → got ≡ xs
 finished-same e = cc
 
-module _ {told : Told} {t : Tape} {xs : List Element} (k : ReadTape told t) (all : wholeOf told t ≡ finished xs) where
+module _ {told : Told} {t : Tape} {xs : List Element} {end-at : ℕ} (k : ReadTape told t) (all : wholeOf told t ≡ finished xs end-at) where
   -- ---- a reply is taken in
 
   module _ (w : World) (u : Under told t (w .session) (w .notes .deliveries)) (r : Reply) (frame : List ℕ) (a : w .session .exchange .awaiting ≡ true) (long : length frame ≡ 33280) where
     unrefused-by : {x : reply.TakenSaid} → reply.replyOf (w .session) r frame ≡ x → replyNumber (x .said) ≡ 0 → replyNumber (reply.replyOf (w .session) r frame .said) ≡ 0
     unrefused-by e z = ap (λ (x : reply.TakenSaid). replyNumber (x .said)) e ∙ z
 
-    judged-number : (j : JudgementSaid) → Fits xs (advance j frame (w .session .expected .0) (w .notes .deliveries)) → replyNumber (reply.judgedBy j (w .session) .said) ≡ 0
+    judged-number : (j : JudgementSaid) → Fits xs (advance j frame (w .session .position .next .0) (w .session .expected .0) (w .notes .deliveries) (w .session .trail)) → replyNumber (reply.judgedBy j (w .session) .said) ≡ 0
     judged-number judgement.skipped h = refl
     judged-number (judgement.refused m) h = absurd h
     judged-number judgement.block h = refl
@@ -75,9 +75,9 @@ module _ {told : Told} {t : Tape} {xs : List Element} (k : ReadTape told t) (all
     served-number c e lent (located b means at o) = unrefused-by (answers k w u r frame a long e means) refl
     served-number c e lent (brought b read means there at (reads _ p q l few)) =
         lent-same lent (λ same.
-        unrefused-by (replied-frame k w u r frame a long b e q means)
-        (judged-number (judgeFrame told (w .session .expected) frame)
-        (subst (Fits xs) (frame-read k w u r frame a long b e q (there ∙ ap some same)) (fits k all (w .session .next .0 + 1) (omega (arith, not-past k all (u .so-far)))))))
+        unrefused-by (replied-frame k w u r frame a long b e p q means)
+        (judged-number (judgeFrame told (w .session .position .next) (w .session .expected) frame)
+        (subst (Fits xs) (frame-read k w u r frame a long b e p q (there ∙ ap some same)) (fits k all (w .session .position .next .0 + 1) (omega (arith, not-past k all (u .so-far)))))))
     served-number c e lent (missed b means there at o) = unrefused-by (answers k w u r frame a long e means) refl
     served-number c e lent (blank b means none-there o) = unrefused-by (answers k w u r frame a long e means) refl
     served-number c e lent (no-more b means none-there o) = absurd (not-blank k all (u .so-far) none-there)
@@ -89,7 +89,7 @@ module _ {told : Told} {t : Tape} {xs : List Element} (k : ReadTape told t) (all
 
   -- a frame that the drive gave is the cartridge's
   given-long : {s : Reading} {at replies : ℕ} {r : Reply} {frame : List ℕ} {c : Command} → Served (told .last .0) t s at replies r (some frame) c → length frame ≡ 33280
-  given-long {s} (brought a frame m e p o) = k .cartridge .long (s .next .0) frame e
+  given-long {s} (brought a frame m e p o) = k .cartridge .long (s .position .next .0) frame e
 
   agreed-long : {s : Reading} {at replies : ℕ} {r : Reply} {frame : List ℕ} → Agreed (told .last .0) t s at replies (readings.answered r (some frame)) → length frame ≡ 33280
   agreed-long (served r given a g v) = given-long v
@@ -111,12 +111,12 @@ module _ {told : Told} {t : Tape} {xs : List Element} (k : ReadTape told t) (all
   seek-few : {next replies : ℕ} → next ≤ told .last .0 → Spent next (replies + 1) → replies ≤ replyBound (told .last .0)
   seek-few l few = omega (arith, few-ended (k .large) l few)
 
-  ordered-few : {s : Reading} {replies : ℕ} {c : Command} → s .next .0 ≤ told .last .0 → Ordered (told .last .0) s replies c → replies ≤ replyBound (told .last .0)
+  ordered-few : {s : Reading} {replies : ℕ} {c : Command} → s .position .next .0 ≤ told .last .0 → Ordered (told .last .0) s replies c → replies ≤ replyBound (told .last .0)
   ordered-few l (locates a e h p few) = seek-few l few
   ordered-few l (crosses a e p q few) = next-few l few
   ordered-few l (reads a e p q few) = next-few l few
 
-  served-few : {s : Reading} {at replies : ℕ} {r : Reply} {given : Option (List ℕ)} {c : Command} → s .next .0 ≤ told .last .0 → Served (told .last .0) t s at replies r given c → replies ≤ replyBound (told .last .0)
+  served-few : {s : Reading} {at replies : ℕ} {r : Reply} {given : Option (List ℕ)} {c : Command} → s .position .next .0 ≤ told .last .0 → Served (told .last .0) t s at replies r given c → replies ≤ replyBound (told .last .0)
   served-few l (located b m p o) = ordered-few l o
   served-few l (brought b read m e p o) = ordered-few l o
   served-few l (missed b m e p o) = ordered-few l o
@@ -124,7 +124,7 @@ module _ {told : Told} {t : Tape} {xs : List Element} (k : ReadTape told t) (all
   served-few l (no-more b m e o) = ordered-few l o
   served-few l (waits c m o st) = ordered-few l o
 
-  few-enough : {s : Reading} {at replies : ℕ} {g : Flight} → s .next .0 ≤ told .last .0 → Agreed (told .last .0) t s at replies g → replies ≤ replyBound (told .last .0)
+  few-enough : {s : Reading} {at replies : ℕ} {g : Flight} → s .position .next .0 ≤ told .last .0 → Agreed (told .last .0) t s at replies g → replies ≤ replyBound (told .last .0)
   few-enough l (to-seek a g h p few) = seek-few l few
   few-enough l (to-read a g h p q few) = next-few l few
   few-enough l (again a g o st) = ordered-few l o
@@ -136,7 +136,7 @@ module _ {told : Told} {t : Tape} {xs : List Element} (k : ReadTape told t) (all
   faithful : (w : World) → ReadInv told t w → Faithful (told .last .0) xs w
   faithful w (under n m u a) =
       let inside = not-past k all (u .so-far) in
-      let b : Fits xs (going (w .session .expected .0) (w .notes .deliveries)) = subst (Fits xs) (u .so-far) (fits k all (w .session .next .0) (omega arith)) in
+      let b : Fits xs (going (w .session .expected .0) (w .notes .deliveries) (w .session .trail)) = subst (Fits xs) (u .so-far) (fits k all (w .session .position .next .0) (omega arith)) in
       record {
         count = w .session .expected .0;
         in-order = b .0;
@@ -150,7 +150,7 @@ module _ {told : Told} {t : Tape} {xs : List Element} (k : ReadTape told t) (all
         says-again = λ g. clash g m;
       }
   faithful w (over n m f e a g q d b) =
-      let same = finished-same (sym d ∙ all) in
+      let same = finished-same (sym (d .whole) ∙ all) in
       record {
         count = length xs;
         in-order = same ∙ sym (take-length xs);
@@ -167,4 +167,15 @@ module _ {told : Told} {t : Tape} {xs : List Element} (k : ReadTape told t) (all
   faithful w (halted m e q (invariant.finds-no-end n d)) = going-finished (sym d ∙ all)
 
 pub is-fold : {told : Told} {t : Tape} → ReadTape told t → (w : World) → ReadInv told t w → IsFold told t w
-is-fold k w i = record { standing = standing i; faithful = λ xs all. faithful k all w i }
+is-fold k w i = record { standing = standing i; faithful = λ xs e all. faithful k all w i }
+
+-- ---- a session that has come to its end
+
+pub record AtEnd (told : Told) (t : Tape) (w : World) : Type 0 where
+  pub noted : w .notes .end ≡ true
+  pub ended : Ended told t (w .session) (w .notes .deliveries)
+
+pub at-end-so : {told : Told} {t : Tape} (w : World) → ReadInv told t w → w .session .finished ≡ true → w .session .ended ≡ false → AtEnd told t w
+at-end-so w (under n m u a) f e = clash f (u .unfinished)
+at-end-so w (over n m _ _ a g q d b) f e = record { noted = m; ended = d }
+at-end-so w (halted m x q h) f e = clash x e

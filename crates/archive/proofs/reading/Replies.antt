@@ -3,7 +3,7 @@ use Prim.Native.Nat.{ℕ, _+_, _*_, _%_, _^_, _≤_, _<_}
 use mathlib.Core.Path.{_≡_, refl, sym, ap, subst, _∙_}
 use mathlib.Core.Bool.{Bool, true, false}
 use mathlib.Core.List.{List, [], _++_, append-nil}
-use mathlib.Core.Logic.{_⊎_, inl, inr}
+use mathlib.Core.Logic.{_⊎_, inl, inr, ⊎-elim}
 use mathlib.Core.Option.{Option, none, some}
 use native.Mathlib.Decide.{decLe}
 use native.Mathlib.Nat.{mod-eq-of-lt}
@@ -25,7 +25,9 @@ use Rattle.judgement.specs.Judgement.{JudgementSaid, judgeFrame}
 use Rattle.judgement.specs.declared.told.Told.{Told}
 use Rattle.judgement.proofs.JudgeView.{JudgeView, judge-view, refused-known}
 use Rattle.reading_state.specs.Reply as reply
-use Rattle.reading_state.specs.State.{withExpected}
+use Rattle.frame.specs.Trail.{marked}
+use Rattle.frame.specs.declared.trail.Trail.{Trail}
+use Rattle.reading_state.specs.State.{withExpected, endOf}
 use Rattle.reading_state.specs.declared.state.State.{State as Reading}
 use Rattle.reading_state.proofs.ReplyView.{Taken, taken-so}
 use Rattle.geometry.proofs.PastReserved.{past-reserved-least}
@@ -64,22 +66,28 @@ module _ {told : Told} {t : Tape} (k : ReadTape told t) (w : World) (u : Under t
   answers e means = taken-so (w .session) r frame taken (case-is e means)
 
   -- a READ of a user frame
-  module _ (b : Address) (e : w .session .exchange .command ≡ Read b) (user : isUser (told .last .0) (w .session .next .0) ≡ true) where
-    step : foldOf told t (w .session .next .0 + 1) ≡ look told (t (w .session .next .0)) (going (w .session .expected .0) (w .notes .deliveries))
-    step = fold-user told t (w .session .next .0) user ∙ ap (look told (t (w .session .next .0))) (u .so-far)
+  module _ (b : Address) (e : w .session .exchange .command ≡ Read b) (place : b .0 ≡ w .session .position .next .0) (user : isUser (told .last .0) (w .session .position .next .0) ≡ true) where
+    -- it is read where it is due
+    pub read-here : reply.addressOf (w .session) ≡ w .session .position .next
+    read-here = ap commandAddress e ∙ ap (λ (n : ℕ). record { 0 = n }) place
 
-    pub frame-read : t (w .session .next .0) ≡ some frame → foldOf told t (w .session .next .0 + 1) ≡ advance (judgeFrame told (w .session .expected) frame) frame (w .session .expected .0) (w .notes .deliveries)
+    step : foldOf told t (w .session .position .next .0 + 1) ≡ look told (w .session .position .next .0) (t (w .session .position .next .0)) (going (w .session .expected .0) (w .notes .deliveries) (w .session .trail))
+    step = fold-user told t (w .session .position .next .0) user ∙ ap (look told (w .session .position .next .0) (t (w .session .position .next .0))) (u .so-far)
+
+    pub frame-read : t (w .session .position .next .0) ≡ some frame → foldOf told t (w .session .position .next .0 + 1) ≡ advance (judgeFrame told (w .session .position .next) (w .session .expected) frame) frame (w .session .position .next .0) (w .session .expected .0) (w .notes .deliveries) (w .session .trail)
     unfolding look
-    frame-read there = step ∙ ap (λ v. look told v (going (w .session .expected .0) (w .notes .deliveries))) there
+    frame-read there = step ∙ ap (λ v. look told (w .session .position .next .0) v (going (w .session .expected .0) (w .notes .deliveries) (w .session .trail))) there
 
-    nothing-read : t (w .session .next .0) ≡ none → foldOf told t (w .session .next .0 + 1) ≡ going (w .session .expected .0) (w .notes .deliveries)
+    nothing-read : t (w .session .position .next .0) ≡ none → foldOf told t (w .session .position .next .0 + 1) ≡ going (w .session .expected .0) (w .notes .deliveries) (w .session .trail)
     unfolding look
-    nothing-read there = step ∙ ap (λ v. look told v (going (w .session .expected .0) (w .notes .deliveries))) there
+    nothing-read there = step ∙ ap (λ v. look told (w .session .position .next .0) v (going (w .session .expected .0) (w .notes .deliveries) (w .session .trail))) there
 
-    pub replied-frame : Means r good ⊎ Means r recovered → reply.replyOf (w .session) r frame ≡ reply.judgedBy (judgeFrame told (w .session .expected) frame) (w .session)
+    pub replied-frame : Means r good ⊎ Means r recovered → reply.replyOf (w .session) r frame ≡ reply.judgedBy (judgeFrame told (w .session .position .next) (w .session .expected) frame) (w .session)
     unfolding reply.replyBy reply.judgedOf
-    replied-frame (inl means) = answers e means ∙ ap (λ (x : Told). reply.judgedBy (judgeFrame x (w .session .expected) frame) (w .session)) (u .told-is)
-    replied-frame (inr means) = answers e means ∙ ap (λ (x : Told). reply.judgedBy (judgeFrame x (w .session .expected) frame) (w .session)) (u .told-is)
+    replied-frame means =
+        ⊎-elim (λ m. answers e m) (λ m. answers e m) means
+        ∙ ap (λ (x : Told). reply.judgedBy (judgeFrame x (reply.addressOf (w .session)) (w .session .expected) frame) (w .session)) (u .told-is)
+        ∙ ap (λ (x : Address). reply.judgedBy (judgeFrame told x (w .session .expected) frame) (w .session)) read-here
 
   module _ (n : w .notes .refused ≡ 0) (m : w .notes .end ≡ false) (g : w .session .exchange .again ≡ false) where
     taken-as : {x : reply.TakenSaid} → reply.replyOf (w .session) r frame ≡ x → ReadInv told t (afterTaking w r frame x) → ReadInv told t (afterReply w r frame)
@@ -96,77 +104,98 @@ module _ {told : Told} {t : Tape} (k : ReadTape told t) (w : World) (u : Under t
     nothing-more = append-nil (w .notes .deliveries)
 
     -- the session at an address that does not wrap
-    abbrev movedTo : ℕ → Bool → ℕ → Reading
-    movedTo next locate expected = withExpected (reply.movedOf (w .session) (record { 0 = next }) locate) (record { 0 = expected })
+    abbrev movedTo : ℕ → Bool → ℕ → Trail → Reading
+    movedTo next locate expected trail = withExpected (reply.movedOf (w .session) (record { 0 = next }) locate) (record { 0 = expected }) trail
 
-    goes-on : (next expected : ℕ) (locate : Bool) (said : reply.DeliverySaid) → replyNumber said ≡ 0 → endAfter said (w .notes .end) ≡ w .notes .end
-        → foldOf told t next ≡ going expected (w .notes .deliveries ++ delivered said frame)
-        → Agreed (told .last .0) t (movedTo next locate expected) (w .at) (repliesAfter r (w .notes .replies)) readings.no-command
-        → ReadInv told t (afterTaking w r frame (reply.delivering (movedTo next locate expected) said))
-    goes-on next expected locate said z unended so-far agreed =
+    -- nothing delivered
+    same-as : going (w .session .expected .0) (w .notes .deliveries) (w .session .trail) ≡ going (w .session .expected .0) (w .notes .deliveries ++ []) (w .session .trail)
+    same-as = ap (λ got. going (w .session .expected .0) got (w .session .trail)) (sym nothing-more)
+
+    goes-on : (next expected : ℕ) (trail : Trail) (locate : Bool) (said : reply.DeliverySaid) → replyNumber said ≡ 0 → endAfter said (w .notes .end) ≡ w .notes .end
+        → foldOf told t next ≡ going expected (w .notes .deliveries ++ delivered said frame) trail
+        → Agreed (told .last .0) t (movedTo next locate expected trail) (w .at) (repliesAfter r (w .notes .replies)) readings.no-command
+        → ReadInv told t (afterTaking w r frame (reply.delivering (movedTo next locate expected trail) said))
+    goes-on next expected trail locate said z unended so-far agreed =
         under (unrefused said z) (unended ∙ m) (record { told-is = u .told-is; going-on = u .going-on; unfinished = u .unfinished; so-far = so-far }) agreed
 
     -- ---- LOCATE answered good
 
-    landed : (b : Address) → w .session .exchange .command ≡ Locate b → Means r good → w .at ≡ b .0 → Stand (told .last .0) (b .0) → foldOf told t (b .0) ≡ going (w .session .expected .0) (w .notes .deliveries) → Spent (b .0) (w .notes .replies + 1) → ReadInv told t (afterReply w r frame)
+    landed : (b : Address) → w .session .exchange .command ≡ Locate b → Means r good → w .at ≡ b .0 → Stand (told .last .0) (b .0) → foldOf told t (b .0) ≡ going (w .session .expected .0) (w .notes .deliveries) (w .session .trail) → Spent (b .0) (w .notes .replies + 1) → ReadInv told t (afterReply w r frame)
     unfolding reply.replyBy
     landed b e means at here so-far few =
-        taken-as (answers e means ∙ ap (λ (x : Command). reply.delivering (movedTo (commandAddress x .0) false (w .session .expected .0)) reply.nothing) e)
-        (goes-on (b .0) (w .session .expected .0) false reply.nothing refl refl (so-far ∙ ap (going (w .session .expected .0)) (sym nothing-more))
+        taken-as (answers e means ∙ ap (λ (x : Command). reply.delivering (movedTo (commandAddress x .0) false (w .session .expected .0) (w .session .trail)) reply.nothing) e)
+        (goes-on (b .0) (w .session .expected .0) (w .session .trail) false reply.nothing refl refl (so-far ∙ same-as)
         (to-read refl g (inl here) refl at (subst (Spent (b .0)) (sym (one-more means (λ q. omega arith))) few)))
 
     -- ---- READ
 
-    module _ (b : Address) (e : w .session .exchange .command ≡ Read b) (place : b .0 ≡ w .session .next .0) (user : isUser (told .last .0) (w .session .next .0) ≡ true) (read : w .session .locate ≡ false) (few : FewRead (w .session) (w .notes .replies)) where
-      next-low : w .session .next .0 ≤ told .last .0
+    module _ (b : Address) (e : w .session .exchange .command ≡ Read b) (place : b .0 ≡ w .session .position .next .0) (user : isUser (told .last .0) (w .session .position .next .0) ≡ true) (read : w .session .position .locate ≡ false) (few : FewRead (w .session) (w .notes .replies)) where
+      next-low : w .session .position .next .0 ≤ told .last .0
       next-low = stands-within (k .large) (inl user)
 
-      place-is : reply.addressOf (w .session) .0 ≡ w .session .next .0
+      place-is : reply.addressOf (w .session) .0 ≡ w .session .position .next .0
       place-is = ap (λ (x : Command). commandAddress x .0) e ∙ place
 
       -- the next number does not wrap
       small-number : w .session .expected .0 + 1 < 2 ^ 32
       small-number =
-          let c : Counts (w .session .next .0) (going (w .session .expected .0) (w .notes .deliveries)) = subst (Counts (w .session .next .0)) (u .so-far) (fold-counts told t (w .session .next .0)) in
+          let c : Counts (w .session .position .next .0) (going (w .session .expected .0) (w .notes .deliveries) (w .session .trail)) = subst (Counts (w .session .position .next .0)) (u .so-far) (fold-counts told t (w .session .position .next .0)) in
           omega (arith, c .1, k .small, next-low)
 
-      moved-is : (x y : ℕ) (locate : Bool) (expected : ℕ) → x ≡ y → y < 2 ^ 32 → movedTo (x % 2 ^ 32) locate expected ≡ movedTo y locate expected
-      moved-is x y locate expected same low = ap (λ (q : ℕ). movedTo (q % 2 ^ 32) locate expected) same ∙ ap (λ (q : ℕ). movedTo q locate expected) (mod-eq-of-lt low)
+      moved-is : (x y : ℕ) (locate : Bool) (expected : ℕ) (trail : Trail) → x ≡ y → y < 2 ^ 32 → movedTo (x % 2 ^ 32) locate expected trail ≡ movedTo y locate expected trail
+      moved-is x y locate expected trail same low = ap (λ (q : ℕ). movedTo (q % 2 ^ 32) locate expected trail) same ∙ ap (λ (q : ℕ). movedTo q locate expected trail) (mod-eq-of-lt low)
 
-      next-here : Here (told .last .0) (movedTo (w .session .next .0 + 1) (w .session .locate) 0)
-      next-here = go (decLe (w .session .next .0 + 1) (told .last .0))
+      next-here : Here (told .last .0) (movedTo (w .session .position .next .0 + 1) (w .session .position .locate) 0 (w .session .trail))
+      next-here = go (decLe (w .session .position .next .0 + 1) (told .last .0))
         where
-          go : Dec (w .session .next .0 + 1 ≤ told .last .0) → Stand (told .last .0) (w .session .next .0 + 1) ⊎ (told .last .0 < w .session .next .0 + 1)
-          go (yes h) = inl (user-next (told .last .0) (w .session .next .0) user h)
+          go : Dec (w .session .position .next .0 + 1 ≤ told .last .0) → Stand (told .last .0) (w .session .position .next .0 + 1) ⊎ (told .last .0 < w .session .position .next .0 + 1)
+          go (yes h) = inl (user-next (told .last .0) (w .session .position .next .0) user h)
           go (no h) = inr (omega arith)
 
       -- one address further
-      further : {i : ℕ} → Means r i → (i ≡ busy → ⊥) → (x y : ℕ) (said : reply.DeliverySaid) → y ≡ x → replyNumber said ≡ 0 → endAfter said (w .notes .end) ≡ w .notes .end → w .at ≡ w .session .next .0 + 1
-          → foldOf told t (w .session .next .0 + 1) ≡ going x (w .notes .deliveries ++ delivered said frame)
-          → reply.replyOf (w .session) r frame ≡ reply.delivering (withExpected (reply.advancedOf (w .session)) (record { 0 = y })) said
+      further : {i : ℕ} → Means r i → (i ≡ busy → ⊥) → (x y : ℕ) (trail written : Trail) (said : reply.DeliverySaid) → y ≡ x → written ≡ trail → replyNumber said ≡ 0 → endAfter said (w .notes .end) ≡ w .notes .end → w .at ≡ w .session .position .next .0 + 1
+          → foldOf told t (w .session .position .next .0 + 1) ≡ going x (w .notes .deliveries ++ delivered said frame) trail
+          → reply.replyOf (w .session) r frame ≡ reply.delivering (withExpected (reply.advancedOf (w .session)) (record { 0 = y }) written) said
           → ReadInv told t (afterReply w r frame)
-      further means b x y said same z unended at so-far replied =
+      further means b x y trail written said same same-trail z unended at so-far replied =
           taken-as
           (replied
-          ∙ ap (λ (q : Reading). reply.delivering q said) (moved-is (reply.addressOf (w .session) .0 + 1) (w .session .next .0 + 1) (w .session .locate) y (ap (λ (q : ℕ). q + 1) place-is) (omega (arith, k .small, next-low)))
-          ∙ ap (λ (q : ℕ). reply.delivering (movedTo (w .session .next .0 + 1) (w .session .locate) q) said) same)
-          (goes-on (w .session .next .0 + 1) x (w .session .locate) said z unended so-far
-          (to-read refl g next-here read at (subst (Spent (w .session .next .0 + 1)) (sym (one-more means b)) (few-further (user-ranges (told .last .0) (w .session .next .0) user) few))))
+          ∙ ap (λ (q : Reading). reply.delivering q said) (moved-is (reply.addressOf (w .session) .0 + 1) (w .session .position .next .0 + 1) (w .session .position .locate) y written (ap (λ (q : ℕ). q + 1) place-is) (omega (arith, k .small, next-low)))
+          ∙ ap (λ (q : ℕ). reply.delivering (movedTo (w .session .position .next .0 + 1) (w .session .position .locate) q written) said) same
+          ∙ ap (λ (q : Trail). reply.delivering (movedTo (w .session .position .next .0 + 1) (w .session .position .locate) x q) said) same-trail)
+          (goes-on (w .session .position .next .0 + 1) x trail (w .session .position .locate) said z unended so-far
+          (to-read refl g next-here read at (subst (Spent (w .session .position .next .0 + 1)) (sym (one-more means b)) (few-further (user-ranges (told .last .0) (w .session .position .next .0) user) few))))
+
+      -- a step that delivers nothing
+      passes : {i : ℕ} → Means r i → (i ≡ busy → ⊥) → w .at ≡ w .session .position .next .0 + 1
+          → foldOf told t (w .session .position .next .0 + 1) ≡ going (w .session .expected .0) (w .notes .deliveries) (w .session .trail)
+          → reply.replyOf (w .session) r frame ≡ reply.skippedOf (w .session) → ReadInv told t (afterReply w r frame)
+      passes means b at so-far replied = further means b (w .session .expected .0) (w .session .expected .0) (w .session .trail) (w .session .trail) reply.nothing refl refl refl refl at (so-far ∙ same-as) replied
 
       -- the fold stays where it ends or stops
-      whole-is : {x : Reader} → Final x → foldOf told t (w .session .next .0 + 1) ≡ x → wholeOf told t ≡ x
-      whole-is final so-far = fold-final told t (w .session .next .0 + 1) (told .last .0 + 1) (omega (arith, next-low)) final so-far
+      whole-is : {x : Reader} → Final x → foldOf told t (w .session .position .next .0 + 1) ≡ x → wholeOf told t ≡ x
+      whole-is final so-far = fold-final told t (w .session .position .next .0 + 1) (told .last .0 + 1) (omega (arith, next-low)) final so-far
 
-      ends : {i : ℕ} → Means r i → (i ≡ busy → ⊥) → foldOf told t (w .session .next .0 + 1) ≡ finished (w .notes .deliveries)
+      -- the address before the next one, after EOD
+      ended-here : endOf (reply.advancedOf (w .session)) .0 ≡ w .session .position .next .0
+      ended-here =
+          let low : (reply.addressOf (w .session) .0 + 1) % 2 ^ 32 ≡ reply.addressOf (w .session) .0 + 1 = mod-eq-of-lt (omega (arith, place-is, k .small, next-low)) in
+          omega (arith, low, place-is)
+
+      ends : {i : ℕ} → Means r i → (i ≡ busy → ⊥) → foldOf told t (w .session .position .next .0 + 1) ≡ finished (w .notes .deliveries) (w .session .position .next .0)
           → reply.replyOf (w .session) r frame ≡ reply.finishedOf (w .session)
           → ReadInv told t (afterReply w r frame)
       ends means b so-far replied =
           taken-as replied
           (over (unrefused reply.end refl) refl refl (u .going-on) refl g refl
-          (whole-is tt so-far ∙ ap finished (sym nothing-more))
+          (record {
+            told-is = u .told-is;
+            so-far = ap (foldOf told t) ended-here ∙ u .so-far ∙ same-as;
+            whole = whole-is tt so-far ∙ ap (λ got. finished got (w .session .position .next .0)) (sym nothing-more) ∙ ap (finished (w .notes .deliveries ++ [])) (sym ended-here);
+          })
           (omega (arith, one-more means b, few-ended (k .large) next-low few)))
 
-      stopped-by : (i : ℕ) → (i ≡ 10) ⊎ (i ≡ 11) → foldOf told t (w .session .next .0 + 1) ≡ stopped i → reply.replyOf (w .session) r frame ≡ reply.ending (w .session) i → ReadInv told t (afterReply w r frame)
+      stopped-by : (i : ℕ) → (i ≡ 10) ⊎ (i ≡ 11) → foldOf told t (w .session .position .next .0 + 1) ≡ stopped i → reply.replyOf (w .session) r frame ≡ reply.ending (w .session) i → ReadInv told t (afterReply w r frame)
       stopped-by i (inl q) so-far replied =
           taken-as (replied ∙ ap (reply.ending (w .session)) q)
           (halted m refl refl (stops (inl refl) (whole-is tt (so-far ∙ ap stopped q))))
@@ -174,61 +203,60 @@ module _ {told : Told} {t : Tape} (k : ReadTape told t) (w : World) (u : Under t
           taken-as (replied ∙ ap (reply.ending (w .session)) q)
           (halted m refl refl (stops (inr refl) (whole-is tt (so-far ∙ ap stopped q))))
 
-      judged-by : {i : ℕ} → Means r i → (i ≡ busy → ⊥) → w .at ≡ w .session .next .0 + 1 → (j : JudgementSaid) → JudgeView told (w .session .expected) frame j
-          → foldOf told t (w .session .next .0 + 1) ≡ advance j frame (w .session .expected .0) (w .notes .deliveries)
+      judged-by : {i : ℕ} → Means r i → (i ≡ busy → ⊥) → w .at ≡ w .session .position .next .0 + 1 → (j : JudgementSaid) → JudgeView told (w .session .position .next) (w .session .expected) frame j
+          → foldOf told t (w .session .position .next .0 + 1) ≡ advance j frame (w .session .position .next .0) (w .session .expected .0) (w .notes .deliveries) (w .session .trail)
           → reply.replyOf (w .session) r frame ≡ reply.judgedBy j (w .session) → ReadInv told t (afterReply w r frame)
-      judged-by means b at judgement.skipped v so-far replied =
-          further means b (w .session .expected .0) (w .session .expected .0) reply.nothing refl refl refl at (so-far ∙ ap (going (w .session .expected .0)) (sym nothing-more)) replied
+      judged-by means b at judgement.skipped v so-far replied = passes means b at so-far replied
       judged-by means b at (judgement.refused i) v so-far replied = stopped-by i (refused-known long v) so-far replied
-      judged-by means b at judgement.block v so-far replied = further means b (w .session .expected .0 + 1) _ reply.block (mod-eq-of-lt small-number) refl refl at so-far replied
-      judged-by means b at judgement.filemark v so-far replied = further means b (w .session .expected .0 + 1) _ reply.filemark (mod-eq-of-lt small-number) refl refl at so-far replied
+      judged-by means b at judgement.block v so-far replied = further means b (w .session .expected .0 + 1) _ (w .session .trail) _ reply.block (mod-eq-of-lt small-number) refl refl refl at so-far replied
+      judged-by means b at judgement.filemark v so-far replied =
+          further means b (w .session .expected .0 + 1) _ (marked (w .session .trail) (w .session .position .next)) _ reply.filemark (mod-eq-of-lt small-number) (ap (marked (w .session .trail)) (ap commandAddress e ∙ ap (λ (q : ℕ). record { 0 = q }) place)) refl refl at so-far replied
       judged-by means b at judgement.end v so-far replied = ends means b so-far replied
 
-      brought-so : Means r good ⊎ Means r recovered → t (w .session .next .0) ≡ some frame → w .at ≡ w .session .next .0 + 1 → ReadInv told t (afterReply w r frame)
-      brought-so (inl means) there at = judged-by means (λ q. omega arith) at (judgeFrame told (w .session .expected) frame) (judge-view told (w .session .expected) frame) (frame-read b e user there) (replied-frame b e user (inl means))
-      brought-so (inr means) there at = judged-by means (λ q. omega arith) at (judgeFrame told (w .session .expected) frame) (judge-view told (w .session .expected) frame) (frame-read b e user there) (replied-frame b e user (inr means))
+      brought-so : Means r good ⊎ Means r recovered → t (w .session .position .next .0) ≡ some frame → w .at ≡ w .session .position .next .0 + 1 → ReadInv told t (afterReply w r frame)
+      brought-so (inl means) there at = judged-by means (λ q. omega arith) at (judgeFrame told (w .session .position .next) (w .session .expected) frame) (judge-view told (w .session .position .next) (w .session .expected) frame) (frame-read b e place user there) (replied-frame b e place user (inl means))
+      brought-so (inr means) there at = judged-by means (λ q. omega arith) at (judgeFrame told (w .session .position .next) (w .session .expected) frame) (judge-view told (w .session .position .next) (w .session .expected) frame) (frame-read b e place user there) (replied-frame b e place user (inr means))
 
-      missed-so : Means r unreadable → t (w .session .next .0) ≡ none → w .at ≡ w .session .next .0 + 1 → ReadInv told t (afterReply w r frame)
+      missed-so : Means r unreadable → t (w .session .position .next .0) ≡ none → w .at ≡ w .session .position .next .0 + 1 → ReadInv told t (afterReply w r frame)
       unfolding reply.replyBy
-      missed-so means there at =
-          further means (λ q. omega arith) (w .session .expected .0) (w .session .expected .0) reply.nothing refl refl refl at (nothing-read b e user there ∙ ap (going (w .session .expected .0)) (sym nothing-more)) (answers e means)
+      missed-so means there at = passes means (λ q. omega arith) at (nothing-read b e place user there) (answers e means)
 
-      jumped-so : Means r endOfData → ((c : ℕ) → w .session .next .0 ≤ c → c < w .session .next .0 + 32 → t c ≡ none) → ReadInv told t (afterReply w r frame)
+      jumped-so : Means r endOfData → ((c : ℕ) → w .session .position .next .0 ≤ c → c < w .session .position .next .0 + 32 → t c ≡ none) → ReadInv told t (afterReply w r frame)
       unfolding reply.replyBy
       jumped-so means unread =
-          let there = w .session .next .0 in
+          let there = w .session .position .next .0 in
           taken-as
           (answers e means
           ∙ ap (λ (q : Reading). reply.delivering q reply.nothing)
-          (moved-is (pastReserved (reply.addressOf (w .session) .0 + 32)) (pastReserved (there + 32)) true (w .session .expected .0) (ap (λ (q : ℕ). pastReserved (q + 32)) place-is) (omega (arith, k .small, land-low (k .large) next-low (landing (there + 32))))))
-          (goes-on (pastReserved (there + 32)) (w .session .expected .0) true reply.nothing refl refl
-          (fold-jump k there unread ∙ u .so-far ∙ ap (going (w .session .expected .0)) (sym nothing-more))
+          (moved-is (pastReserved (reply.addressOf (w .session) .0 + 32)) (pastReserved (there + 32)) true (w .session .expected .0) (w .session .trail) (ap (λ (q : ℕ). pastReserved (q + 32)) place-is) (omega (arith, k .small, land-low (k .large) next-low (landing (there + 32))))))
+          (goes-on (pastReserved (there + 32)) (w .session .expected .0) (w .session .trail) true reply.nothing refl refl
+          (fold-jump k there unread ∙ u .so-far ∙ same-as)
           (to-seek refl g jumped-here refl (subst (λ (x : ℕ). Spent (pastReserved (there + 32)) (x + 1)) (sym (one-more means (λ q. omega arith))) (few-jumped (landing (there + 32)) few))))
         where
-          low : User (told .last .0) (w .session .next .0) → 10 ≤ w .session .next .0 + 32
+          low : User (told .last .0) (w .session .position .next .0) → 10 ≤ w .session .position .next .0 + 32
           low (inl h) = let x = h .0 in omega arith
           low (inr h) = let x = h .0 in omega arith
 
-          jumped-here : Here (told .last .0) (movedTo (pastReserved (w .session .next .0 + 32)) true (w .session .expected .0))
-          jumped-here = go (decLe (w .session .next .0 + 32) (told .last .0))
+          jumped-here : Here (told .last .0) (movedTo (pastReserved (w .session .position .next .0 + 32)) true (w .session .expected .0) (w .session .trail))
+          jumped-here = go (decLe (w .session .position .next .0 + 32) (told .last .0))
             where
-              go : Dec (w .session .next .0 + 32 ≤ told .last .0) → Stand (told .last .0) (pastReserved (w .session .next .0 + 32)) ⊎ (told .last .0 < pastReserved (w .session .next .0 + 32))
-              go (yes h) = inl (inl (past-user (told .last .0) (w .session .next .0 + 32) (low (user-ranges (told .last .0) (w .session .next .0) user)) h (k .large)))
-              go (no h) = inr (omega (arith, past-reserved-least (w .session .next .0 + 32)))
+              go : Dec (w .session .position .next .0 + 32 ≤ told .last .0) → Stand (told .last .0) (pastReserved (w .session .position .next .0 + 32)) ⊎ (told .last .0 < pastReserved (w .session .position .next .0 + 32))
+              go (yes h) = inl (inl (past-user (told .last .0) (w .session .position .next .0 + 32) (low (user-ranges (told .last .0) (w .session .position .next .0) user)) h (k .large)))
+              go (no h) = inr (omega (arith, past-reserved-least (w .session .position .next .0 + 32)))
 
       -- 00/00/02: nothing readable is left
-      lost-so : Means r endOfMedium → ((c : ℕ) → w .session .next .0 ≤ c → t c ≡ none) → ReadInv told t (afterReply w r frame)
+      lost-so : Means r endOfMedium → ((c : ℕ) → w .session .position .next .0 ≤ c → t c ≡ none) → ReadInv told t (afterReply w r frame)
       unfolding reply.replyBy
       lost-so means unread =
           taken-as (answers e means)
-          (halted m refl refl (finds-no-end refl (fold-blank k (w .session .next .0) next-low unread ∙ u .so-far ∙ ap (going (w .session .expected .0)) (sym nothing-more))))
+          (halted m refl refl (finds-no-end refl (fold-blank k (w .session .position .next .0) next-low unread ∙ u .so-far ∙ same-as)))
 
     -- ---- busy
 
     repeated : {c : Command} → w .session .exchange .command ≡ c → Means r busy → reply.replyOf (w .session) r frame ≡ reply.delivering (reply.repeatedOf (w .session)) reply.nothing → Ordered (told .last .0) (w .session) (w .notes .replies) c → Stood (w .session) (w .at) c → ReadInv told t (afterReply w r frame)
     repeated {c} e means replied o st =
         taken-as replied
-        (under n m (record { told-is = u .told-is; going-on = u .going-on; unfinished = u .unfinished; so-far = u .so-far ∙ ap (going (w .session .expected .0)) (sym nothing-more) })
+        (under n m (record { told-is = u .told-is; going-on = u .going-on; unfinished = u .unfinished; so-far = u .so-far ∙ same-as })
         (subst (λ (x : ℕ). Agreed (told .last .0) t (reply.repeatedOf (w .session)) (w .at) x readings.no-command) (sym (pick-t _ (eq-eqb _ busy means)))
         (again refl refl (subst (λ (x : Command). Ordered (told .last .0) (reply.repeatedOf (w .session)) (w .notes .replies) x) (sym e) (order o)) (subst (λ (x : Command). Stood (reply.repeatedOf (w .session)) (w .at) x) (sym e) (stood c st)))))
       where

@@ -31,7 +31,6 @@ use Rattle.recording_state.proofs.Stages.{HeaderStage, ElementStage}
 use Rattle.archive.specs.Recordings.{World, Element, block, filemark, TakesEffect, afterBlock, afterFilemark, acceptedAfter}
 use Rattle.archive.proofs.tape.Basics.{no-effect}
 use Rattle.recording_state.proofs.WindowLaws.{put-same-block, put-other-block}
-use Rattle.archive.proofs.tape.Seen.{Seen}
 use Rattle.archive.proofs.tape.SeenLaws.{seen-accept}
 use Rattle.archive.proofs.tape.Stands.{Item, element, eod, itemAt, Stands, Queue, StoredAs}
 use Rattle.archive.proofs.tape.StandsLaws.{item-in, item-more}
@@ -186,6 +185,13 @@ module _ {last pass : ℕ} {on-newest none-bears : Type 0} (w : World) (set : Se
   count-is : w .session .elements .first .0 + w .session .elements .pending ≡ length (w .notes .accepted)
   count-is = l .counted .numbered ∙ total-plain (length (w .notes .accepted)) (early (l .course))
 
+  -- what is on tape was accepted
+  k-low : {k edge : ℕ} → Course last w k edge → k ≤ length (w .notes .accepted)
+  k-low (inv.opening st v t c) = omega (arith, t .first-is, count-is)
+  k-low (inv.writing st v a) = let n = writing-numbers (l .counted .held) a in omega (arith, n .most, count-is)
+  k-low (inv.closing st v c a b g) = clash c (acc .unclosed)
+  k-low (inv.finished st v c a b f g h r y) = clash c (acc .unclosed)
+
   writing-of : ElementStage (w .session) → Writing last (w .session) (w .drive) (l .k) (l .edge) (w .flight)
   writing-of st = go st (early (l .course))
     where
@@ -234,11 +240,9 @@ module _ {last pass : ℕ} {on-newest none-bears : Type 0} (w : World) (set : Se
 
     content-more : (unaltered : Bool) → Content last pass (acceptedWorld w (withElement (w .session) mark) window unaltered x) (l .k) (l .edge)
     content-more unaltered =
-        let y = early (l .course) in
         record {
           tape = c .tape;
-          seen = subst (λ (n : ℕ). Seen last pass (w .notes .accepted ++ x ∷ []) n (l .k) (l .edge) (w .drive .tape)) (sym (total-plain (length (w .notes .accepted ++ x ∷ [])) y))
-              (seen-accept x (subst (λ (n : ℕ). Seen last pass (w .notes .accepted) n (l .k) (l .edge) (w .drive .tape)) (total-plain (length (w .notes .accepted)) y) (c .seen)));
+          seen = seen-accept x (k-low (l .course)) (c .seen);
           stored = stored-more;
         }
 
@@ -255,6 +259,7 @@ module _ {last pass : ℕ} {on-newest none-bears : Type 0} (w : World) (set : Se
     outgoing = λ n. outgoing-more window unaltered (l .outgoing (⊎-elim (λ y. inl (y .0, gain (y .1) .0)) inr n));
     eod-place = let y = early (l .course) in record { written = λ _ b _. clash b (early-unended y); named = λ q. early-unclosed y q };
     below = l .below;
+    clean = l .clean;
     content = λ p u. let y = gain u in content-more window (l .content p (y .0)) (y .1) unaltered;
   }
 

@@ -15,8 +15,6 @@ use Rattle.recording_state.specs.declared.state.State.{State}
 use Rattle.recording_state.specs.declared.state.Stage.the-variants as S
 use Rattle.recording_state.proofs.Stages.{ElementStage}
 use Rattle.archive.specs.Recordings.{World, TakesEffect, withSession}
-use Rattle.archive.proofs.tape.Seen.{Seen}
-use Rattle.archive.proofs.tape.SeenLaws.{seen-eod}
 use Rattle.archive.proofs.tape.Basics.{no-frames}
 use Rattle.archive.proofs.tape.Stands.{Item, itemAt, Queue, StoredAs}
 use Rattle.archive.proofs.tape.StandsLaws.{item-past}
@@ -85,11 +83,12 @@ module _ {last pass : ℕ} {on-newest none-bears : Type 0} (w : World) (l : Live
         outgoing = λ _. none-outgoing;
         eod-place = record { written = λ _ _ k. absurd (omega (arith, numbers .most, none, count)); named = λ q. ⊎-elim (λ z. never (cc)) (λ z. never (cc)) q };
         below = l .below;
+        clean = l .clean;
         content = λ p u.
             let x = l .content p u in
             record {
               tape = x .tape;
-              seen = seen-eod (subst (λ (n : ℕ). Seen last pass (w .notes .accepted) n (l .k) (l .edge) (w .drive .tape)) (ap (λ (y : Bool). totalOf y (length (w .notes .accepted))) v) (x .seen));
+              seen = x .seen;
               stored = λ i h. eod-stored (w .window) (elements.acceptedOf (w .session .elements) false .marks) i h;
             };
       }
@@ -119,6 +118,7 @@ module _ {last pass : ℕ} {on-newest none-bears : Type 0} (w : World) (l : Live
         outgoing = λ n. let f = l .outgoing n in record { queue = f .queue; sent = f .sent };
         eod-place = record { written = l .eod-place .written; named = l .eod-place .named };
         below = l .below;
+        clean = l .clean;
         content = λ p u. let x = l .content p u in record { tape = x .tape; seen = x .seen; stored = x .stored };
       }
 

@@ -1,17 +1,19 @@
 -- What a recording that reported done leaves, and that a reading opens on it. Assumes nothing.
 use Prim.Native.Nat.{ℕ, _+_, _^_, _≤_, _<_}
 use mathlib.Core.Path.{_≡_, sym, ap, subst, _∙_}
-use mathlib.Core.Bool.{Bool, true, true≢false, _||_}
+use mathlib.Core.Bool.{true, true≢false, _||_}
 use mathlib.Core.List.{List}
 use mathlib.Core.Logic.{_⊎_, inl, inr, ⊎-elim}
 use native.Mathlib.Omega.{arith}
-use borrow.Author.Tests.{eqb-true}
+use borrow.Author.Tests.{eqb-true, ne-eqb}
 use lib.Dec.{eqb}
 use lib.ListN.{length}
 use Rattle.geometry.specs.Place.{asAddress, address}
 use Rattle.geometry.specs.Cartridge.{isUser, lastOf}
 use Rattle.geometry.proofs.TestLaws.{or-true}
+use Rattle.geometry.proofs.PickLaws.{pick-f}
 use Rattle.geometry.proofs.Impossible.{never}
+use Rattle.judgement.specs.Judgement.{endsFrom}
 use Rattle.geometry.specs.declared.cartridge.Geometry.{Geometry}
 use Rattle.geometry.proofs.UserFrames.{User, user-ranges}
 use Rattle.frame.specs.Header.{headerFrame}
@@ -25,12 +27,13 @@ use Rattle.header.proofs.Built.{built-valid, built-update, built-fields}
 use Rattle.archive.specs.Tape.{Tape, Cartridge}
 use Rattle.recording_state.specs.declared.state.Stage.the-variants as S
 use Rattle.reading_state.specs.Open as reading
+use Rattle.archive.specs.Conduct.{AtRest}
 use Rattle.archive.specs.Headers.{HeaderAt, Newest}
 use Rattle.archive.specs.Recordings.{World}
-use Rattle.archive.proofs.tape.Seen.{Seen, Recorded}
-use Rattle.archive.proofs.tape.SeenLaws.{seen-recorded}
+use Rattle.archive.proofs.tape.Seen.{Seen}
+use Rattle.archive.proofs.tape.Closed.{seen-closed}
 use Rattle.archive.proofs.recording.HeaderCopies.{Carried, Copy, Below}
-use Rattle.archive.proofs.recording.Invariant.{totalOf, Course, opening, writing, closing, finished, Content, Live, live, rejecting, over, Inv}
+use Rattle.archive.proofs.recording.Invariant.{Course, opening, writing, closing, finished, Content, Live, live, rejecting, over, Inv}
 use Rattle.archive.proofs.recording.Setting.{Setting, EodAt, HeadersLeft, Leaves}
 
 -- ---- a copy of the header
@@ -46,6 +49,9 @@ module _ {last pass spare : ℕ} (set : Setting last pass) (h : Header) (c : Car
       go : (eqb (h .eod .0) 0 ≡ true) ⊎ (isUser last (h .eod .0) ≡ true) → h .eod .0 < 2 ^ 32
       go (inl e) = let z = eqb-true (h .eod .0) 0 e in omega arith
       go (inr e) = low (user-ranges last (h .eod .0) e)
+
+  old-small : h .old .0 < 2 ^ 32
+  old-small = let l = c .old-low in omega (arith, set .small)
 
   last-small : h .last .0 < 2 ^ 32
   last-small = omega (arith, c .last-is, set .small)
@@ -67,7 +73,7 @@ module _ {last pass spare : ℕ} (set : Setting last pass) (h : Header) (c : Car
     copy-update = read-update r ∙ built-update h update-small
 
     pub copy-fields : headerOf f ≡ h
-    copy-fields = read-fields r ∙ built-fields h last-small (omega (arith, pass-low)) eod-small update-small
+    copy-fields = read-fields r ∙ built-fields h last-small (omega (arith, pass-low)) eod-small old-small update-small
 
     copy-pass : headerOf f .pass ≡ pass
     copy-pass = ap (λ (x : Header). x .pass) copy-fields ∙ c .pass-is
@@ -100,7 +106,7 @@ module _ {last pass spare : ℕ} (set : Setting last pass) (h : Header) (c : Car
 -- ---- done
 
 module _ {last pass : ℕ} {on-newest none-bears : Type 0} {w : World} (set : Setting last pass) (l : Live last pass on-newest none-bears w) (done : w .session .stage ≡ S.Done) where
-  headers-left : on-newest → Course last w (l .k) (l .edge) → HeadersLeft last pass (length (w .notes .accepted)) (w .drive .tape)
+  headers-left : on-newest → Course last w (l .k) (l .edge) → HeadersLeft last pass none-bears (length (w .notes .accepted)) (w .drive .tape)
   headers-left p (opening s _ _ _) = never (cc)
   headers-left p (writing s _ _) = never (cc)
   headers-left p (closing s _ _ _ _ _) = never (cc)
@@ -108,29 +114,60 @@ module _ {last pass : ℕ} {on-newest none-bears : Type 0} {w : World} (set : Se
     header = copy .frame;
     newest = copy-newest set (w .session .copies .header) (l .carried) copy (l .below p);
     passes = newest-pass set (w .session .copies .header) (l .carried) copy (l .below p);
-    ends = λ h n. subst (EodAt last pass (length (w .notes .accepted)) (w .drive .tape)) (sym (newest-eod set (w .session .copies .header) (l .carried) copy (l .below p) h n)) (l .eod-place .named (inr s));
+    end-at = w .session .copies .header .eod .0;
+    names = newest-eod set (w .session .copies .header) (l .carried) copy (l .below p);
+    ends = l .eod-place .named (inr s);
   }
 
-  recorded : Content last pass w (l .k) (l .edge) → Course last w (l .k) (l .edge) → Recorded last pass (w .drive .tape) (w .notes .accepted)
-  recorded content (opening s _ _ _) = never (cc)
-  recorded content (writing s _ _) = never (cc)
-  recorded content (closing s _ _ _ _ _) = never (cc)
-  recorded content (finished _ v _ k edge _ _ _ _ _) =
-      let all = subst (λ (n : ℕ). Seen last pass (w .notes .accepted) n (l .k) (l .edge) (w .drive .tape)) (ap (λ (x : Bool). totalOf x (length (w .notes .accepted))) v) (content .seen) in
-      seen-recorded (subst (λ (n : ℕ). Seen last pass (w .notes .accepted) (length (w .notes .accepted) + 1) n (last + 1) (w .drive .tape)) k (subst (λ (n : ℕ). Seen last pass (w .notes .accepted) (length (w .notes .accepted) + 1) (l .k) n (w .drive .tape)) edge all))
+  -- all that was accepted is seen, and EOD behind it
+  all-seen : Content last pass w (l .k) (l .edge) → Course last w (l .k) (l .edge) → Seen last pass (w .notes .accepted) (length (w .notes .accepted) + 1) (last + 1) (w .drive .tape)
+  all-seen content (opening s _ _ _) = never (cc)
+  all-seen content (writing s _ _) = never (cc)
+  all-seen content (closing s _ _ _ _ _) = never (cc)
+  all-seen content (finished _ v _ k edge _ _ _ _ _) =
+      subst (λ (n : ℕ). Seen last pass (w .notes .accepted) n (last + 1) (w .drive .tape)) k (subst (λ (n : ℕ). Seen last pass (w .notes .accepted) (l .k) n (w .drive .tape)) edge (content .seen))
 
 module _ {last pass : ℕ} {on-newest none-bears : Type 0} (w : World) (set : Setting last pass) where
-  pub closes : Inv last pass on-newest none-bears w → on-newest → w .notes .reported ≡ true → HeadersLeft last pass (length (w .notes .accepted)) (w .drive .tape)
+  pub closes : Inv last pass on-newest none-bears w → on-newest → w .notes .reported ≡ true → HeadersLeft last pass none-bears (length (w .notes .accepted)) (w .drive .tape)
   closes (live _ l) newest reported = headers-left set l (l .reported reported) newest (l .course)
   closes (rejecting _ d) newest reported = absurd (true≢false (sym reported ∙ d .unreported))
   closes (over _ o) newest reported = absurd (true≢false (sym reported ∙ o .unreported))
 
-  pub completes : Inv last pass on-newest none-bears w → on-newest → none-bears → w .notes .unaltered ≡ true → w .notes .reported ≡ true → Leaves last pass (w .drive .tape) (w .notes .accepted)
+  pub completes : Inv last pass on-newest none-bears w → on-newest → none-bears → w .notes .unaltered ≡ true → w .notes .reported ≡ true → Leaves last pass none-bears (w .drive .tape) (w .notes .accepted)
   completes (live wr l) newest none unaltered reported =
       let content = l .content none unaltered in
-      record { cartridge = content .tape; recorded = recorded set l (l .reported reported) content (l .course); headers = closes (live wr l) newest reported }
+      let headers = headers-left set l (l .reported reported) newest (l .course) in
+      let at = headers .ends in
+      record {
+        cartridge = content .tape;
+        headers = headers;
+        recorded = seen-closed (set .large) (headers .end-at) (at .frame) (at .user) (at .reads) (at .stands) (all-seen set l (l .reported reported) content (l .course));
+      }
   completes (rejecting _ d) newest none unaltered reported = absurd (true≢false (sym reported ∙ d .unreported))
   completes (over _ o) newest none unaltered reported = absurd (true≢false (sym reported ∙ o .unreported))
+
+-- ---- the drive rests
+
+rests-done : {last : ℕ} (w : World) {k edge : ℕ} → w .session .stage ≡ S.Done → Course last w k edge → AtRest (w .drive)
+rests-done w done (opening s _ _ _) = never (cc)
+rests-done w done (writing s _ _) = never (cc)
+rests-done w done (closing s _ _ _ _ _) = never (cc)
+rests-done w done (finished _ _ _ _ _ _ _ _ rests _) = rests
+
+pub reported-rests : {last pass : ℕ} {on-newest none-bears : Type 0} (w : World) → Inv last pass on-newest none-bears w → w .notes .reported ≡ true → AtRest (w .drive)
+reported-rests w (live _ l) reported = rests-done w (l .reported reported) (l .course)
+reported-rests w (rejecting _ d) reported = absurd (true≢false (sym reported ∙ d .unreported))
+reported-rests w (over _ o) reported = absurd (true≢false (sym reported ∙ o .unreported))
+
+-- ---- what a header that names EOD tells
+
+-- a user frame's address is not 0
+pub user-some : (last a : ℕ) → isUser last a ≡ true → a ≡ 0 → ⊥
+user-some last a u z = ⊎-elim (λ h. let x = h .0 in omega arith) (λ h. let x = h .0 in omega arith) (user-ranges last a u)
+
+pub ends-named : (h : Header) → (h .eod .0 ≡ 0 → ⊥) → endsFrom (reading.toldOf h) ≡ h .eod .0
+unfolding endsFrom
+ends-named h some = pick-f _ (ne-eqb (h .eod .0) 0 some)
 
 -- ---- a reading opens
 

@@ -24,9 +24,9 @@ use Rattle.recording_state.specs.declared.state.Stage.the-variants as S
 use Rattle.recording_state.proofs.Stages.{ElementStage}
 use Rattle.archive.specs.Recordings.{World, Element, withDrive}
 use Rattle.archive.proofs.tape.Basics.{none-some, some-same}
-use Rattle.archive.proofs.tape.Seen.{Seen}
+use Rattle.archive.proofs.tape.Seen.{Seen, Clean}
 use Rattle.archive.proofs.tape.FoldLaws.{put-same, put-other}
-use Rattle.archive.proofs.tape.SeenLaws.{cartridge-put, seen-elsewhere, seen-writes, seen-fails}
+use Rattle.archive.proofs.tape.SeenLaws.{cartridge-put, seen-elsewhere, seen-writes, seen-fails, clean-elsewhere, clean-behind}
 use Rattle.archive.proofs.tape.Stands.{Item, eod, itemAt, Stands, Queue}
 use Rattle.archive.proofs.tape.StandsLaws.{item-past, stands-read, stands-long}
 use Rattle.archive.proofs.recording.HeaderCopies.{Below}
@@ -78,12 +78,12 @@ module _ {last pass k : ℕ} (w : World) (e : Drive) (v : Option (List ℕ)) (q 
       let t = w .drive .tape in
       record {
         tape = subst (Cartridge last) (sym q) (cartridge-put last t a v (header-low last a large at) (λ f x. ⊎-elim (λ y. c .tape .long a f y) (λ r. r .long ∙ header-length (w .session .copies .header)) (left-reads left x)) (c .tape));
-        seen = subst (λ x. Seen last pass (w .notes .accepted) (totalOf (w .session .elements .eod) (length (w .notes .accepted))) k edge x) (sym q) (seen-elsewhere a v (not-user last a at (isUser last a) refl) (c .seen));
+        seen = subst (λ x. Seen last pass (w .notes .accepted) k edge x) (sym q) (seen-elsewhere a v (not-user last a at (isUser last a) refl) (c .seen));
         stored = c .stored;
       }
 
   -- EOD stays where it is
-  pub header-eod-place : (ElementStage (w .session) → ⊥) → EodPlace last pass w k → EodPlace last pass (withDrive w e (w .flight)) k
+  pub header-eod-place : {none-bears : Type 0} → (ElementStage (w .session) → ⊥) → EodPlace last pass none-bears w k → EodPlace last pass none-bears (withDrive w e (w .flight)) k
   header-eod-place no-elements x = record {
     written = λ st _ _. absurd (no-elements st);
     named = λ s.
@@ -94,8 +94,17 @@ module _ {last pass k : ℕ} (w : World) (e : Drive) (v : Option (List ℕ)) (q 
           user = y .user;
           reads = ap (λ (u : Tape). u a) q ∙ put-other (w .drive .tape) (w .drive .at) v a (λ z. header-not-user last (w .drive .at) at (sym (ap (isUser last) z) ∙ y .user)) ∙ y .reads;
           stands = y .stands;
+          above = λ p b f l u there.
+              y .above p b f l u
+              (sym (put-other (w .drive .tape) (w .drive .at) v b (λ z. header-not-user last (w .drive .at) at (sym (ap (isUser last) z) ∙ u))) ∙ sym (ap (λ (x : Tape). x b) q) ∙ there);
         };
   }
+
+-- nothing bears the pass that did not
+pub header-clean : {last pass edge : ℕ} (w : World) (t : Tape) (v : Option (List ℕ)) → t ≡ put (w .drive .tape) (w .drive .at) v → isHeader (w .drive .at) ≡ true
+    → Clean last pass edge (w .drive .tape) → Clean last pass edge t
+header-clean {last} {pass} {edge} w t v q at c =
+    subst (Clean last pass edge) (sym q) (clean-elsewhere (w .drive .at) v (not-user last (w .drive .at) at (isUser last (w .drive .at)) refl) c)
 
 -- ---- elements
 
@@ -123,28 +132,33 @@ module _ {last pass k : ℕ} (w : World) (f : List ℕ) (rest : List (List ℕ))
   module _ (here : isUser last (w .drive .at) ≡ true) (room : k + 1 ≤ totalOf (w .session .elements .eod) (length (w .notes .accepted))) where
     -- EOD
 
-    eod-stood : (read : List ℕ) → Stands last pass (itemAt (w .notes .accepted) k) k read → k ≡ length (w .notes .accepted) → EodAt last pass (length (w .notes .accepted)) (put (w .drive .tape) (w .drive .at) (some read)) (w .drive .at + 1 - 1)
-    eod-stood read s all =
+    eod-stood : {none-bears : Type 0} → (none-bears → Clean last pass (w .drive .at) (w .drive .tape)) → (read : List ℕ) → Stands last pass (itemAt (w .notes .accepted) k) k read → k ≡ length (w .notes .accepted) → EodAt last pass none-bears (length (w .notes .accepted)) (put (w .drive .tape) (w .drive .at) (some read)) (w .drive .at + 1 - 1)
+    eod-stood {none-bears} ahead read s all =
         let back : w .drive .at ≡ w .drive .at + 1 - 1 = omega arith in
         let item : itemAt (w .notes .accepted) k ≡ eod = item-past (w .notes .accepted) k (omega arith) in
-        subst (EodAt last pass (length (w .notes .accepted)) (put (w .drive .tape) (w .drive .at) (some read))) back (record {
+        subst (EodAt last pass none-bears (length (w .notes .accepted)) (put (w .drive .tape) (w .drive .at) (some read))) back (record {
           frame = read;
           user = here;
           reads = put-same (w .drive .tape) (w .drive .at) (some read);
           stands = subst (λ (n : ℕ). Stands last pass eod n read) all (subst (λ (x : Item). Stands last pass x k read) item s);
+          above = λ p. clean-behind (some read) (ahead p);
         })
 
-    pub eod-written : (v : Option (List ℕ)) → Written f v → (w .session .elements .eod ≡ true → Outgoing last pass w k) → EodPlace last pass (withDrive w (wrote (w .drive) rest v) (w .flight)) (k + 1)
-    eod-written v (conduct.reads read r) x = record { written = λ _ e all. eod-stood read (stands-read (queued (x e) .0) r) (omega arith); named = unclosed (w .session) st }
+    pub eod-written : {none-bears : Type 0} → (none-bears → Clean last pass (w .drive .at) (w .drive .tape)) → (v : Option (List ℕ)) → Written f v → (w .session .elements .eod ≡ true → Outgoing last pass w k) → EodPlace last pass none-bears (withDrive w (wrote (w .drive) rest v) (w .flight)) (k + 1)
+    eod-written ahead v (conduct.reads read r) x = record { written = λ _ e all. eod-stood ahead read (stands-read (queued (x e) .0) r) (omega arith); named = unclosed (w .session) st }
 
-    pub eod-failed : (v : Option (List ℕ)) → EodPlace last pass (withDrive w (failing (w .drive) v) (w .flight)) k
+    pub eod-failed : {none-bears : Type 0} (v : Option (List ℕ)) → EodPlace last pass none-bears (withDrive w (failing (w .drive) v) (w .flight)) k
     eod-failed v = record { written = λ _ _ all. absurd (omega (arith, most (w .session .elements .eod) (length (w .notes .accepted)))); named = unclosed (w .session) st }
 
     -- tape and window
 
     module _ {edge : ℕ} (large : 3000 ≤ last) (c : Content last pass w k edge) (x : Outgoing last pass w k) (edge-here : edge ≡ w .drive .at) where
-      seen-here : Seen last pass (w .notes .accepted) (totalOf (w .session .elements .eod) (length (w .notes .accepted))) k (w .drive .at) (w .drive .tape)
-      seen-here = subst (λ (a : ℕ). Seen last pass (w .notes .accepted) (totalOf (w .session .elements .eod) (length (w .notes .accepted))) k a (w .drive .tape)) edge-here (c .seen)
+      seen-here : Seen last pass (w .notes .accepted) k (w .drive .at) (w .drive .tape)
+      seen-here = subst (λ (a : ℕ). Seen last pass (w .notes .accepted) k a (w .drive .tape)) edge-here (c .seen)
+
+      -- at most EOD is to come
+      within : k ≤ length (w .notes .accepted)
+      within = omega (arith, most (w .session .elements .eod) (length (w .notes .accepted)))
 
       long-left : {v : Option (List ℕ)} → Left (w .drive .tape (w .drive .at)) f v → (g : List ℕ) → v ≡ some g → length g ≡ 33280
       long-left left g e = ⊎-elim (λ y. c .tape .long (w .drive .at) g y) (λ r. r .long ∙ stands-long (queued x .0)) (left-reads left e)
@@ -155,14 +169,14 @@ module _ {last pass k : ℕ} (w : World) (f : List ℕ) (rest : List (List ℕ))
       pub content-written : (v : Option (List ℕ)) → Written f v → Content last pass (withDrive w (wrote (w .drive) rest v) (w .flight)) (k + 1) (w .drive .at + 1)
       content-written v (conduct.reads read r) = record {
         tape = cartridge-left (as-new (some read) (conduct.reads read r));
-        seen = seen-writes (c .tape) (w .drive .at) here seen-here room (most (w .session .elements .eod) (length (w .notes .accepted))) read (stands-read (queued x .0) r);
+        seen = seen-writes (w .drive .at) large here seen-here within read (stands-read (queued x .0) r);
         stored = c .stored;
       }
 
       pub content-failed : (v : Option (List ℕ)) → Left (w .drive .tape (w .drive .at)) f v → Content last pass (withDrive w (failing (w .drive) v) (w .flight)) k (w .drive .at + 1)
       content-failed v left = record {
         tape = cartridge-left left;
-        seen = seen-fails (c .tape) (w .drive .at) here seen-here room (most (w .session .elements .eod) (length (w .notes .accepted))) f v (queued x .0) left;
+        seen = seen-fails (w .drive .at) large here seen-here within f v (queued x .0) left;
         stored = c .stored;
       }
 

@@ -27,7 +27,8 @@ use Rattle.archive.proofs.tape.Stands.{itemAt, Stands, Queue}
 use Rattle.drive.specs.Senses.{meaningOf}
 use Rattle.drive.specs.Listed.{Listed}
 use Rattle.archive.specs.Tape.{Tape, Cartridge}
-use Rattle.archive.proofs.tape.Seen.{Seen}
+use Rattle.archive.proofs.tape.Seen.{Seen, Clean}
+use Rattle.archive.proofs.tape.SeenLaws.{clean-put}
 use Rattle.archive.proofs.recording.HeaderCopies.{Below}
 use Rattle.archive.proofs.recording.CopiesLink as copies
 use Rattle.archive.proofs.recording.CopiesLink.{Copying, CopiesAgree}
@@ -37,7 +38,7 @@ use Rattle.archive.proofs.recording.ElementsLink as elements
 use Rattle.archive.proofs.recording.ElementsLink.{Asks, Answered, Writing}
 use Rattle.archive.proofs.recording.ElementsMoves as writing
 use Rattle.archive.proofs.recording.ElementsMoves.{Goes, writing-goes, ElementsOutcome, elements-answer, asks-off-header}
-use Rattle.archive.proofs.recording.ContentMoves.{header-below, element-below, header-content, header-eod-place, outgoing-written, outgoing-failed, eod-written, eod-failed, content-written, content-failed, queue-more}
+use Rattle.archive.proofs.recording.ContentMoves.{header-below, element-below, header-content, header-clean, header-eod-place, outgoing-written, outgoing-failed, eod-written, eod-failed, content-written, content-failed, queue-more}
 use Rattle.archive.proofs.recording.Invariant as inv
 use Rattle.archive.proofs.recording.Invariant.{totalOf, EodDue, Course, Outgoing, Known, EodPlace, Content, Live, Safe, halted, allowed, Inv, live, rejecting, over}
 use Rattle.archive.proofs.recording.InvariantLaws.{unreported}
@@ -63,9 +64,9 @@ safe-acts {last} {d} (allowed h) (conduct.fails f rest v b free l) =
 
 module _ {last pass : ℕ} {on-newest none-bears : Type 0} {w : World} (set : Setting last pass) (written : Within last (w .drive .written)) (l : Live last pass on-newest none-bears w) where
   -- another drive, in the same session
-  relive : (d : Drive) (f : Flight) (k edge : ℕ) → Course last (withDrive w d f) k edge → (Known none-bears w → Outgoing last pass (withDrive w d f) k) → EodPlace last pass (withDrive w d f) k
-      → (on-newest → Below last (w .session .copies .header) (d .tape)) → (none-bears → w .notes .unaltered ≡ true → Content last pass (withDrive w d f) k edge) → Live last pass on-newest none-bears (withDrive w d f)
-  relive d f k edge course outgoing eod-place below content = record {
+  relive : (d : Drive) (f : Flight) (k edge : ℕ) → Course last (withDrive w d f) k edge → (Known none-bears w → Outgoing last pass (withDrive w d f) k) → EodPlace last pass none-bears (withDrive w d f) k
+      → (on-newest → Below last (w .session .copies .header) (d .tape)) → (none-bears → Clean last pass edge (d .tape)) → (none-bears → w .notes .unaltered ≡ true → Content last pass (withDrive w d f) k edge) → Live last pass on-newest none-bears (withDrive w d f)
+  relive d f k edge course outgoing eod-place below clean content = record {
     k = k;
     edge = edge;
     going = l .going;
@@ -76,6 +77,7 @@ module _ {last pass : ℕ} {on-newest none-bears : Type 0} {w : World} (set : Se
     outgoing = outgoing;
     eod-place = eod-place;
     below = below;
+    clean = clean;
     content = content;
   }
 
@@ -109,14 +111,14 @@ module _ {last pass : ℕ} {on-newest none-bears : Type 0} {w : World} (set : Se
         live (header-written (goes .place))
         (relive (wrote (w .drive) rest v) (w .flight) (l .k) (l .edge) (course (wrote (w .drive) rest v) (agreed (goes .written v x)))
         (λ _. none-out (wrote (w .drive) rest v)) (header-eod-place w (wrote (w .drive) rest v) v refl (goes .place) outside (l .eod-place))
-        (λ p. header-below w v (as-header (as-new v x)) (l .below p)) (λ p u. header-content w (wrote (w .drive) rest v) v refl (goes .place) (set .large) (as-header (as-new v x)) (l .content p u)))
+        (λ p. header-below w v (as-header (as-new v x)) (l .below p)) (λ p. header-clean w (wrote (w .drive) rest v .tape) v refl (goes .place) (l .clean p)) (λ p u. header-content w (wrote (w .drive) rest v) v refl (goes .place) (set .large) (as-header (as-new v x)) (l .content p u)))
 
     header-fails : (v : Option (List ℕ)) → Left (w .drive .tape (w .drive .at)) f v → Inv last pass on-newest none-bears (withDrive w (failing (w .drive) v) (w .flight))
     header-fails v x =
         live (header-written (goes .place))
         (relive (failing (w .drive) v) (w .flight) (l .k) (l .edge) (course (failing (w .drive) v) (agreed (goes .broken v)))
         (λ _. none-out (failing (w .drive) v)) (header-eod-place w (failing (w .drive) v) v refl (goes .place) outside (l .eod-place))
-        (λ p. header-below w v (as-header x) (l .below p)) (λ p u. header-content w (failing (w .drive) v) v refl (goes .place) (set .large) (as-header x) (l .content p u)))
+        (λ p. header-below w v (as-header x) (l .below p)) (λ p. header-clean w (failing (w .drive) v .tape) v refl (goes .place) (l .clean p)) (λ p u. header-content w (failing (w .drive) v) v refl (goes .place) (set .large) (as-header x) (l .content p u)))
 
   -- ---- among the elements
 
@@ -128,19 +130,22 @@ module _ {last pass : ℕ} {on-newest none-bears : Type 0} {w : World} (set : Se
     room : l .k + 1 ≤ totalOf (w .session .elements .eod) (length (w .notes .accepted))
     room = omega (arith, on .room, l .counted .numbered)
 
+    clean-here : none-bears → Clean last pass (w .drive .at) (w .drive .tape)
+    clean-here p = subst (λ (a : ℕ). Clean last pass a (w .drive .tape)) (on .edge-here) (l .clean p)
+
     writes : (v : Option (List ℕ)) → Written f v → Inv last pass on-newest none-bears (withDrive w (wrote (w .drive) rest v) (w .flight))
     writes v x =
         live (user-written (on .place))
         (relive (wrote (w .drive) rest v) (w .flight) (l .k + 1) (w .drive .at + 1) (course (wrote (w .drive) rest v) (l .k + 1) (w .drive .at + 1) (on .written v))
-        (λ n. outgoing-written w f rest b free st v (l .outgoing n)) (eod-written w f rest b free st (on .place) room v x (λ e. l .outgoing (inr e)))
-        (λ p. element-below w (on .place) v (l .below p)) (λ p u. content-written w f rest b free st (on .place) room (set .large) (l .content p u) (l .outgoing (inl (p, u))) (on .edge-here) v x))
+        (λ n. outgoing-written w f rest b free st v (l .outgoing n)) (eod-written w f rest b free st (on .place) room clean-here v x (λ e. l .outgoing (inr e)))
+        (λ p. element-below w (on .place) v (l .below p)) (λ p. clean-put v (clean-here p)) (λ p u. content-written w f rest b free st (on .place) room (set .large) (l .content p u) (l .outgoing (inl (p, u))) (on .edge-here) v x))
 
     fails : (v : Option (List ℕ)) → Left (w .drive .tape (w .drive .at)) f v → Inv last pass on-newest none-bears (withDrive w (failing (w .drive) v) (w .flight))
     fails v x =
         live (user-written (on .place))
         (relive (failing (w .drive) v) (w .flight) (l .k) (w .drive .at + 1) (course (failing (w .drive) v) (l .k) (w .drive .at + 1) (on .broken v))
         (λ n. outgoing-failed w f rest b free st v (l .outgoing n)) (eod-failed w f rest b free st (on .place) room v)
-        (λ p. element-below w (on .place) v (l .below p)) (λ p u. content-failed w f rest b free st (on .place) room (set .large) (l .content p u) (l .outgoing (inl (p, u))) (on .edge-here) v x))
+        (λ p. element-below w (on .place) v (l .below p)) (λ p. clean-put v (clean-here p)) (λ p u. content-failed w f rest b free st (on .place) room (set .large) (l .content p u) (l .outgoing (inl (p, u))) (on .edge-here) v x))
 
   live-acts : Course last w (l .k) (l .edge) → (d : Drive) → Acts (w .drive) d → Inv last pass on-newest none-bears (withDrive w d (w .flight))
   live-acts (inv.opening s u t a) d (conduct.writes f rest v b free x) = header-writes f rest b free (inl s) a (λ _ y. inv.opening s u t y) v x
@@ -180,23 +185,22 @@ module _ {last pass : ℕ} {on-newest none-bears : Type 0} {w : World} (set : Se
     same-content : {k edge : ℕ} → Content last pass w k edge → Content last pass (withDrive w d (recordings.answered r)) k edge
     same-content {k} {edge} x =
         let e = sym (same-tape an .0) in
-        record {
-          tape = subst (Cartridge last) e (x .tape);
-          seen = subst (λ t. Seen last pass (w .notes .accepted) (totalOf (w .session .elements .eod) (length (w .notes .accepted))) k edge t) e (x .seen);
-          stored = x .stored;
-        }
+        record { tape = subst (Cartridge last) e (x .tape); seen = subst (λ t. Seen last pass (w .notes .accepted) k edge t) e (x .seen); stored = x .stored }
+
+    same-clean : {edge : ℕ} → Clean last pass edge (w .drive .tape) → Clean last pass edge (d .tape)
+    same-clean {edge} x = subst (Clean last pass edge) (sym (same-tape an .0)) x
 
     same-below : Below last (w .session .copies .header) (w .drive .tape) → Below last (w .session .copies .header) (d .tape)
     same-below x = subst (Below last (w .session .copies .header)) (sym (same-tape an .0)) x
 
-    same-eod-place : {k : ℕ} → (ElementStage (w .session) → w .session .elements .eod ≡ true → k ≡ length (w .notes .accepted) + 1 → d .at ≡ w .drive .at) → EodPlace last pass w k → EodPlace last pass (withDrive w d (recordings.answered r)) k
+    same-eod-place : {k : ℕ} → (ElementStage (w .session) → w .session .elements .eod ≡ true → k ≡ length (w .notes .accepted) + 1 → d .at ≡ w .drive .at) → EodPlace last pass none-bears w k → EodPlace last pass none-bears (withDrive w d (recordings.answered r)) k
     same-eod-place {k} stays x =
         let e = sym (same-tape an .0) in
         record {
           written = λ st b all.
-              subst (λ (t : Tape). EodAt last pass (length (w .notes .accepted)) t (d .at - 1)) e
-              (subst (λ (a : ℕ). EodAt last pass (length (w .notes .accepted)) (w .drive .tape) (a - 1)) (sym (stays st b all)) (x .written st b all));
-          named = λ s. subst (λ (t : Tape). EodAt last pass (length (w .notes .accepted)) t (w .session .copies .header .eod .0)) e (x .named s);
+              subst (λ (t : Tape). EodAt last pass none-bears (length (w .notes .accepted)) t (d .at - 1)) e
+              (subst (λ (a : ℕ). EodAt last pass none-bears (length (w .notes .accepted)) (w .drive .tape) (a - 1)) (sym (stays st b all)) (x .written st b all));
+          named = λ s. subst (λ (t : Tape). EodAt last pass none-bears (length (w .notes .accepted)) t (w .session .copies .header .eod .0)) e (x .named s);
         }
 
     -- the frame that was on the way is with the drive, or was not taken
@@ -213,7 +217,7 @@ module _ {last pass : ℕ} {on-newest none-bears : Type 0} {w : World} (set : Se
               live within
               (relive d (recordings.answered r) (l .k) (l .edge)
               (course d (record { counts = agree .counts; placed = agree .placed; copying = copies.replied r a g (subst (λ z. copies.CopyAnswered (w .session .copies) d r z) (sym e) y) }))
-              (λ _. outgoing-answered (λ el _. header-not-element (w .session) st el)) (same-eod-place (λ el _ _. header-not-element (w .session) st el) (l .eod-place)) (λ p. same-below (l .below p)) (λ p u. same-content (l .content p u)))
+              (λ _. outgoing-answered (λ el _. header-not-element (w .session) st el)) (same-eod-place (λ el _ _. header-not-element (w .session) st el) (l .eod-place)) (λ p. same-below (l .below p)) (λ p. same-clean (l .clean p)) (λ p u. same-content (l .content p u)))
           go (copying.reject m safe) = lost (header-not-done (w .session) st) a (λ z. m (subst (λ k. Listed k (meaningOf (r .key) (r .asc) (r .ascq))) e z)) (λ el. header-not-element (w .session) st el) safe
 
     module _ (st : ElementStage (w .session)) (due : EodDue (w .session .elements) (w .session .closed)) (agree : Writing last (w .session) (w .drive) (l .k) (l .edge) (w .flight))
@@ -263,7 +267,7 @@ module _ {last pass : ℕ} {on-newest none-bears : Type 0} {w : World} (set : Se
               live within
               (relive d (recordings.answered r) (l .k) (l .edge)
               (course d (elements.replied r a g (subst (λ z. Answered last (heldOf (w .session)) (w .session .elements .pending) d (l .k) (l .edge) r z) (sym e) y)))
-              (λ n. outgoing-answered (λ el free. queue-answers q (l .outgoing n) x an free)) (same-eod-place (λ _ b all. at-answers due b all x an) (l .eod-place)) (λ p. same-below (l .below p)) (λ p u. same-content (l .content p u)))
+              (λ n. outgoing-answered (λ el free. queue-answers q (l .outgoing n) x an free)) (same-eod-place (λ _ b all. at-answers due b all x an) (l .eod-place)) (λ p. same-below (l .below p)) (λ p. same-clean (l .clean p)) (λ p u. same-content (l .content p u)))
           go (writing.reject m safe) = lost (element-not-done (w .session) st) a (λ z. m (subst (λ k. Listed k (meaningOf (r .key) (r .asc) (r .ascq))) e z)) (λ _ b f. asks-off-header (subst (λ k. Asks last (heldOf (w .session)) (w .session .elements .pending) (w .drive) (l .k) (l .edge) k) (sym e ∙ f) x)) safe
 
     live-answers : Course last w (l .k) (l .edge) → Inv last pass on-newest none-bears (withDrive w d (recordings.answered r))

@@ -18,7 +18,7 @@ use Rattle.drive.specs.Cases.{locateGood, locateBusy, writeGood, writeBusy, wri
 use Rattle.drive.specs.Listed.{Means}
 use Rattle.archive.specs.Conduct.{AtRest}
 use Rattle.drive.specs.Senses.{busy}
-use Rattle.archive.specs.Tape.{Tape, Cartridge}
+use Rattle.archive.specs.Tape.{Tape}
 use Rattle.drive.specs.declared.command.Command.{Command}
 use Rattle.drive.specs.declared.reply.Reply.{Reply}
 use Rattle.copies.proofs.Counts.{start-counts}
@@ -36,10 +36,10 @@ use Rattle.archive.specs.Recordings as recordings
 use Rattle.archive.specs.Recordings.{World, Element}
 use Rattle.archive.specs.Demand.{Within}
 use Rattle.archive.proofs.tape.Basics.{none-sent}
-use Rattle.archive.proofs.tape.Seen.{Seen}
-use Rattle.archive.proofs.tape.FoldLaws.{fold-over}
-use Rattle.archive.proofs.tape.SeenLaws.{seen-moves}
-use Rattle.archive.proofs.tape.Stands.{itemAt, telling, StoredAs}
+use Rattle.archive.proofs.tape.Seen.{Has, Seen, Clean}
+use Rattle.archive.proofs.tape.FoldLaws.{fold-none}
+use Rattle.archive.proofs.tape.SeenLaws.{seen-moves, clean-moves}
+use Rattle.archive.proofs.tape.Stands.{itemAt, unending, StoredAs}
 use Rattle.archive.proofs.recording.HeaderCopies.{Below}
 use Rattle.archive.proofs.recording.Completion.{copy-update}
 use Rattle.archive.proofs.recording.CopiesLink as copies
@@ -58,19 +58,23 @@ use Rattle.archive.proofs.recording.Invariant.{totalOf, spareOf, Counte
 use Rattle.archive.proofs.recording.Setting.{Setting, EodAt}
 
 -- nothing of the user's is above LAST
-seen-top : {last pass total k edge : ℕ} {xs : List Element} {t : Tape} → 3000 ≤ last → Cartridge last t → last + 1 ≤ edge → Seen last pass xs total k edge t → Seen last pass xs total k (last + 1) t
-seen-top {last} {pass} {edge = edge} {t = t} large cart l h = record {
+above-last : {last a : ℕ} → 3000 ≤ last → last + 1 ≤ a → isUser last a ≡ true → ⊥
+above-last {last} {a} large b u = ⊎-elim (λ x. let y = x .1 in omega arith) (λ x. let y = x .1 in omega arith) (user-ranges last a u)
+
+clean-top : {last pass : ℕ} {t : Tape} → 3000 ≤ last → Clean last pass (last + 1) t
+clean-top large = record { old = 0; old-low = omega arith; none = λ a f _ b u _ _. above-last large b u }
+
+seen-top : {last pass k edge : ℕ} {xs : List Element} {t : Tape} → 3000 ≤ last → last + 1 ≤ edge → Seen last pass xs k edge t → Seen last pass xs k (last + 1) t
+seen-top {last} {pass} {edge = edge} {xs} {t} large l h = record {
+  base = h .base;
   m = h .m;
+  floor = h .floor;
   low = h .low;
   high = h .high;
   top = h .top;
-  seen = sym (fold-over (telling last pass) t (cart .long) (last + 1) edge l (λ c f b _ u _ _. above c b (user-ranges last c u))) ∙ h .seen;
-  clean = λ a f b u _ _. above a b (user-ranges last a u);
+  seen = subst (Has xs (h .m)) (fold-none (unending last pass) t (last + 1) edge l (λ c f b _ u _. above-last large b u)) (h .seen);
+  quiet = λ a f b u _ _ _. absurd (above-last large b u);
 }
-  where
-    above : (c : ℕ) → last + 1 ≤ c → User last c → ⊥
-    above c b (inl x) = let y = x .1 in omega arith
-    above c b (inr x) = let y = x .1 in omega arith
 
 module _ {last pass : ℕ} {on-newest none-bears : Type 0} (w : World) (r : Reply) (set : Setting last pass) (wr : Within last (w .drive .written)) (l : Live last pass on-newest none-bears w) (st : ElementStage (w .session)) where
   abbrev After : OutcomeSaid → Type 0
@@ -109,7 +113,7 @@ module _ {last pass : ℕ} {on-newest none-bears : Type 0} (w : World) (r : Repl
         let c = l .content p u in
         record {
           tape = c .tape;
-          seen = subst (λ (n : ℕ). Seen last pass (w .notes .accepted) n (l .k) (s .tried) (w .drive .tape)) (sym total-so) (seen-moves (c .tape) (s .tried) (s .further) (c .seen));
+          seen = seen-moves (s .tried) (s .further) (c .seen);
           stored = stored-so c;
         }
 
@@ -125,6 +129,7 @@ module _ {last pass : ℕ} {on-newest none-bears : Type 0} (w : World) (r : Repl
       outgoing = λ n. record { queue = l .outgoing (⊎-elim inl (λ b. inr (sym (s .eod-is) ∙ b)) n) .queue; sent = λ _ _ _ z. none-sent z };
       eod-place = record { written = λ q b n. l .eod-place .written q (sym (s .eod-is) ∙ b) n; named = λ q. ⊎-elim (λ z. never (cc)) (λ z. never (cc)) q };
       below = l .below;
+      clean = λ p. clean-moves (s .tried) (s .further) (l .clean p);
       content = content-so;
     }
 
@@ -147,15 +152,15 @@ module _ {last pass : ℕ} {on-newest none-bears : Type 0} (w : World) (r : Repl
       below-so b a f at =
           ⊎-elim (λ x. inl (omega (arith, count-up))) (λ x. inl (omega (arith, count-up, copy-update set (w .session .copies .header) (l .carried) x))) (b a f at)
 
-      seen-all : Content last pass w (l .k) (l .edge) → Seen last pass (w .notes .accepted) (length (w .notes .accepted) + 1) (l .k) (last + 1) (w .drive .tape)
+      seen-all : Content last pass w (l .k) (l .edge) → Seen last pass (w .notes .accepted) (l .k) (last + 1) (w .drive .tape)
       seen-all c = go (decLe (s .tried) (last + 1))
         where
-          here : Seen last pass (w .notes .accepted) (length (w .notes .accepted) + 1) (l .k) (s .tried) (w .drive .tape)
-          here = subst (λ (n : ℕ). Seen last pass (w .notes .accepted) n (l .k) (s .tried) (w .drive .tape)) total (seen-moves (c .tape) (s .tried) (s .further) (c .seen))
+          here : Seen last pass (w .notes .accepted) (l .k) (s .tried) (w .drive .tape)
+          here = seen-moves (s .tried) (s .further) (c .seen)
 
-          go : Dec (s .tried ≤ last + 1) → Seen last pass (w .notes .accepted) (length (w .notes .accepted) + 1) (l .k) (last + 1) (w .drive .tape)
-          go (yes h) = seen-moves (c .tape) (last + 1) h here
-          go (no h) = seen-top (set .large) (c .tape) (omega arith) here
+          go : Dec (s .tried ≤ last + 1) → Seen last pass (w .notes .accepted) (l .k) (last + 1) (w .drive .tape)
+          go (yes h) = seen-moves (last + 1) h here
+          go (no h) = seen-top (set .large) (omega arith) here
 
       closing-live : w .session .exchange .again ≡ false → Live last pass on-newest none-bears (repliedWorld w (closingStarted stepped))
       closing-live again =
@@ -169,6 +174,7 @@ module _ {last pass : ℕ} {on-newest none-bears : Type 0} (w : World) (r : Repl
               last-is = l .carried .last-is;
               pass-is = l .carried .pass-is;
               eod-fits = either-right (eqb (e .next .0 - 1) 0) (isUser last (e .next .0 - 1)) (on-tape .2);
+              old-low = omega arith;
               count-fits = let h = l .carried .count-fits in omega (arith, count-up, ap spareOf st);
             };
             course = inv.closing refl (s .eod-is ∙ v) closed all-on refl (record {
@@ -180,14 +186,15 @@ module _ {last pass : ℕ} {on-newest none-bears : Type 0} (w : World) (r : Repl
             outgoing = λ _. record { queue = λ el _. never (cc); sent = λ _ _ _ z. none-sent z };
             eod-place = record {
               written = λ el _ _. never (cc);
-              named = λ _. subst (λ (a : ℕ). EodAt last pass (length (w .notes .accepted)) (w .drive .tape) (a - 1)) (sym (on-tape .3)) (l .eod-place .written st v all-on);
+              named = λ _. subst (λ (a : ℕ). EodAt last pass none-bears (length (w .notes .accepted)) (w .drive .tape) (a - 1)) (sym (on-tape .3)) (l .eod-place .written st v all-on);
             };
             below = λ p. below-so (l .below p);
+            clean = λ _. clean-top (set .large);
             content = λ p u.
                 let x = l .content p u in
                 record {
                   tape = x .tape;
-                  seen = subst (λ (n : ℕ). Seen last pass (w .notes .accepted) n (l .k) (last + 1) (w .drive .tape)) (sym (total-so ∙ total)) (seen-all x);
+                  seen = seen-all x;
                   stored = λ i h. absurd (omega arith);
                 };
           }
@@ -238,6 +245,7 @@ module _ {last pass : ℕ} {on-newest none-bears : Type 0} (w : World) (r : Repl
           outgoing = λ n. record { queue = l .outgoing n .queue; sent = λ _ _ _ z. none-sent z };
           eod-place = record { written = l .eod-place .written; named = l .eod-place .named };
           below = l .below;
+          clean = l .clean;
           content = λ p u. let c = l .content p u in record { tape = c .tape; seen = c .seen; stored = c .stored };
         }))
       where

@@ -41,7 +41,7 @@ use Rattle.archive.specs.Recordings.{World, Flight, TakesEffect, fetchNu
 use Rattle.archive.specs.Demand.{Within}
 use Rattle.archive.proofs.tape.Basics.{no-effect, no-frames}
 use Rattle.archive.proofs.tape.Seen.{Seen}
-use Rattle.archive.proofs.tape.SeenLaws.{seen-moves}
+use Rattle.archive.proofs.tape.SeenLaws.{seen-moves, clean-moves}
 use Rattle.archive.proofs.tape.Stands.{itemAt, Stands, StoredAs}
 use Rattle.archive.proofs.recording.CopiesLink as copies
 use Rattle.archive.proofs.recording.CopiesLink.{CopyAsks, HeaderSent, Copying, CopiesAgree}
@@ -133,6 +133,7 @@ module _ {last pass : ℕ} {on-newest none-bears : Type 0} (w : World) (lent fra
     outgoing = λ n. let f = l .outgoing (known-left n) in record { queue = f .queue; sent = f .sent };
     eod-place = record { written = l .eod-place .written; named = l .eod-place .named };
     below = l .below;
+    clean = l .clean;
     content = λ p u.
         let b = as-left u in
         let c = l .content p (b .0) in
@@ -154,9 +155,9 @@ module _ {last pass : ℕ} {on-newest none-bears : Type 0} (w : World) (lent fra
     goes-out : (edge : ℕ) → Course last sentWorld (l .k) edge
         → ((a : Address) (f : List ℕ) → Known none-bears sentWorld → ElementStage (w .session) → recordings.sent c (frameFor c (w .session) lent frame) ≡ recordings.sent (Write a) f
         → Stands last pass (itemAt (w .notes .accepted) (w .session .elements .first .0 + w .session .elements .outstanding)) (w .session .elements .first .0 + w .session .elements .outstanding) f)
-        → (Content last pass w (l .k) (l .edge) → Seen last pass (w .notes .accepted) (totalOf (w .session .elements .eod) (length (w .notes .accepted))) (l .k) edge (w .drive .tape))
+        → l .edge ≤ edge
         → Live last pass on-newest none-bears sentWorld
-    goes-out edge course sent seen = record {
+    goes-out edge course sent further = record {
       k = l .k;
       edge = edge;
       going = l .going;
@@ -167,10 +168,11 @@ module _ {last pass : ℕ} {on-newest none-bears : Type 0} (w : World) (lent fra
       outgoing = λ n. record { queue = l .outgoing (known-left n) .queue; sent = λ a f. sent a f n };
       eod-place = record { written = l .eod-place .written; named = l .eod-place .named };
       below = l .below;
+      clean = λ p. clean-moves edge further (l .clean p);
       content = λ p u.
           let b = as-left u in
           let x = l .content p (b .0) in
-          record { tape = x .tape; seen = seen x; stored = stored-lent (b .1) x };
+          record { tape = x .tape; seen = seen-moves edge further (x .seen); stored = stored-lent (b .1) x };
     }
 
   -- ---- from a header stage
@@ -191,7 +193,7 @@ module _ {last pass : ℕ} {on-newest none-bears : Type 0} (w : World) (lent fra
     header-out c agree asked course =
         live wr
         (goes-out c (l .edge) (course (record { counts = agree .counts; placed = agree .placed; copying = copies.under-way c (frameFor c (w .session) lent frame) refl refl refl (header-sent c) asked }))
-        (λ _ _ _ el _. header-not-element (w .session) st el) (λ x. x .seen))
+        (λ _ _ _ el _. header-not-element (w .session) st el) (le-refl (l .edge)))
 
     asks-header : {x : CommandSaid} → PlacedOf (w .session .copies) → command.CommandView (w .session .setup .depth) (w .session .copies) x → w .session .exchange .again ≡ false → Copying (w .session) (w .drive) recordings.no-command → CopyAsks (w .session .copies) (w .drive) (commandFor x)
     asks-header pl (command.locating t) ag (copies.at-place a g x) = clash t (x .placed)
@@ -299,7 +301,7 @@ module _ {last pass : ℕ} {on-newest none-bears : Type 0} (w : World) (lent fra
         subst (λ (y : List ℕ). Stands last pass (itemAt (w .notes .accepted) (w .session .elements .first .0 + w .session .elements .outstanding)) (w .session .elements .first .0 + w .session .elements .outstanding) y)
         (sym (ap (λ (y : Command). frameFor y (w .session) lent frame) command-is) ∙ frame-is)
         (stands-sent known el (due-of (subst (λ (y : Command). Asks last (heldOf (w .session)) (w .session .elements .pending) (w .drive) (l .k) (o .edge) y) command-is (o .asks)))))
-        (λ x. seen-moves (x .tape) (o .edge) (o .further) (x .seen)))
+        (o .further))
 
 -- ---- no reply is awaited, so no command is in flight
 

@@ -28,7 +28,6 @@ use Rattle.archive.specs.Recordings as recordings
 use Rattle.archive.specs.Recordings.{World}
 use Rattle.archive.specs.Demand.{Within}
 use Rattle.archive.proofs.tape.Basics.{none-sent}
-use Rattle.archive.proofs.tape.Seen.{Seen}
 use Rattle.archive.proofs.tape.Stands.{itemAt, Queue, StoredAs}
 use Rattle.archive.proofs.recording.HeaderCopies.{Carried, Copy, Below}
 use Rattle.archive.proofs.recording.CopiesLink as copies
@@ -99,14 +98,15 @@ module _ {last pass : ℕ} {on-newest none-bears : Type 0} (w : World) (r : Repl
       outgoing = λ _. record { queue = λ el _. header-not-element (w .session) st (sym stage ∙ el); sent = λ _ _ _ z. none-sent z };
       eod-place = record {
         written = λ el _ _. header-not-element (w .session) st (sym stage ∙ el);
-        named = λ q. subst (λ (x : Header). EodAt last pass (length (w .notes .accepted)) (w .drive .tape) (x .eod .0)) (sym head) (l .eod-place .named (⊎-elim (λ z. inl (sym stage ∙ z)) (λ z. inr (sym stage ∙ z)) q));
+        named = λ q. subst (λ (x : Header). EodAt last pass none-bears (length (w .notes .accepted)) (w .drive .tape) (x .eod .0)) (sym head) (l .eod-place .named (⊎-elim (λ z. inl (sym stage ∙ z)) (λ z. inr (sym stage ∙ z)) q));
       };
       below = λ p. subst (λ (x : Header). Below last x (w .drive .tape)) (sym head) (l .below p);
+      clean = l .clean;
       content = λ p u.
           let c = l .content p u in
           record {
             tape = c .tape;
-            seen = subst (λ (x : Elements). Seen last pass (w .notes .accepted) (totalOf (x .eod) (length (w .notes .accepted))) (l .k) (l .edge) (w .drive .tape)) (sym els) (c .seen);
+            seen = c .seen;
             stored = subst (λ (p : Sized). (i : ℕ) → i < p .els .pending → StoredAs (itemAt (w .notes .accepted) (p .els .first .0 + i)) (w .window) (p .els .marks) (p .top + 1) (p .els .first .0 + i)) (sym (sized-same v high els)) (c .stored);
           };
     }
@@ -131,6 +131,7 @@ module _ {last pass : ℕ} {on-newest none-bears : Type 0} (w : World) (r : Repl
           outgoing = λ _. record { queue = queue; sent = λ _ _ _ z. none-sent z };
           eod-place = record { written = λ el b _. absurd (unended el b); named = λ q. l .eod-place .named (inl (named q)) };
           below = l .below;
+          clean = l .clean;
           content = λ p u. let x = l .content p u in record { tape = x .tape; seen = x .seen; stored = x .stored };
         }
 

@@ -23,7 +23,7 @@ use Rattle.recording_state.proofs.Stages.{ElementStage}
 use Rattle.archive.specs.Recordings as recordings
 use Rattle.archive.specs.Recordings.{World}
 use Rattle.archive.specs.Demand.{Within}
-use Rattle.archive.proofs.tape.Seen.{Seen}
+use Rattle.archive.proofs.tape.Seen.{Seen, Clean}
 use Rattle.archive.proofs.tape.Stands.{itemAt, Stands, Queue, StoredAs}
 use Rattle.archive.proofs.recording.HeaderCopies.{Carried, Copy, Below}
 use Rattle.archive.proofs.recording.CopiesLink.{CopiesAgree}
@@ -52,7 +52,7 @@ pub record Counted (last n : ℕ) (s : State) : Type 0 where
   pub marks : length (s .elements .marks) ≡ 64
   pub room : s .elements .limit .0 ≤ last + 1
 
--- before the first LOCATE of the elements, which are to start from a number and an address: 0 and 10 in a fresh recording
+-- before the first LOCATE of the elements, which are to start from a number and an address: 0 and 10 in a fresh recording, the next number and the old end in one that adds
 pub record StartsFrom (last : ℕ) (first outstanding : ℕ) (locate : Bool) (target : ℕ) (k edge : ℕ) : Type 0 where
   pub first-is : first ≡ k
   pub none-out : outstanding ≡ 0
@@ -96,19 +96,20 @@ abbrev pub Known : Type 0 → World → Type 0
 Known none-bears w = (none-bears × (w .notes .unaltered ≡ true)) ⊎ (w .session .elements .eod ≡ true)
 
 -- EOD, once it is on tape, stands behind the drive's place, and then where the closing headers say
-pub record EodPlace (last pass : ℕ) (w : World) (k : ℕ) : Type 0 where
-  pub written : ElementStage (w .session) → w .session .elements .eod ≡ true → k ≡ length (w .notes .accepted) + 1 → EodAt last pass (length (w .notes .accepted)) (w .drive .tape) (w .drive .at - 1)
-  pub named : (w .session .stage ≡ S.ClosingHeaders) ⊎ (w .session .stage ≡ S.Done) → EodAt last pass (length (w .notes .accepted)) (w .drive .tape) (w .session .copies .header .eod .0)
+pub record EodPlace (last pass : ℕ) (none-bears : Type 0) (w : World) (k : ℕ) : Type 0 where
+  pub written : ElementStage (w .session) → w .session .elements .eod ≡ true → k ≡ length (w .notes .accepted) + 1 → EodAt last pass none-bears (length (w .notes .accepted)) (w .drive .tape) (w .drive .at - 1)
+  pub named : (w .session .stage ≡ S.ClosingHeaders) ⊎ (w .session .stage ≡ S.Done) → EodAt last pass none-bears (length (w .notes .accepted)) (w .drive .tape) (w .session .copies .header .eod .0)
 
--- ---- tape and window, where no user frame bore the pass and the window is unaltered
+-- ---- tape and window, where the tape was quiet at the opening and the window is unaltered
 
 pub record Content (last pass : ℕ) (w : World) (k edge : ℕ) : Type 0 where
   pub tape : Cartridge last (w .drive .tape)
-  pub seen : Seen last pass (w .notes .accepted) (totalOf (w .session .elements .eod) (length (w .notes .accepted))) k edge (w .drive .tape)
+  pub seen : Seen last pass (w .notes .accepted) k edge (w .drive .tape)
   pub stored : (i : ℕ) → i < w .session .elements .pending
       → StoredAs (itemAt (w .notes .accepted) (w .session .elements .first .0 + i)) (w .window) (w .session .elements .marks) (blocksOf (w .session)) (w .session .elements .first .0 + i)
 
--- ---- the whole, with what may be assumed of the opening: that it was on the newest header or rightly on none, and that no user frame bore the pass
+-- ---- the whole, with what may be assumed of the opening: that it was on the newest header or rightly on none, and that no user frame bore the pass,
+-- or none above the old end
 
 pub record Live (last pass : ℕ) (on-newest none-bears : Type 0) (w : World) : Type 0 where
   pub k : ℕ
@@ -119,8 +120,9 @@ pub record Live (last pass : ℕ) (on-newest none-bears : Type 0) (w : World) : 
   pub course : Course last w k edge
   pub reported : w .notes .reported ≡ true → w .session .stage ≡ S.Done
   pub outgoing : Known none-bears w → Outgoing last pass w k
-  pub eod-place : EodPlace last pass w k
+  pub eod-place : EodPlace last pass none-bears w k
   pub below : on-newest → Below last (w .session .copies .header) (w .drive .tape)
+  pub clean : none-bears → Clean last pass edge (w .drive .tape)
   pub content : none-bears → w .notes .unaltered ≡ true → Content last pass w k edge
 
 -- all that the drive may still write goes to addresses that are allowed

@@ -10,7 +10,7 @@ use Rattle.header.specs.Valid.{headerOf}
 use Rattle.archive.specs.Tape.{Tape, Cartridge}
 use Rattle.archive.specs.Headers.{Newest}
 use Rattle.archive.specs.Recordings.{Element}
-use Rattle.archive.proofs.tape.Seen.{Recorded}
+use Rattle.archive.proofs.tape.Seen.{NoneFrom, Recorded}
 use Rattle.archive.proofs.tape.Stands.{eod, Stands}
 
 -- the numbers that the geometry and the opening fix
@@ -19,22 +19,26 @@ pub record Setting (last pass : ℕ) : Type 0 where
   pub small : last + 65 < 2 ^ 32
   pub low : pass ≤ 65534
 
--- an address at which the tape reads as EOD with this number
-pub record EodAt (last pass n : ℕ) (t : Tape) (a : ℕ) : Type 0 where
+-- an address at which the tape reads as EOD with this number; above it no user frame bears the pass, where so much may be assumed
+pub record EodAt (last pass : ℕ) (none-bears : Type 0) (n : ℕ) (t : Tape) (a : ℕ) : Type 0 where
   pub frame : List ℕ
   pub user : isUser last a ≡ true
   pub reads : t a ≡ some frame
   pub stands : Stands last pass eod n frame
+  pub above : none-bears → NoneFrom last pass t (a + 1)
 
 -- the newest headers that a recording leaves which reported done
-pub record HeadersLeft (last pass n : ℕ) (t : Tape) : Type 0 where
+pub record HeadersLeft (last pass : ℕ) (none-bears : Type 0) (n : ℕ) (t : Tape) : Type 0 where
   pub header : List ℕ
   pub newest : Newest last t header
   pub passes : (h : List ℕ) → Newest last t h → headerOf h .pass ≡ pass
-  pub ends : (h : List ℕ) → Newest last t h → EodAt last pass n t (headerOf h .eod .0)
+  -- where they say, and they name no old end
+  pub end-at : ℕ
+  pub names : (h : List ℕ) → Newest last t h → headerOf h .eod .0 ≡ end-at
+  pub ends : EodAt last pass none-bears n t end-at
 
 -- and all that it leaves
-pub record Leaves (last pass : ℕ) (t : Tape) (xs : List Element) : Type 0 where
+pub record Leaves (last pass : ℕ) (none-bears : Type 0) (t : Tape) (xs : List Element) : Type 0 where
   pub cartridge : Cartridge last t
-  pub recorded : Recorded last pass t xs
-  pub headers : HeadersLeft last pass (length xs) t
+  pub headers : HeadersLeft last pass none-bears (length xs) t
+  pub recorded : Recorded last pass t xs (headers .end-at)

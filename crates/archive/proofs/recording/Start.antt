@@ -2,19 +2,23 @@
 use Prim.Native.Nat.{ℕ, _+_, _-_, _%_, _^_, _≤_, _<_}
 use mathlib.Core.Path.{_≡_, refl, sym, ap, subst, _∙_}
 use mathlib.Core.Bool.{Bool, true, false, _||_, true≢false}
-use mathlib.Core.List.{List, []}
-use mathlib.Core.Logic.{inl, inr, ⊎-elim}
+use mathlib.Core.List.{List, [], _++_, append-nil}
+use mathlib.Core.Logic.{_⊎_, inl, inr, ⊎-elim}
 use native.Mathlib.Nat.{le-refl, mod-eq-of-lt}
 use native.Mathlib.Omega.{arith}
 use borrow.Author.Tests.{ltb-false, leb-false}
 use lib.Dec.{eqb, ltb, leb}
-use lib.ListN.{length-replicate}
-use Rattle.geometry.specs.Place.{asAddress, PlaceSaid, address}
+use lib.ListN.{length, length-replicate}
+use Rattle.geometry.specs.Place.{asAddress, asSeq, PlaceSaid, address}
+use Rattle.geometry.specs.declared.address.Seq.{Seq}
+use Rattle.frame.specs.Trail.{noTrail}
+use Rattle.frame.specs.declared.trail.Trail.{Trail}
+use Rattle.judgement.proofs.JudgeLaws.{other-pass}
 use Rattle.geometry.specs.Cartridge.{lastOf, isUser}
 use Rattle.geometry.specs.declared.cartridge.Geometry.{Geometry}
 use Rattle.geometry.proofs.PickLaws.{pick-by}
 use Rattle.geometry.proofs.Last.{frames-of, last-small}
-use Rattle.geometry.proofs.TestLaws.{or-false}
+use Rattle.geometry.proofs.TestLaws.{or-false, and-true}
 use Rattle.geometry.proofs.Impossible.{never}
 use Rattle.geometry.proofs.UserFrames.{User, user-ranges}
 use Rattle.frame.specs.declared.header.Header.{Header}
@@ -29,46 +33,54 @@ use Rattle.copies.proofs.Counts.{start-counts}
 use Rattle.copies.proofs.Placed.{start-placed}
 use Rattle.recording_state.specs.State.{OutcomeSaid, accepting}
 use Rattle.carried_headers.specs.Carried.{isExhausted, renewed, openingHeader}
-use Rattle.recording_state.specs.Open.{fresh, openRefused, openWith, openFor, openOf, openBlankFor, openBlankOf}
+use Rattle.recording_state.specs.Open.{startedAt, fresh, openRefused, isMisfit, openWith, openFor, openOf, openBlankFor, openBlankOf}
 use Rattle.recording_state.specs.declared.state.State.{State}
+use Rattle.recording_state.proofs.Sizes.{sizes-fit}
 use Rattle.recording_state.specs.declared.state.Stage.the-variants as S
 use Rattle.archive.specs.Recordings as recordings
+use Rattle.archive.specs.Recordings.{Element}
 use Rattle.archive.specs.Demand as demand
 use Rattle.archive.specs.Demand.{newPass, Opening, on-header, on-none, opened, OnNewest, NoneBears}
 use Rattle.archive.specs.Fold.{foldOf}
-use Rattle.archive.proofs.tape.Stands.{telling}
-use Rattle.archive.proofs.tape.Seen.{Seen}
-use Rattle.archive.proofs.tape.FoldLaws.{seen-part, fold-over}
+use Rattle.archive.proofs.tape.Stands.{unending}
+use Rattle.archive.proofs.tape.Seen.{has, Seen, Clean}
+use Rattle.archive.proofs.tape.FoldLaws.{fold-none}
 use Rattle.archive.proofs.recording.HeaderCopies.{Carried, Below}
 use Rattle.archive.proofs.recording.CopiesLink.{to-seek}
+use Rattle.archive.proofs.recording.Noted.{noted}
 use Rattle.archive.proofs.recording.Invariant as inv
 use Rattle.archive.proofs.recording.Invariant.{Inv, live}
 use Rattle.archive.proofs.recording.Setting.{Setting}
 
--- ---- an opening that was accepted
+-- ---- an opening that was accepted, behind elements that the cartridge holds already
 
-pub record Started (last : ℕ) (s : State) : Type 0 where
+pub record Started (last : ℕ) (earlier : List Element) (at : ℕ) (s : State) : Type 0 where
   pub depth : ℕ
   pub highest : ℕ
   pub header : Header
-  pub is : fresh depth highest header ≡ s
+  pub number : Seq
+  pub trail : Trail
+  pub is : startedAt depth highest header (asAddress at) number trail ≡ s
   pub narrow : highest ≤ 63
   pub last-is : header .last .0 ≡ last
   pub pass-low : header .pass ≤ 65534
   pub eod-zero : header .eod .0 ≡ 0
+  pub old-low : header .old .0 ≤ last
   pub count-fits : header .update + 1 < 2 ^ 32
+  pub number-is : number .0 ≡ length earlier
+  pub roof : at ≤ last
+  pub zone : (at ≤ 2990) ⊎ (3000 ≤ at)
+  pub spread : length earlier + 10 ≤ at
 
-refused-accepting : {X : Type 0} {s : State} (n : ℕ) → 1 ≤ n → openRefused n ≡ accepting s → X
+pub refused-accepting : {X : Type 0} {s : State} (n : ℕ) → 1 ≤ n → openRefused n ≡ accepting s → X
 refused-accepting n l e = let z : n ≡ 0 = ap (λ (r : OutcomeSaid). r .number) e in absurd (omega arith)
 
 opened-with : (depth blocks : ℕ) (exhausted : Bool) (h : Header) (s : State) → openWith depth blocks exhausted h ≡ accepting s → (fresh depth (blocks - 1) h ≡ s) × (blocks ≤ 64) × (exhausted ≡ false)
 unfolding openWith
 opened-with depth blocks exhausted h s =
-    pick-by (λ (r : OutcomeSaid). r ≡ accepting s → (fresh depth (blocks - 1) h ≡ s) × (blocks ≤ 64) × (exhausted ≡ false)) (eqb depth 0 || (eqb blocks 0 || ltb 64 blocks)) (λ _ e. refused-accepting 4 (omega arith) e)
+    pick-by (λ (r : OutcomeSaid). r ≡ accepting s → (fresh depth (blocks - 1) h ≡ s) × (blocks ≤ 64) × (exhausted ≡ false)) (isMisfit depth blocks) (λ _ e. refused-accepting 4 (omega arith) e)
     (λ sizes. pick-by (λ (r : OutcomeSaid). r ≡ accepting s → (fresh depth (blocks - 1) h ≡ s) × (blocks ≤ 64) × (exhausted ≡ false)) exhausted (λ _ e. refused-accepting 5 (omega arith) e)
-    (λ x e.
-    let widths = or-false (eqb blocks 0) (ltb 64 blocks) (or-false (eqb depth 0) (eqb blocks 0 || ltb 64 blocks) sizes .1) in
-    (ap (λ (r : OutcomeSaid). r .session) e, ltb-false 64 blocks (widths .1), x)))
+    (λ x e. (ap (λ (r : OutcomeSaid). r .session) e, sizes-fit depth blocks sizes .1, x)))
 
 module _ (g : Geometry) (last depth blocks : ℕ) (s : State) (e : lastOf g ≡ address last) where
   pub record OnHeader (h : List ℕ) : Type 0 where
@@ -93,8 +105,8 @@ module _ (g : Geometry) (last depth blocks : ℕ) (s : State) (e : lastOf g ≡ 
       let x = or-false (leb 65534 (headerOf h .pass)) (ltb 4294967293 (headerOf h .update)) (o .with .2) in
       (leb-false 65534 (headerOf h .pass) (x .0), ltb-false 4294967293 (headerOf h .update) (x .1))
 
-  started-header : (h : List ℕ) → OnHeader h → Started last s
-  started-header h o =
+  started-header : 3000 ≤ last → (h : List ℕ) → OnHeader h → Started last [] 10 s
+  started-header large h o =
       let x = fresh-counts h o in
       let small : (headerOf h .pass + 1) % 2 ^ 16 ≡ headerOf h .pass + 1 = mod-eq-of-lt (let y = x .0 in omega arith) in
       let few : (headerOf h .update + 1) % 2 ^ 32 ≡ headerOf h .update + 1 = mod-eq-of-lt (let y = x .1 in omega arith) in
@@ -102,11 +114,18 @@ module _ (g : Geometry) (last depth blocks : ℕ) (s : State) (e : lastOf g ≡ 
         depth = depth;
         highest = blocks - 1;
         header = renewed (headerOf h);
+        number = asSeq 0;
+        trail = noTrail;
         is = o .with .0;
         narrow = let y = o .with .1 in omega arith;
         last-is = valid-last last h (o .valid);
         pass-low = let y = x .0 in omega (arith, small);
         eod-zero = refl;
+        old-low = omega arith;
+        number-is = refl;
+        roof = omega arith;
+        zone = inl (omega arith);
+        spread = le-refl 10;
         count-fits = let y = x .1 in omega (arith, few);
       }
 
@@ -114,24 +133,31 @@ module _ (g : Geometry) (last depth blocks : ℕ) (s : State) (e : lastOf g ≡ 
   unfolding openBlankOf
   blank-with q = opened-with depth blocks false (openingHeader (asAddress last) 1 0) s (sym (ap (λ (y : PlaceSaid). openBlankFor y depth blocks) e) ∙ q)
 
-  started-none : openBlankOf g depth blocks ≡ accepting s → Started last s
-  started-none q =
+  started-none : 3000 ≤ last → openBlankOf g depth blocks ≡ accepting s → Started last [] 10 s
+  started-none large q =
       let o = blank-with q in
       record {
         depth = depth;
         highest = blocks - 1;
         header = openingHeader (asAddress last) 1 0;
+        number = asSeq 0;
+        trail = noTrail;
         is = o .0;
         narrow = let y = o .1 in omega arith;
         last-is = refl;
         pass-low = omega arith;
         eod-zero = refl;
+        old-low = omega arith;
+        number-is = refl;
+        roof = omega arith;
+        zone = inl (omega arith);
+        spread = le-refl 10;
         count-fits = omega arith;
       }
 
-  started-as : (o : Opening) → opened g depth blocks o ≡ accepting s → Started last s
-  started-as (on-header h) q = started-header h (on-header-view h q)
-  started-as on-none q = started-none q
+  pub started-as : 3000 ≤ last → (o : Opening) → opened g depth blocks o ≡ accepting s → Started last [] 10 s
+  started-as large (on-header h) q = started-header large h (on-header-view h q)
+  started-as large on-none q = started-none large q
 
   pub pass-is : (o : Opening) → opened g depth blocks o ≡ accepting s → s .copies .header .pass ≡ newPass o
   pass-is (on-header h) q =
@@ -141,7 +167,7 @@ module _ (g : Geometry) (last depth blocks : ℕ) (s : State) (e : lastOf g ≡ 
   pass-is on-none q = sym (ap (λ (r : State). r .copies .header .pass) (blank-with q .0))
 
   -- every valid header that the cartridge holds counts less
-  starts-below : (t : Tape) (o : Opening) → opened g depth blocks o ≡ accepting s → OnNewest last t o → Below last (s .copies .header) t
+  pub starts-below : (t : Tape) (o : Opening) → opened g depth blocks o ≡ accepting s → OnNewest last t o → Below last (s .copies .header) t
   starts-below t (on-header h) q n a f at =
       let o = on-header-view h q in
       let x = fresh-counts h o in
@@ -150,46 +176,53 @@ module _ (g : Geometry) (last depth blocks : ℕ) (s : State) (e : lastOf g ≡ 
       inl (omega (arith, n .highest a f at, few, is))
   starts-below t on-none q n a f at = absurd (n a f at)
 
-pub sets : (g : Geometry) (last depth blocks : ℕ) (o : Opening) (s : State) → g .segtrk < 2 ^ 16 → g .trks < 2 ^ 16 → lastOf g ≡ address last
-    → opened g depth blocks o ≡ accepting s → Setting last (s .copies .header .pass)
-sets g last depth blocks o s seg trk e q =
+pub sets : (g : Geometry) (last : ℕ) (earlier : List Element) (at : ℕ) (s : State) → g .segtrk < 2 ^ 16 → g .trks < 2 ^ 16 → lastOf g ≡ address last → Started last earlier at s → Setting last (s .copies .header .pass)
+sets g last earlier at s seg trk e x =
     let f = frames-of g last e in
-    let x = started-as g last depth blocks s e o q in
     record {
       large = f .large;
       small = last-small g last seg trk f;
       low = subst (λ (r : State). r .copies .header .pass ≤ 65534) (x .is) (x .pass-low);
     }
 
--- ---- the start
+-- ---- what a reading sees at the start of a fresh recording
 
-nothing-seen : (last pass : ℕ) (t : Tape) → Cartridge last t → NoneBears last t pass → Seen last pass [] 0 0 10 t
+pub nothing-seen : (last pass : ℕ) (t : Tape) → Cartridge last t → NoneBears last t pass → Seen last pass [] 0 10 t
 unfolding foldOf
 nothing-seen last pass t cart none = record {
+  base = 0;
   m = 0;
-  low = le-refl 0;
+  floor = le-refl 0;
+  low = inl (le-refl 0);
   high = omega arith;
   top = le-refl 0;
-  seen = fold-over (telling last pass) t (cart .long) 0 10 (omega arith) (λ c f l u w _ _. low c u (user-ranges last c w)) ∙ sym (seen-part [] 0 (le-refl 0));
-  clean = λ a f l u q. none a f u q;
+  seen = has noTrail (fold-none (unending last pass) t 0 10 (omega arith) (λ c f l u w _. low c u (user-ranges last c w)));
+  quiet = λ a f l u q i h. other-pass (unending last pass) (record { 0 = a }) (record { 0 = i }) f (cart .long a f q) (none a f u q);
 }
   where
     low : (c : ℕ) → c < 10 → User last c → ⊥
     low c u (inl h) = let x = h .0 in omega arith
     low c u (inr h) = let x = h .0 in omega arith
 
-begins-fresh : (last : ℕ) (d : Drive) (window : List ℕ) (s : State) (x : Started last s) (on-newest none-bears : Type 0) → Setting last (s .copies .header .pass) → d .written ≡ [] → AtRest d
-    → Cartridge last (d .tape) → (on-newest → Below last (s .copies .header) (d .tape)) → (none-bears → NoneBears last (d .tape) (s .copies .header .pass)) → Inv last (s .copies .header .pass) on-newest none-bears (recordings.started s window d)
-begins-fresh last d window s x on-newest none-bears set unwritten rest cart below none =
+-- and nothing that bears the pass
+pub nothing-borne : (last pass : ℕ) (t : Tape) → NoneBears last t pass → Clean last pass 10 t
+nothing-borne last pass t none = record { old = 9; old-low = omega arith; none = λ a f o l u q. none a f u q }
+
+-- ---- the start
+
+pub begins : (last : ℕ) (d : Drive) (window : List ℕ) (earlier : List Element) (kept : Bool) (at : ℕ) (s : State) (x : Started last earlier at s) (on-newest none-bears : Type 0) → Setting last (s .copies .header .pass) → d .written ≡ [] → AtRest d
+    → Cartridge last (d .tape) → (on-newest → Below last (s .copies .header) (d .tape)) → (none-bears → kept ≡ true → Seen last (s .copies .header .pass) earlier (length earlier) at (d .tape)) → (none-bears → Clean last (s .copies .header .pass) at (d .tape))
+    → Inv last (s .copies .header .pass) on-newest none-bears (noted earlier kept (recordings.started s window d))
+begins last d window earlier kept at s x on-newest none-bears set unwritten rest cart below seen clean =
     live (subst (demand.Within last) (sym unwritten) demand.nothing-written) (record {
-      k = 0;
-      edge = 10;
+      k = length earlier;
+      edge = at;
       going = ap (λ (r : State). r .ended) (sym (x .is));
-      counted = subst (λ (r : State). inv.Counted last 0 r) (x .is) (record {
+      counted = subst (λ (r : State). inv.Counted last (length (earlier ++ [])) r) (x .is) (record {
         wide = x .narrow;
         held = le-refl 0;
         windowed = omega arith;
-        numbered = refl;
+        numbered = omega (arith, x .number-is, ap length (append-nil earlier));
         marks = length-replicate {A = Bool} 64 false;
         room = room;
       });
@@ -197,10 +230,11 @@ begins-fresh last d window s x on-newest none-bears set unwritten rest cart belo
         last-is = x .last-is;
         pass-is = refl;
         eod-fits = ap (λ (n : ℕ). eqb n 0 || isUser last n) (x .eod-zero);
+        old-low = x .old-low;
         count-fits = x .count-fits;
       });
-      course = subst (λ (r : State). inv.Course last (recordings.started r window d) 0 10) (x .is)
-          (inv.opening refl refl (record { first-is = refl; none-out = refl; relocates = refl; target-is = refl; roof = omega (arith, set .large); zone = inl (omega arith); spread = le-refl 10 }) (record {
+      course = subst (λ (r : State). inv.Course last (noted earlier kept (recordings.started r window d)) (length earlier) (at)) (x .is)
+          (inv.opening refl refl (record { first-is = x .number-is; none-out = refl; relocates = refl; target-is = refl; roof = x .roof; zone = x .zone; spread = x .spread }) (record {
             counts = start-counts (x .header);
             placed = start-placed (x .header);
             copying = to-seek refl refl (record { due = refl; rests = rest; kept = inl refl });
@@ -209,10 +243,11 @@ begins-fresh last d window s x on-newest none-bears set unwritten rest cart belo
       outgoing = λ _. record { queue = λ st _. absurd (opening-stage st); sent = λ _ _ st _. absurd (opening-stage st) };
       eod-place = record { written = λ st _ _. absurd (opening-stage st); named = λ st. absurd (⊎-elim closing-stage done-stage st) };
       below = below;
-      content = λ p _.
+      clean = clean;
+      content = λ p u.
           record {
             tape = cart;
-            seen = subst (λ (n : ℕ). Seen last (s .copies .header .pass) [] n 0 10 (d .tape)) (ap (λ (r : State). inv.totalOf (r .elements .eod) 0) (x .is)) (nothing-seen last (s .copies .header .pass) (d .tape) cart (none p));
+            seen = subst (λ (xs : List Element). Seen last (s .copies .header .pass) xs (length earlier) (at) (d .tape)) (sym (append-nil earlier)) (seen p (and-true kept true u .0));
             stored = λ i h. absurd (none-pending i h);
           };
     })
@@ -234,10 +269,3 @@ begins-fresh last d window s x on-newest none-bears set unwritten rest cart belo
 
     done-stage : s .stage ≡ S.Done → ⊥
     done-stage st = never (let e = stage-is in cc)
-
-pub begins : (g : Geometry) (last depth blocks : ℕ) (d : Drive) (o : Opening) (s : State) (window : List ℕ) → lastOf g ≡ address last
-    → Setting last (s .copies .header .pass) → Cartridge last (d .tape) → d .written ≡ [] → AtRest d → opened g depth blocks o ≡ accepting s
-    → Inv last (s .copies .header .pass) (OnNewest last (d .tape) o) (NoneBears last (d .tape) (s .copies .header .pass)) (recordings.started s window d)
-begins g last depth blocks d o s window e set cart unwritten rest q =
-    begins-fresh last d window s (started-as g last depth blocks s e o q) (OnNewest last (d .tape) o) (NoneBears last (d .tape) (s .copies .header .pass)) set unwritten rest cart
-    (starts-below g last depth blocks s e (d .tape) o q) (λ p. p)

@@ -15,34 +15,45 @@ use Rattle.frame.specs.Header.{headerFrame}
 use Rattle.frame.proofs.Frames.{element-length, element-data}
 use Rattle.archive.specs.Tape.{Tape, put}
 use Rattle.drive.specs.declared.command.Command.the-variants.{Read, Locate, ReadPosition}
+use Rattle.frame.specs.Trail.{noTrail}
+use Rattle.frame.specs.declared.trail.Trail.{Trail}
+use Rattle.judgement.specs.declared.told.Told.{Told}
 use Rattle.judgement.specs.Judgement as judgement
 use Rattle.judgement.proofs.Written.{judged-written, judged-other-pass}
-use Rattle.reading_state.specs.Open.{OpenedSaid, fresh, openOf}
-use Rattle.archive.specs.Recordings.{Element, block, filemark}
-use Rattle.archive.specs.Readings.{World, Runs, started}
+use Rattle.reading_state.specs.Open.{OpenedSaid, toldOf, fresh, openOf}
+use Rattle.archive.specs.Recordings.{block, filemark}
+use Rattle.archive.specs.Readings.{World, Call, Runs, started}
 use Rattle.archive.specs.Demand.{Faithful}
-use Rattle.archive.specs.Sample.{geometry, older, stopped, firstOpening, firstElements, firstBlock, firstFilemark, firstEod, firstClosing, firstReading}
+use Rattle.archive.specs.Sample.{geometry, older, stopped, firstOpening, firstElements, firstBlock, firstFilemark, firstEod, firstClosing, throughFirst, firstReading}
 use Rattle.archive.proofs.tape.Basics.{reads-itself}
 use Rattle.archive.proofs.tape.FoldLaws.{put-other}
-use Rattle.archive.proofs.tape.Stands.{telling}
 use Rattle.archive.proofs.tape.WrittenFrames.{block-fits}
 use Rattle.archive.proofs.sample.Tapes.{empty, same-reads, headers-elsewhere}
 use Rattle.archive.proofs.sample.ReadingExchange.{between, before, address-located, address-located-again, frame-read, unreadable-skipped, blank-jumped, end-said, reading-opened}
 use Rattle.archive.proofs.sample.FirstRecording.{older-fits, afterFailure, afterBlock, afterFilemark, firstOpened, firstWritten, firstLeft, first-valid, first-newest, first-readable}
 
-pub first-reading-opened : openOf geometry (headerFrame firstClosing) ≡ record { session = fresh (telling 11999 1); number = 0 }
-first-reading-opened = reading-opened firstClosing refl (lit< tt) first-valid
+pub first-reading-opened : openOf geometry (headerFrame firstClosing) ≡ record { session = fresh (toldOf firstClosing); number = 0 }
+first-reading-opened = reading-opened firstClosing (lit< tt) (lit< tt) (lit< tt) (lit< tt) (lit< tt) first-valid
 
 -- ---- the frames, as a reading of pass 1 judges them
 
-older-passed-over : judgement.judgeFrame (telling 11999 1) (record { 0 = 0 }) (elementFrame older blank) ≡ judgement.skipped
-older-passed-over = judged-other-pass older (lit< tt) (lit< tt) blank older-fits (reads-itself (elementFrame older blank)) (telling 11999 1) (record { 0 = 0 }) (λ q. omega arith)
+-- what the header of a closed recording of pass 1 tells
+abbrev pub toldAt : ℕ → ℕ → Told
+toldAt eod update = record { last = asAddress 11999; pass = 1; eod = asAddress eod; old = asAddress 0; update = update }
 
-filemark-found : judgement.judgeFrame (telling 11999 1) (record { 0 = 1 }) (elementFrame firstFilemark blank) ≡ judgement.filemark
-filemark-found = judged-written firstFilemark (lit< tt) (lit< tt) blank refl (reads-itself (elementFrame firstFilemark blank))
+module _ (eod update : ℕ) where
+  older-passed-over : judgement.judgeFrame (toldAt eod update) (asAddress 10) (record { 0 = 0 }) (elementFrame older blank) ≡ judgement.skipped
+  older-passed-over = judged-other-pass older (lit< tt) (lit< tt) blank older-fits (reads-itself (elementFrame older blank)) (toldAt eod update) (asAddress 10) (record { 0 = 0 }) (λ q. omega arith)
 
-eod-found : judgement.judgeFrame (telling 11999 1) (record { 0 = 2 }) (elementFrame firstEod blank) ≡ judgement.end
-eod-found = judged-written firstEod (lit< tt) (lit< tt) blank refl (reads-itself (elementFrame firstEod blank))
+  block-found : (b : List ℕ) → length b ≡ 32768 → judgement.judgeFrame (toldAt eod update) (asAddress 44) (record { 0 = 0 }) (elementFrame firstBlock b) ≡ judgement.block
+  block-found b full = judged-written firstBlock (lit< tt) (lit< tt) b (block-fits Data b full) (reads-itself (elementFrame firstBlock b)) (toldAt eod update) (asAddress 44) refl refl refl
+
+  filemark-found : judgement.judgeFrame (toldAt eod update) (asAddress 45) (record { 0 = 1 }) (elementFrame firstFilemark blank) ≡ judgement.filemark
+  filemark-found = judged-written firstFilemark (lit< tt) (lit< tt) blank refl (reads-itself (elementFrame firstFilemark blank)) (toldAt eod update) (asAddress 45) refl refl refl
+
+eod-found : judgement.judgeFrame (toldOf firstClosing) (asAddress 46) (record { 0 = 2 }) (elementFrame firstEod blank) ≡ judgement.end
+unfolding judgement.endsFrom
+eod-found = judged-written firstEod (lit< tt) (lit< tt) blank refl (reads-itself (elementFrame firstEod blank)) (toldOf firstClosing) (asAddress 46) refl refl refl
 
 -- ---- the tape
 
@@ -62,7 +73,7 @@ module _ (b : List ℕ) where
   unfolding put
   filemark-reads = refl
 
-  eod-reads : left 46 ≡ some (elementFrame firstEod blank)
+  pub eod-reads : left 46 ≡ some (elementFrame firstEod blank)
   unfolding put
   eod-reads = refl
 
@@ -80,37 +91,42 @@ module _ (b : List ℕ) where
 
 -- ---- the list
 
--- the end, with these deliveries and eight replies taken in
-abbrev endWith : List Element → World
-endWith deliveries = between 47 deliveries 8 (before 1 (Read (asAddress 46)) 47 false 2 true)
+-- the filemark was delivered at 45
+abbrev pub firstTrail : Trail
+firstTrail = record { filemarks = 1; marker = asAddress 45 }
 
+-- the end, with eight replies taken in
 abbrev pub firstRead : List ℕ → World
-firstRead b = endWith (firstElements b)
+firstRead b = between 47 (firstElements b) 8 (before (toldOf firstClosing) firstTrail (Read (asAddress 46)) 47 false 2 true)
 
 module _ (b : List ℕ) (full : length b ≡ 32768) where
-  block-found : judgement.judgeFrame (telling 11999 1) (record { 0 = 0 }) (elementFrame firstBlock b) ≡ judgement.block
-  block-found = judged-written firstBlock (lit< tt) (lit< tt) b (block-fits Data b full) (reads-itself (elementFrame firstBlock b))
+  -- what was accepted comes back byte for byte, also from a later tape that reads as this one up to 45
+  module _ (t : Tape) (same : (a : ℕ) → 10 ≤ a → a < 46 → t a ≡ left b a) (eod update : ℕ) {cs : List Call} {u : World} where
+    pub first-through : Runs t (between 46 (firstElements b) 7 (before (toldAt eod update) firstTrail (Read (asAddress 45)) 46 false 2 false)) cs u
+        → Runs t (between 10 [] 1 (before (toldAt eod update) noTrail (Locate (asAddress 10)) 10 false 0 false)) (throughFirst b cs) u
+    first-through rest =
+        let told : Told = toldAt eod update in
+        let fits = block-fits Data b full in
+        let gap : (a : ℕ) → 11 ≤ a → a < 44 → t a ≡ none = λ a low high. same a (omega arith) (omega arith) ∙ gap-empty b a low high in
+        let read : List ℕ = take 32768 (elementFrame firstBlock b) in
+        frame-read t told noTrail [] 1 (Locate (asAddress 10)) 10 0 refl refl true (elementFrame older blank) judgement.skipped (same 10 (lit≤ tt) (lit< tt) ∙ ten-reads b) (element-length older blank older-fits) (older-passed-over eod update) refl
+        (unreadable-skipped t told noTrail [] 2 (Read (asAddress 10)) 11 0 refl refl (gap 11 (lit≤ tt) (lit< tt))
+        (blank-jumped t told noTrail [] 3 (Read (asAddress 11)) 12 0 refl refl (λ a low high. gap a (omega arith) high)
+        (address-located t told noTrail [] 4 (Read (asAddress 12)) 44 0 refl 12
+        (frame-read t told noTrail [] 5 (Locate (asAddress 44)) 44 0 refl refl true (elementFrame firstBlock b) judgement.block (same 44 (lit≤ tt) (lit< tt) ∙ block-reads b) (element-length firstBlock b fits) (block-found eod update b full) refl
+        (frame-read t told noTrail (block read ∷ []) 6 (Read (asAddress 44)) 45 1 refl refl true (elementFrame firstFilemark blank) judgement.filemark (same 45 (lit≤ tt) (lit< tt) ∙ filemark-reads b) (element-length firstFilemark blank refl) (filemark-found eod update) refl
+        (subst (λ (bytes : List ℕ). Runs t (between 46 (block bytes ∷ filemark ∷ []) 7 (before told firstTrail (Read (asAddress 45)) 46 false 2 false)) cs u) (sym (element-data firstBlock b fits)) rest))))))
 
-  from-fresh : (place : ℕ) → Runs (left b) (started (fresh (telling 11999 1)) place) (firstReading b) (endWith (block (take 32768 (elementFrame firstBlock b)) ∷ filemark ∷ []))
+  from-fresh : (place : ℕ) → Runs (left b) (started (fresh (toldOf firstClosing)) place) (firstReading b) (firstRead b)
   from-fresh place =
-      let justBlock : List Element = block (take 32768 (elementFrame firstBlock b)) ∷ [] in
-      let both : List Element = block (take 32768 (elementFrame firstBlock b)) ∷ filemark ∷ [] in
-      address-located-again (left b) 1 [] 0 ReadPosition 10 0 refl place
-      (frame-read (left b) 1 [] 1 (Locate (asAddress 10)) 10 0 refl refl true (elementFrame older blank) judgement.skipped (ten-reads b) (element-length older blank older-fits) older-passed-over refl
-      (unreadable-skipped (left b) 1 [] 2 (Read (asAddress 10)) 11 0 refl refl (gap-empty b 11 (lit≤ tt) (lit< tt))
-      (blank-jumped (left b) 1 [] 3 (Read (asAddress 11)) 12 0 refl refl (λ a low high. gap-empty b a (omega arith) high)
-      (address-located (left b) 1 [] 4 (Read (asAddress 12)) 44 0 refl 12
-      (frame-read (left b) 1 [] 5 (Locate (asAddress 44)) 44 0 refl refl true (elementFrame firstBlock b) judgement.block (block-reads b) (element-length firstBlock b (block-fits Data b full)) block-found refl
-      (frame-read (left b) 1 justBlock 6 (Read (asAddress 44)) 45 1 refl refl true (elementFrame firstFilemark blank) judgement.filemark (filemark-reads b) (element-length firstFilemark blank refl) filemark-found refl
-      (frame-read (left b) 1 both 7 (Read (asAddress 45)) 46 2 refl refl true (elementFrame firstEod blank) judgement.end (eod-reads b) (element-length firstEod blank refl) eod-found refl
-      (end-said (left b) 47 both 8 1 (Read (asAddress 46)) 47 2))))))))
+      address-located-again (left b) (toldOf firstClosing) noTrail [] 0 ReadPosition 10 0 refl place
+      (first-through (left b) (λ _ _ _. refl) 46 1
+      (frame-read (left b) (toldOf firstClosing) firstTrail (firstElements b) 7 (Read (asAddress 45)) 46 2 refl refl true (elementFrame firstEod blank) judgement.end (eod-reads b) (element-length firstEod blank refl) eod-found refl
+      (end-said (left b) 47 (firstElements b) 8 (toldOf firstClosing) firstTrail (Read (asAddress 46)) 47 2)))
 
-  -- from the newest header of the cartridge: what was accepted comes back byte for byte, and the end
+  -- from the newest header of the cartridge, to the end
   pub first-read : (place : ℕ) → Runs (left b) (started (openOf geometry (headerFrame firstClosing) .session) place) (firstReading b) (firstRead b)
-  first-read place =
-      subst (λ (x : OpenedSaid). Runs (left b) (started (x .session) place) (firstReading b) (firstRead b)) (sym first-reading-opened)
-      (subst (λ (bytes : List ℕ). Runs (left b) (started (fresh (telling 11999 1)) place) (firstReading b) (endWith (block bytes ∷ filemark ∷ [])))
-      (element-data firstBlock b (block-fits Data b full)) (from-fresh place))
+  first-read place = subst (λ (x : OpenedSaid). Runs (left b) (started (x .session) place) (firstReading b) (firstRead b)) (sym first-reading-opened) (from-fresh place)
 
   -- and demand 3 speaks of this list
   pub first-faithful : Faithful 11999 (firstElements b) (firstRead b)

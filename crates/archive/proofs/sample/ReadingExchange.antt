@@ -13,9 +13,8 @@ use Rattle.geometry.specs.Place.{asAddress}
 use Rattle.frame.specs.Header.{headerFrame}
 use Rattle.frame.specs.declared.header.Header.{Header}
 use Rattle.frame.proofs.Frames.{header-length}
-use Rattle.frame.proofs.HeaderFields.{header-pass}
-use Rattle.header.specs.Valid.{validHeader, headerOf}
-use Rattle.header.proofs.Facts.{valid-last}
+use Rattle.header.specs.Valid.{validHeader}
+use Rattle.header.proofs.Built.{built-fields}
 use Rattle.header.proofs.ReadLaws.{valid-taken}
 use Rattle.archive.specs.Conduct.{Serves, locates, brings, misses, blanks}
 use Rattle.drive.specs.Command.{commandCode, commandAddress, commandBy}
@@ -27,8 +26,10 @@ use Rattle.drive.specs.declared.command.Command.{Command}
 use Rattle.drive.specs.declared.command.Command.the-variants.{Read, Locate}
 use Rattle.drive.specs.declared.reply.Reply.{Reply}
 use Rattle.drive.proofs.CaseLaws.{command-by}
+use Rattle.frame.specs.declared.trail.Trail.{Trail}
+use Rattle.judgement.specs.declared.told.Told.{Told}
 use Rattle.judgement.specs.Judgement as judgement
-use Rattle.reading_state.specs.Open.{fresh, openFor, openOf}
+use Rattle.reading_state.specs.Open.{toldOf, fresh, openFor, openOf}
 use Rattle.reading_state.specs.Fetch as fetch
 use Rattle.reading_state.specs.Reply as reply
 use Rattle.reading_state.specs.declared.state.State.{State as Reading}
@@ -36,7 +37,6 @@ use Rattle.archive.specs.Recordings.{Element}
 use Rattle.archive.specs.Readings.{Flight, sent, answered, World, Call, fetching, replying, LentWith, withSession, fetchNumber, replyNumber, delivered, refusedAfter, repliesAfter, afterFetching, afterTaking, Calls, refuses, fetches, replies, serves, Runs, stop, call, drive, endAfter}
 use Rattle.archive.specs.Readings as readings
 use Rattle.archive.specs.Sample.{geometry, frame, good, recovered, unreadable, endOfData}
-use Rattle.archive.proofs.tape.Stands.{telling}
 use Rattle.archive.proofs.sample.Exchange.{framed}
 
 -- ---- one call, or one exchange
@@ -95,13 +95,13 @@ module _ (t : Tape) (deliveries : List Element) (n : ℕ) {cs : List Call} {u : 
 
 -- ---- the session, and each kind of exchange
 
--- a reading of a pass before a command
-abbrev pub before : ℕ → Command → ℕ → Bool → ℕ → Bool → Reading
-before pass c next locate expected finished = record {
-  told = telling 11999 pass;
-  next = asAddress next;
-  locate = locate;
+-- a reading on what a header tells, behind a trail, before a command
+abbrev pub before : Told → Trail → Command → ℕ → Bool → ℕ → Bool → Reading
+before told trail c next locate expected finished = record {
+  told = told;
+  position = record { next = asAddress next; locate = locate };
   expected = record { 0 = expected };
+  trail = trail;
   exchange = record { command = c; awaiting = false; again = false };
   finished = finished;
   ended = false;
@@ -112,14 +112,14 @@ abbrev bringing : Bool → Reply
 bringing true = good
 bringing false = recovered
 
-module _ (pass : ℕ) (c : Command) (a expected : ℕ) (low : ltb 11999 a ≡ false) where
+module _ (told : Told) (trail : Trail) (c : Command) (a expected : ℕ) (low : ltb (told .last .0) a ≡ false) where
   abbrev locating : Reading
-  locating = fetch.awaits (before pass c a true expected false) (Locate (asAddress a))
+  locating = fetch.awaits (before told trail c a true expected false) (Locate (asAddress a))
 
   abbrev reading : Reading
-  reading = fetch.awaits (before pass c a false expected false) (Read (asAddress a))
+  reading = fetch.awaits (before told trail c a false expected false) (Read (asAddress a))
 
-  locate-fetched : fetch.fetchOf (before pass c a true expected false) ≡ fetch.sending (before pass c a true expected false) (Locate (asAddress a))
+  locate-fetched : fetch.fetchOf (before told trail c a true expected false) ≡ fetch.sending (before told trail c a true expected false) (Locate (asAddress a))
   unfolding fetch.fetchOf fetch.commandOf
   locate-fetched = rw low
 
@@ -131,11 +131,11 @@ module _ (pass : ℕ) (c : Command) (a expected : ℕ) (low : ltb 11999 a ≡ fa
   unfolding reply.replyOf
   none-lent = refl
 
-  read-fetched : eqb a 2990 ≡ false → fetch.fetchOf (before pass c a false expected false) ≡ fetch.sending (before pass c a false expected false) (Read (asAddress a))
+  read-fetched : eqb a 2990 ≡ false → fetch.fetchOf (before told trail c a false expected false) ≡ fetch.sending (before told trail c a false expected false) (Read (asAddress a))
   unfolding fetch.fetchOf fetch.commandOf
   read-fetched user = rw (low, user)
 
-  frame-replied : (clean : Bool) (f : List ℕ) → length f ≡ 33280 → (j : judgement.JudgementSaid) → judgement.judgeFrame (telling 11999 pass) (record { 0 = expected }) f ≡ j → reply.replyOf reading (bringing clean) f ≡ reply.judgedBy j reading
+  frame-replied : (clean : Bool) (f : List ℕ) → length f ≡ 33280 → (j : judgement.JudgementSaid) → judgement.judgeFrame told (asAddress a) (record { 0 = expected }) f ≡ j → reply.replyOf reading (bringing clean) f ≡ reply.judgedBy j reading
   unfolding reply.replyOf reply.replyBy reply.judgedOf meaningIn
   frame-replied true f long j judged = rw (eq-eqb (length f) 33280 long, judged)
   frame-replied false f long j judged = rw (eq-eqb (length f) 33280 long, judged)
@@ -165,58 +165,58 @@ unfolding meaningIn
 counted true n = refl
 counted false n = refl
 
-module _ (t : Tape) (pass : ℕ) (deliveries : List Element) (n : ℕ) (c : Command) (a expected : ℕ) (low : ltb 11999 a ≡ false) {cs : List Call} {u : World} where
+module _ (t : Tape) (told : Told) (trail : Trail) (deliveries : List Element) (n : ℕ) (c : Command) (a expected : ℕ) (low : ltb (told .last .0) a ≡ false) {cs : List Call} {u : World} where
   pub address-located : (place : ℕ)
-      → Runs t (between a (deliveries ++ []) (n + 1) (reply.locatedOf (locating pass c a expected low) .session)) cs u
-      → Runs t (between place deliveries n (before pass c a true expected false)) (fetching ∷ replying good frame ∷ cs) u
+      → Runs t (between a (deliveries ++ []) (n + 1) (reply.locatedOf (locating told trail c a expected low) .session)) cs u
+      → Runs t (between place deliveries n (before told trail c a true expected false)) (fetching ∷ replying good frame ∷ cs) u
   unfolding meaningIn
   address-located place rest =
-      exchange t deliveries n (before pass c a true expected false) (record { fetched = locate-fetched pass c a expected low; replied = locate-replied pass c a expected low; taken = refl; ends = refl })
+      exchange t deliveries n (before told trail c a true expected false) (record { fetched = locate-fetched told trail c a expected low; replied = locate-replied told trail c a expected low; taken = refl; ends = refl })
       (locates (asAddress a) good refl) (inl refl) rest
 
   -- the reply is brought with no frame, which is refused, and again
   pub address-located-again : (place : ℕ)
-      → Runs t (between a (deliveries ++ []) (n + 1) (reply.locatedOf (locating pass c a expected low) .session)) cs u
-      → Runs t (between place deliveries n (before pass c a true expected false)) (fetching ∷ replying good [] ∷ replying good frame ∷ cs) u
+      → Runs t (between a (deliveries ++ []) (n + 1) (reply.locatedOf (locating told trail c a expected low) .session)) cs u
+      → Runs t (between place deliveries n (before told trail c a true expected false)) (fetching ∷ replying good [] ∷ replying good frame ∷ cs) u
   unfolding meaningIn
   address-located-again place rest =
-      command-served t deliveries n (before pass c a true expected false) (locate-fetched pass c a expected low) (locates (asAddress a) good refl)
-      (reply-refused t deliveries n (locating pass c a expected low) (none-lent pass c a expected low)
-      (reply-taken t deliveries n (locating pass c a expected low) (inl refl) (locate-replied pass c a expected low) refl refl rest))
+      command-served t deliveries n (before told trail c a true expected false) (locate-fetched told trail c a expected low) (locates (asAddress a) good refl)
+      (reply-refused t deliveries n (locating told trail c a expected low) (none-lent told trail c a expected low)
+      (reply-taken t deliveries n (locating told trail c a expected low) (inl refl) (locate-replied told trail c a expected low) refl refl rest))
 
   module _ (user : eqb a 2990 ≡ false) where
     -- a frame, by its judgement
-    pub frame-read : (clean : Bool) (f : List ℕ) (j : judgement.JudgementSaid) → t a ≡ some f → length f ≡ 33280 → judgement.judgeFrame (telling 11999 pass) (record { 0 = expected }) f ≡ j
-        → replyNumber (reply.judgedBy j (reading pass c a expected low) .said) ≡ 0
-        → Runs t (between (a + 1) (deliveries ++ delivered (reply.judgedBy j (reading pass c a expected low) .said) f) (n + 1) (reply.judgedBy j (reading pass c a expected low) .session)) cs u
-        → Runs t (between a deliveries n (before pass c a false expected false)) (fetching ∷ replying (bringing clean) f ∷ cs) u
+    pub frame-read : (clean : Bool) (f : List ℕ) (j : judgement.JudgementSaid) → t a ≡ some f → length f ≡ 33280 → judgement.judgeFrame told (asAddress a) (record { 0 = expected }) f ≡ j
+        → replyNumber (reply.judgedBy j (reading told trail c a expected low) .said) ≡ 0
+        → Runs t (between (a + 1) (deliveries ++ delivered (reply.judgedBy j (reading told trail c a expected low) .said) f) (n + 1) (reply.judgedBy j (reading told trail c a expected low) .session)) cs u
+        → Runs t (between a deliveries n (before told trail c a false expected false)) (fetching ∷ replying (bringing clean) f ∷ cs) u
     frame-read clean f j reads long judged taken rest =
-        exchange t deliveries n (before pass c a false expected false) (record { fetched = read-fetched pass c a expected low user; replied = frame-replied pass c a expected low clean f long j judged; taken = taken; ends = judged-ends j (reading pass c a expected low) })
+        exchange t deliveries n (before told trail c a false expected false) (record { fetched = read-fetched told trail c a expected low user; replied = frame-replied told trail c a expected low clean f long j judged; taken = taken; ends = judged-ends j (reading told trail c a expected low) })
         (brings (asAddress a) (bringing clean) f (brought clean) reads) (inr refl)
-        (subst (λ (k : ℕ). Runs t (between (a + 1) (deliveries ++ delivered (reply.judgedBy j (reading pass c a expected low) .said) f) k (reply.judgedBy j (reading pass c a expected low) .session)) cs u) (sym (counted clean n)) rest)
+        (subst (λ (k : ℕ). Runs t (between (a + 1) (deliveries ++ delivered (reply.judgedBy j (reading told trail c a expected low) .said) f) k (reply.judgedBy j (reading told trail c a expected low) .session)) cs u) (sym (counted clean n)) rest)
 
     -- 03/11/00
     pub unreadable-skipped : t a ≡ none
-        → Runs t (between (a + 1) (deliveries ++ []) (n + 1) (reply.skippedOf (reading pass c a expected low) .session)) cs u
-        → Runs t (between a deliveries n (before pass c a false expected false)) (fetching ∷ replying unreadable frame ∷ cs) u
+        → Runs t (between (a + 1) (deliveries ++ []) (n + 1) (reply.skippedOf (reading told trail c a expected low) .session)) cs u
+        → Runs t (between a deliveries n (before told trail c a false expected false)) (fetching ∷ replying unreadable frame ∷ cs) u
     unfolding meaningIn
     unreadable-skipped reads rest =
-        exchange t deliveries n (before pass c a false expected false) (record { fetched = read-fetched pass c a expected low user; replied = unreadable-replied pass c a expected low; taken = refl; ends = refl })
+        exchange t deliveries n (before told trail c a false expected false) (record { fetched = read-fetched told trail c a expected low user; replied = unreadable-replied told trail c a expected low; taken = refl; ends = refl })
         (misses (asAddress a) unreadable refl reads) (inl refl) rest
 
     -- 08/00/05
     pub blank-jumped : ((b : ℕ) → a ≤ b → b < a + 32 → t b ≡ none)
-        → Runs t (between a (deliveries ++ []) (n + 1) (reply.jumpedOf (reading pass c a expected low) .session)) cs u
-        → Runs t (between a deliveries n (before pass c a false expected false)) (fetching ∷ replying endOfData frame ∷ cs) u
+        → Runs t (between a (deliveries ++ []) (n + 1) (reply.jumpedOf (reading told trail c a expected low) .session)) cs u
+        → Runs t (between a deliveries n (before told trail c a false expected false)) (fetching ∷ replying endOfData frame ∷ cs) u
     unfolding meaningIn
     blank-jumped nothing rest =
-        exchange t deliveries n (before pass c a false expected false) (record { fetched = read-fetched pass c a expected low user; replied = blank-replied pass c a expected low; taken = refl; ends = refl })
+        exchange t deliveries n (before told trail c a false expected false) (record { fetched = read-fetched told trail c a expected low user; replied = blank-replied told trail c a expected low; taken = refl; ends = refl })
         (blanks (asAddress a) endOfData a refl nothing) (inl refl) rest
 
 -- the end, said again at each fetch
-module _ (t : Tape) (place : ℕ) (deliveries : List Element) (n : ℕ) (pass : ℕ) (c : Command) (next expected : ℕ) where
+module _ (t : Tape) (place : ℕ) (deliveries : List Element) (n : ℕ) (told : Told) (trail : Trail) (c : Command) (next expected : ℕ) where
   abbrev ended : Reading
-  ended = before pass c next false expected true
+  ended = before told trail c next false expected true
 
   end-fetched : fetch.fetchOf ended ≡ record { session = ended; said = fetch.end }
   unfolding fetch.fetchOf
@@ -230,11 +230,9 @@ module _ (t : Tape) (place : ℕ) (deliveries : List Element) (n : ℕ) (pass : 
 
 -- ---- the opening
 
--- whatever AUX 4 to 11 hold
-pub reading-opened : (h : Header) → h .last .0 ≡ 11999 → h .pass < 2 ^ 16 → validHeader (asAddress 11999) (headerFrame h) ≡ true
-    → openOf geometry (headerFrame h) ≡ record { session = fresh (telling 11999 (h .pass)); number = 0 }
+pub reading-opened : (h : Header) → h .last .0 < 2 ^ 32 → h .pass < 2 ^ 16 → h .eod .0 < 2 ^ 32 → h .old .0 < 2 ^ 32 → h .update < 2 ^ 32 → validHeader (asAddress 11999) (headerFrame h) ≡ true
+    → openOf geometry (headerFrame h) ≡ record { session = fresh (toldOf h); number = 0 }
 unfolding openOf
-reading-opened h last small valid =
+reading-opened h last pass eod old update valid =
     ap openFor (valid-taken geometry (headerFrame h) refl (header-length h) valid)
-    ∙ ap (λ (x : ℕ). record { session = fresh (telling x (headerOf (headerFrame h) .pass)); number = 0 }) (valid-last 11999 (headerFrame h) valid)
-    ∙ ap (λ (x : ℕ). record { session = fresh (telling 11999 x); number = 0 }) (header-pass h small)
+    ∙ ap (λ (x : Header). record { session = fresh (toldOf x); number = 0 }) (built-fields h last pass eod old update)

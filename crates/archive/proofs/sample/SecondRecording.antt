@@ -1,7 +1,7 @@
 -- The second sample recording, on the newest header that the first left, from its opening to done: every premise of demand 3 holds. Assumes nothing.
 use Prim.Native.Nat.{ℕ, _+_}
 use mathlib.Core.Path.{_≡_, refl, ap, sym, subst, _∙_}
-use mathlib.Core.Bool.{true}
+use mathlib.Core.Bool.{Bool, true}
 use mathlib.Core.List.{List, [], _∷_}
 use mathlib.Core.Option.{some}
 use native.Mathlib.Omega.{arith}
@@ -19,11 +19,11 @@ use Rattle.header.proofs.ReadLaws.{valid-taken}
 use Rattle.frame.proofs.HeaderFields.{header-pass}
 use Rattle.header.proofs.Built.{built-valid, built-fields}
 use Rattle.archive.specs.Conduct as conduct
-use Rattle.archive.specs.Conduct.{Drive, locates}
+use Rattle.archive.specs.Conduct.{Drive}
 use Rattle.drive.specs.Senses.{meaningIn}
 use Rattle.archive.specs.Tape.{Tape, put, Cartridge}
 use Rattle.drive.specs.declared.command.Command.the-variants.{Write, Locate, ReadPosition}
-use Rattle.elements.specs.Elements as elements
+use Rattle.frame.specs.Trail.{noTrail}
 use Rattle.elements.specs.Trail.{trailOf}
 use Rattle.elements.specs.Due.{dueOf}
 use Rattle.elements.specs.Reply as reply
@@ -31,20 +31,20 @@ use Rattle.elements.specs.declared.elements.Elements.{Elements}
 use Rattle.carried_headers.specs.Carried.{isExhausted, renewed}
 use Rattle.recording_state.specs.Open.{fresh, openWith, openFor, openOf}
 use Rattle.recording_state.specs.State.{accepting, settledOf}
-use Rattle.recording_state.specs.Accept.{filemarkOf, closeOf}
 use Rattle.recording_state.specs.Due.{decisionOf}
 use Rattle.recording_state.specs.Written.{writtenFrame, writtenElement, elementOf}
 use Rattle.recording_state.specs.Reply.{replyBy, replyOf}
 use Rattle.archive.specs.Headers.{Newest}
-use Rattle.archive.specs.Recordings.{World, Call, accept-filemark, close, fetch, reply, Runs, started}
+use Rattle.archive.specs.Recordings.{World, Runs, started}
 use Rattle.archive.specs.Demand.{NoneBears, newPass, on-header, Promised, Readable, Demand3}
-use Rattle.archive.specs.Sample.{geometry, depth, blocks, good, stopped, firstOpening, window, frame, firstBlock, firstFilemark, firstEod, firstClosing, exchanges, secondOpening, secondElements, secondError, secondFilemark, secondEod, secondClosing, secondCalls}
-use Rattle.archive.proofs.sample.Exchange.{Step, between, reported, exchange, filemark-accepted, close-accepted}
+use Rattle.archive.specs.Sample.{geometry, depth, blocks, good, stopped, firstOpening, window, firstBlock, firstFilemark, firstEod, firstClosing, secondOpening, secondElements, secondError, secondFilemark, secondEod, secondClosing, secondCalls}
+use Rattle.archive.proofs.sample.Exchange.{Step, reported, close-accepted}
 use Rattle.archive.proofs.sample.Flush.{buffered}
 use Rattle.archive.proofs.sample.Headers.{writing, ending, closing, finished, headersWritten, opening-written, closing-written}
 use Rattle.archive.proofs.tape.WrittenFrames.{block-fits}
 use Rattle.archive.proofs.sample.Tapes.{frame-cartridge, frame-bears-none, same-cartridge, same-bears-none, headers-newest, headers-cartridge, headers-bear-none}
-use Rattle.archive.proofs.sample.Elements.{noneAccepted, element-written, element-failed}
+use Rattle.archive.proofs.sample.Elements.{element-written, element-failed}
+use Rattle.archive.proofs.sample.Filemark.{located, onTape, eodDue, filemark-begun, filemark-written, close-called, eod-taken}
 use Rattle.archive.proofs.sample.FirstRecording.{window-long, afterFailure, afterBlock, afterFilemark, firstOpened, firstWritten, firstLeft, first-cartridge, older-bears, first-valid, first-newest}
 use Rattle.archive.proofs.Demand.{demand-3}
 
@@ -54,27 +54,15 @@ pub second-opened : openOf geometry depth blocks (headerFrame firstClosing) ≡ 
 unfolding openOf openWith
 second-opened =
     ap (λ (c : CheckedSaid). openFor c depth blocks) (valid-taken geometry (headerFrame firstClosing) refl (header-length firstClosing) first-valid)
-    ∙ ap (λ (h : Header). openWith depth blocks (isExhausted h) (renewed h)) (built-fields firstClosing (lit< tt) (lit< tt) (lit< tt) (lit< tt))
+    ∙ ap (λ (h : Header). openWith depth blocks (isExhausted h) (renewed h)) (built-fields firstClosing (lit< tt) (lit< tt) (lit< tt) (lit< tt) (lit< tt))
 
--- ---- the elements, by what has happened to them
+-- ---- EOD fails at 11, behind the filemark at 10, and is due again at 45
 
-abbrev filemarkAccepted : Elements
-filemarkAccepted = elements.acceptedOf noneAccepted true
-
-abbrev located : Elements
-located = reply.locatedOf filemarkAccepted (asAddress 10)
-
-abbrev filemarkTaken : Elements
-filemarkTaken = reply.takenOf located
-
-abbrev filemarkOnTape : Elements
-filemarkOnTape = reply.confirmedOf filemarkTaken 1
-
-abbrev eodDue : Elements
-eodDue = elements.eodDue filemarkOnTape
+abbrev marks : List Bool
+marks = located 10 0 noTrail .marks
 
 abbrev eodTaken : Elements
-eodTaken = reply.takenOf eodDue
+eodTaken = reply.takenOf (eodDue 10 0 10 noTrail marks)
 
 abbrev eodFailed : Elements
 eodFailed = reply.relocatedOf (reply.confirmedOf eodTaken 0) (asAddress 45)
@@ -87,32 +75,6 @@ eodRetaken = reply.takenOf relocated
 
 abbrev eodOnTape : Elements
 eodOnTape = reply.confirmedOf eodRetaken 1
-
--- ---- the calls, by what happens
-
-filemark-in-time : filemarkOf (writing secondOpening noneAccepted ReadPosition) ≡ accepting (writing secondOpening filemarkAccepted ReadPosition)
-unfolding filemarkOf
-filemark-in-time = refl
-
-filemark-located : Step (writing secondOpening filemarkAccepted ReadPosition) (Locate (asAddress 10)) good (writing secondOpening located (Locate (asAddress 10)))
-unfolding decisionOf dueOf replyOf replyBy settledOf meaningIn
-filemark-located = record { free = refl; sized = refl; decided = refl; replied = refl }
-
-filemark-taken : Step (writing secondOpening located (Locate (asAddress 10))) (Write (asAddress 10)) good (writing secondOpening filemarkTaken (Write (asAddress 10)))
-unfolding decisionOf dueOf replyOf replyBy settledOf meaningIn
-filemark-taken = record { free = refl; sized = refl; decided = refl; replied = refl }
-
-filemark-confirmed : Step (writing secondOpening filemarkTaken (Write (asAddress 10))) ReadPosition good (writing secondOpening filemarkOnTape ReadPosition)
-unfolding decisionOf dueOf replyOf replyBy reply.countedOf reply.confirmedOf settledOf meaningIn
-filemark-confirmed = record { free = refl; sized = refl; decided = refl; replied = refl }
-
-close-called : closeOf (writing secondOpening filemarkOnTape ReadPosition) ≡ accepting (ending secondOpening eodDue ReadPosition)
-unfolding closeOf settledOf reply.confirmedOf
-close-called = refl
-
-eod-taken : Step (ending secondOpening eodDue ReadPosition) (Write (asAddress 11)) good (ending secondOpening eodTaken (Write (asAddress 11)))
-unfolding decisionOf dueOf replyOf replyBy reply.confirmedOf settledOf meaningIn
-eod-taken = record { free = refl; sized = refl; decided = refl; replied = refl }
 
 eod-failed : Step (ending secondOpening eodTaken (Write (asAddress 11))) ReadPosition secondError (ending secondOpening eodFailed ReadPosition)
 unfolding decisionOf dueOf replyOf replyBy reply.failedOf reply.confirmedOf trailOf settledOf meaningIn
@@ -161,7 +123,7 @@ secondEnd b = reported window secondElements (finished secondClosing eodOnTape) 
 
 -- ---- the list
 
-filemark-frame : writtenFrame (writing secondOpening located (Locate (asAddress 10))) window ≡ elementFrame secondFilemark blank
+filemark-frame : writtenFrame (writing secondOpening (located 10 0 noTrail) (Locate (asAddress 10))) window ≡ elementFrame secondFilemark blank
 unfolding writtenFrame writtenElement elementOf elementFrame trailOf
 filemark-frame = refl
 
@@ -169,33 +131,17 @@ eod-frame : writtenFrame (ending secondOpening relocated (Locate (asAddress 45))
 unfolding writtenFrame writtenElement elementOf elementFrame reply.confirmedOf trailOf
 eod-frame = refl
 
-module _ (t : Tape) (past : List ℕ) {cs : List Call} {u : World} where
-  filemark-written : (place : ℕ)
-      → Runs (between window secondElements (writing secondOpening filemarkOnTape ReadPosition) (buffered (afterMark t) 11 (10 ∷ past) [])) cs u
-      → Runs (between window [] (writing secondOpening noneAccepted ReadPosition) (buffered t place past [])) (accept-filemark ∷ exchanges window 3 cs) u
-  unfolding meaningIn
-  filemark-written place rest =
-      filemark-accepted window [] (writing secondOpening noneAccepted ReadPosition) (buffered t place past []) filemark-in-time
-      (exchange window secondElements (writing secondOpening filemarkAccepted ReadPosition) (buffered t place past []) window-long filemark-located (locates (asAddress 10) good refl)
-      (element-written window window-long secondElements t past 10 (elementFrame secondFilemark blank) filemark-frame filemark-taken filemark-confirmed rest))
-
-  eod-written :
-      Runs (between window secondElements (closing secondClosing eodOnTape) (buffered (afterEnd t) 46 (45 ∷ 11 ∷ past) [])) cs u
-      → Runs (between window secondElements (writing secondOpening filemarkOnTape ReadPosition) (buffered (afterMark t) 11 past []))
-      (close ∷ exchanges window 1 (fetch window frame ∷ reply secondError ∷ exchanges window 3 cs)) u
-  eod-written rest =
-      close-accepted window secondElements (writing secondOpening filemarkOnTape ReadPosition) (buffered (afterMark t) 11 past []) close-called
-      (element-failed window window-long secondElements (afterMark t) past 11 34 45 eod-taken eod-failed eod-relocated
-      (element-written window window-long secondElements (afterError t) (11 ∷ past) 45 (elementFrame secondEod blank) eod-frame eod-retaken eod-confirmed rest))
-
 pub second-runs : (b : List ℕ) → Runs (started (fresh depth 0 secondOpening) window (secondStart b)) secondCalls (secondEnd b)
 second-runs b =
     let t : Tape = secondOpened b .tape in
     let past : List ℕ = secondOpened b .written in
     opening-written window window-long secondOpening (secondStart b)
-    (filemark-written t past (secondOpened b .at)
-    (eod-written t (10 ∷ past)
-    (closing-written window window-long secondElements eodOnTape secondClosing (secondWritten b))))
+    (filemark-begun 10 0 noTrail secondOpening t (secondOpened b .at) past
+    (filemark-written 10 0 10 noTrail marks secondOpening (lit< tt) secondElements t past (elementFrame secondFilemark blank) (Locate (asAddress 10)) filemark-frame
+    (close-accepted window secondElements (writing secondOpening (onTape 10 0 10 noTrail marks) ReadPosition) (buffered (afterMark t) 11 (10 ∷ past) []) (close-called 10 0 10 noTrail marks secondOpening)
+    (element-failed window window-long secondElements (afterMark t) (10 ∷ past) 11 34 45 (eod-taken 10 0 10 noTrail marks secondOpening (lit< tt)) eod-failed eod-relocated
+    (element-written window window-long secondElements (afterError t) (11 ∷ 10 ∷ past) 45 (elementFrame secondEod blank) eod-frame eod-retaken eod-confirmed
+    (closing-written window window-long secondElements eodOnTape secondClosing (secondWritten b)))))))
 
 -- ---- the premises: the cartridge as the first left it, and first-newest
 

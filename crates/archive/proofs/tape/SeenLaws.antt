@@ -1,40 +1,47 @@
--- What accepting, EOD, the drive's writes and failures, and a LOCATE leave of what a reading sees. Assumes nothing.
+-- What a recording's writes, failures and moves leave of what a reading sees. Assumes nothing.
 use Prim.Native.Nat.{ℕ, _+_, _≤_, _<_}
-use mathlib.Core.Path.{_≡_, sym, ap, subst, _∙_}
-use mathlib.Core.Bool.{true, false, true≢false}
+use mathlib.Core.Path.{_≡_, refl, sym, ap, subst, _∙_}
+use mathlib.Core.Bool.{Bool, true, false, true≢false}
 use mathlib.Core.List.{List, [], _∷_, _++_}
-use mathlib.Core.Logic.{_⊎_, inl, inr}
+use mathlib.Core.Logic.{_⊎_, inl, inr, ⊎-elim}
 use mathlib.Core.Option.{Option, none, some}
-use native.Mathlib.Nat.{le-refl, eq-or-lt-of-le}
 use native.Mathlib.Decide.{ℕ-discrete}
+use native.Mathlib.Nat.{le-refl, eq-or-lt-of-le}
 use native.Mathlib.Omega.{arith}
-use lib.ListN.{length, length-append}
+use borrow.Author.Tests.{leb-true, leb-false}
+use lib.Dec.{leb}
+use lib.ListN.{length, take, length-append}
+use lib.Seq.{take-append-le}
 use Rattle.geometry.specs.Cartridge.{isUser}
-use Rattle.archive.specs.Conduct.{reads, Left, as-before, as-new, not-at-all}
+use Rattle.geometry.proofs.UserFrames.{user-ranges}
+use Rattle.judgement.specs.Judgement.{skipped, endsFrom, judgeFrame}
+use Rattle.archive.specs.Conduct.{Left, as-before, as-new, not-at-all, reads}
 use Rattle.archive.specs.Tape.{Tape, Cartridge, put, Bears}
-use Rattle.archive.specs.Fold.{look}
+use Rattle.archive.specs.Fold.{Reader, going, look, foldOf}
 use Rattle.archive.specs.Recordings.{Element}
 use Rattle.archive.proofs.tape.Basics.{none-some}
-use Rattle.archive.proofs.tape.Seen.{seenAs, Seen, Recorded}
-use Rattle.archive.proofs.tape.Stands.{itemAt, telling, Stands}
-use Rattle.archive.proofs.tape.StandsLaws.{stands-read}
-use Rattle.archive.proofs.tape.FoldLaws.{put-same, put-other, seen-all, seen-more, look-skip, look-next, look-again, fold-put-other, fold-put-at, fold-over}
+use Rattle.archive.proofs.tape.Seen.{Has, has, Seen, Quiet, Clean, NoneFrom}
+use Rattle.archive.proofs.tape.Stands.{itemAt, unending, Stands}
+use Rattle.archive.proofs.tape.StandsLaws.{stands-read, ends-telling}
+use Rattle.archive.proofs.tape.FoldLaws.{put-same, put-other, look-quiet, look-next, look-again, look-eod, fold-put-other, fold-put-at, fold-quiet}
 
--- ---- one element more, and EOD
+-- ---- one element more
 
 module _ {last pass k edge : ℕ} {xs : List Element} {t : Tape} where
-  pub seen-accept : (x : Element) → Seen last pass xs (length xs) k edge t → Seen last pass (xs ++ x ∷ []) (length (xs ++ x ∷ [])) k edge t
-  seen-accept x h = record {
+  pub seen-accept : (x : Element) → k ≤ length xs → Seen last pass xs k edge t → Seen last pass (xs ++ x ∷ []) k edge t
+  seen-accept x few h = record {
+    base = h .base;
     m = h .m;
-    low = h .low;
+    floor = h .floor;
+    low = inl (⊎-elim (λ l. l) (λ e. omega arith) (h .low));
     high = h .high;
     top = omega (arith, length-append xs (x ∷ []), h .top);
-    seen = h .seen ∙ sym (seen-more xs x (h .m) (h .top));
-    clean = h .clean;
+    seen = more (h .seen);
+    quiet = h .quiet;
   }
-
-  pub seen-eod : Seen last pass xs (length xs) k edge t → Seen last pass xs (length xs + 1) k edge t
-  seen-eod h = record { m = h .m; low = h .low; high = h .high; top = omega (arith, h .top); seen = h .seen; clean = h .clean }
+    where
+      more : {r : Reader} → Has xs (h .m) r → Has (xs ++ x ∷ []) (h .m) r
+      more (has trail e) = has trail (e ∙ ap (λ (got : List Element). going (h .m) got trail) (sym (take-append-le (h .m) xs (x ∷ []) (h .top))))
 
 -- ---- a tape that is written
 
@@ -49,73 +56,149 @@ cartridge-put last t a v low long c = record {
     at b f (no n) q = c .long b f (sym (put-other t a v b n) ∙ q)
 
 -- a header's address is no user frame's
-pub seen-elsewhere : {last pass total k edge : ℕ} {xs : List Element} {t : Tape} (a : ℕ) (v : Option (List ℕ)) → isUser last a ≡ false → Seen last pass xs total k edge t → Seen last pass xs total k edge (put t a v)
-seen-elsewhere {last} {pass} {edge = edge} {t = t} a v u h = record {
+pub seen-elsewhere : {last pass k edge : ℕ} {xs : List Element} {t : Tape} (a : ℕ) (v : Option (List ℕ)) → isUser last a ≡ false → Seen last pass xs k edge t → Seen last pass xs k edge (put t a v)
+seen-elsewhere {last} {pass} {edge = edge} {xs} {t} a v u h = record {
+  base = h .base;
   m = h .m;
+  floor = h .floor;
   low = h .low;
   high = h .high;
   top = h .top;
-  seen = fold-put-other (telling last pass) t a v u edge ∙ h .seen;
-  clean = λ b f l w e. h .clean b f l w (sym (put-other t a v b (λ q. true≢false (sym w ∙ ap (isUser last) q ∙ u))) ∙ e);
+  seen = subst (Has xs (h .m)) (sym (fold-put-other (unending last pass) t a v u edge)) (h .seen);
+  quiet = λ b f l w e. h .quiet b f l w (sym (put-other t a v b (λ q. true≢false (sym w ∙ ap (isUser last) q ∙ u))) ∙ e);
 }
 
-module _ {last pass total k : ℕ} {xs : List Element} {t : Tape} (cart : Cartridge last t) where
+module _ {last pass k : ℕ} {xs : List Element} {t : Tape} where
   -- a LOCATE further on
-  pub seen-moves : {edge : ℕ} (target : ℕ) → edge ≤ target → Seen last pass xs total k edge t → Seen last pass xs total k target t
+  pub seen-moves : {edge : ℕ} (target : ℕ) → edge ≤ target → Seen last pass xs k edge t → Seen last pass xs k target t
   seen-moves {edge} target l h = record {
+    base = h .base;
     m = h .m;
+    floor = h .floor;
     low = h .low;
     high = h .high;
     top = h .top;
-    seen = fold-over (telling last pass) t (cart .long) edge target l (λ c f b _. h .clean c f b) ∙ h .seen;
-    clean = λ c f b. h .clean c f (omega arith);
+    seen = fold-quiet (unending last pass) t xs (h .m) edge target l (λ c f b _ w e. h .quiet c f b w e (h .m) (h .floor)) (h .seen);
+    quiet = λ c f b. h .quiet c f (omega arith);
   }
 
-  module _ (a : ℕ) (here : isUser last a ≡ true) (h : Seen last pass xs total k a t) (room : k + 1 ≤ total) (most : total ≤ length xs + 1) where
-    clean-put : (v : Option (List ℕ)) (b : ℕ) (f : List ℕ) → a + 1 ≤ b → isUser last b ≡ true → put t a v b ≡ some f → Bears pass f → ⊥
-    clean-put v b f l u e = h .clean b f (omega arith) u (sym (put-other t a v b (λ q. omega arith)) ∙ e)
+  module _ (a : ℕ) (large : 3000 ≤ last) (here : isUser last a ≡ true) (h : Seen last pass xs k a t) (room : k ≤ length xs) where
+    quiet-put : (v : Option (List ℕ)) → Quiet last pass (h .base) (a + 1) (put t a v)
+    quiet-put v b f l u e = h .quiet b f (omega arith) u (sym (put-other t a v b (λ q. omega arith)) ∙ e)
 
-    -- the frame of item k brings a reading to k + 1, whether it had that already or not
-    reach : (f : List ℕ) → Stands last pass (itemAt xs k) k f → look (telling last pass) (some f) (seenAs xs (h .m)) ≡ seenAs xs (k + 1)
-    reach f s = go (eq-or-lt-of-le (h .low))
+    -- in the open view no EOD on the tape ends reading
+    inside : a < endsFrom (unending last pass)
+    inside = subst (λ (n : ℕ). a < n) (sym (ends-telling last pass (last + 1))) (⊎-elim (λ x. let y = x .1 in omega arith) (λ x. let y = x .1 in omega arith) (user-ranges last a here))
+
+    -- the frame of item k brings a reading to k + 1, whether it had that already or not; EOD brings nothing
+    record Reached (v : Option (List ℕ)) : Type 0 where
+      to : ℕ
+      least : h .m ≤ to
+      low : (k + 1 ≤ to) ⊎ (to ≡ length xs)
+      high : to ≤ k + 1
+      top : to ≤ length xs
+      has-it : Has xs to (look (unending last pass) a v (foldOf (unending last pass) t a))
+
+    reach : (f : List ℕ) → Stands last pass (itemAt xs k) k f → Reached (some f)
+    reach f s = go (leb (length xs) k) refl
       where
-        go : (k ≡ h .m) ⊎ (k < h .m) → look (telling last pass) (some f) (seenAs xs (h .m)) ≡ seenAs xs (k + 1)
-        go (inl e) = subst (λ (n : ℕ). look (telling last pass) (some f) (seenAs xs n) ≡ seenAs xs (k + 1)) e (look-next last pass xs k f s (omega arith))
-        go (inr l) =
-            let high = h .high in
-            let e : k + 1 ≡ h .m = omega arith in
-            subst (λ (n : ℕ). look (telling last pass) (some f) (seenAs xs n) ≡ seenAs xs (k + 1)) e (look-again last pass xs k f s)
+        element-next : k < length xs → (k ≡ h .m) ⊎ (k < h .m) → Reached (some f)
+        element-next inside (inl e) = record {
+          to = k + 1;
+          least = omega arith;
+          low = inl (le-refl (k + 1));
+          high = le-refl (k + 1);
+          top = omega arith;
+          has-it = look-next (unending last pass) a refl refl xs k f s inside (subst (λ (n : ℕ). Has xs n (foldOf (unending last pass) t a)) (sym e) (h .seen));
+        }
+        element-next inside (inr l) = record {
+          to = h .m;
+          least = le-refl (h .m);
+          low = inl (omega arith);
+          high = h .high;
+          top = h .top;
+          has-it = look-again (unending last pass) a refl refl xs k f s (h .m) l (h .seen);
+        }
 
-    pub seen-writes : (f : List ℕ) → Stands last pass (itemAt xs k) k f → Seen last pass xs total (k + 1) (a + 1) (put t a (some f))
-    seen-writes f s = record {
-      m = k + 1;
-      low = le-refl (k + 1);
-      high = omega arith;
-      top = room;
-      seen = fold-put-at (telling last pass) t a (some f) here ∙ ap (look (telling last pass) (some f)) (h .seen) ∙ reach f s;
-      clean = clean-put (some f);
-    }
+        go : (b : Bool) → leb (length xs) k ≡ b → Reached (some f)
+        go true e =
+            let past : length xs ≤ k = leb-true (length xs) k e in
+            let same : h .m ≡ k = ⊎-elim (λ l. let y = h .top in omega arith) (λ q. omega arith) (h .low) in
+            record {
+              to = k;
+              least = omega arith;
+              low = inr (omega arith);
+              high = omega arith;
+              top = room;
+              has-it = look-eod (unending last pass) a refl refl xs k f s past inside (subst (λ (n : ℕ). Has xs n (foldOf (unending last pass) t a)) same (h .seen));
+            }
+        go false e =
+            let within : k < length xs = leb-false (length xs) k e in
+            let least : k ≤ h .m = ⊎-elim (λ l. l) (λ q. omega arith) (h .low) in
+            element-next within (eq-or-lt-of-le least)
 
-    failed-with : (n : ℕ) → k ≤ n → n ≤ k + 1 → n ≤ total → (v : Option (List ℕ)) → look (telling last pass) v (seenAs xs (h .m)) ≡ seenAs xs n → Seen last pass xs total k (a + 1) (put t a v)
-    failed-with n l u top v e = record {
-      m = n;
-      low = l;
-      high = u;
-      top = top;
-      seen = fold-put-at (telling last pass) t a v here ∙ ap (look (telling last pass) v) (h .seen) ∙ e;
-      clean = clean-put v;
+    put-has : (v : Option (List ℕ)) {n : ℕ} → Has xs n (look (unending last pass) a v (foldOf (unending last pass) t a)) → Has xs n (foldOf (unending last pass) (put t a v) (a + 1))
+    put-has v {n} x = subst (Has xs n) (sym (fold-put-at (unending last pass) t a v here)) x
+
+    pub seen-writes : (f : List ℕ) → Stands last pass (itemAt xs k) k f → Seen last pass xs (k + 1) (a + 1) (put t a (some f))
+    seen-writes f s =
+        let r = reach f s in
+        record {
+          base = h .base;
+          m = r .to;
+          floor = omega (arith, h .floor, r .least);
+          low = r .low;
+          high = omega (arith, r .high);
+          top = r .top;
+          seen = put-has (some f) (r .has-it);
+          quiet = quiet-put (some f);
+        }
+
+    failed-with : (v : Option (List ℕ)) → ((f : List ℕ) → v ≡ some f → judgeFrame (unending last pass) (record { 0 = a }) (record { 0 = h .m }) f ≡ skipped) → Seen last pass xs k (a + 1) (put t a v)
+    failed-with v passed = record {
+      base = h .base;
+      m = h .m;
+      floor = h .floor;
+      low = h .low;
+      high = h .high;
+      top = h .top;
+      seen = put-has v (look-quiet (unending last pass) a v xs (h .m) passed (h .seen));
+      quiet = quiet-put v;
     }
 
     -- a failed address reads as before, as the new frame, or not at all
-    pub seen-fails : (f : List ℕ) (v : Option (List ℕ)) → Stands last pass (itemAt xs k) k f → Left (t a) f v → Seen last pass xs total k (a + 1) (put t a v)
-    seen-fails f v s as-before =
-        failed-with (h .m) (h .low) (h .high) (h .top) (t a) (look-skip (telling last pass) (t a) (seenAs xs (h .m)) (cart .long a) (λ g e. h .clean a g (le-refl a) here e))
-    seen-fails f v s (as-new _ (reads read r)) = failed-with (k + 1) (omega arith) (le-refl (k + 1)) room (some read) (reach read (stands-read s r))
-    seen-fails f v s not-at-all = failed-with (h .m) (h .low) (h .high) (h .top) none refl-none
-      where
-        refl-none : look (telling last pass) none (seenAs xs (h .m)) ≡ seenAs xs (h .m)
-        refl-none = look-skip (telling last pass) none (seenAs xs (h .m)) (λ g e. absurd (none-some e)) (λ g e _. none-some e)
+    pub seen-fails : (f : List ℕ) (v : Option (List ℕ)) → Stands last pass (itemAt xs k) k f → Left (t a) f v → Seen last pass xs k (a + 1) (put t a v)
+    seen-fails f v s as-before = failed-with (t a) (λ g e. h .quiet a g (le-refl a) here e (h .m) (h .floor))
+    seen-fails f v s (as-new _ (reads read q)) =
+        let r = reach read (stands-read s q) in
+        record {
+          base = h .base;
+          m = r .to;
+          floor = omega (arith, h .floor, r .least);
+          low = ⊎-elim (λ l. inl (omega arith)) inr (r .low);
+          high = r .high;
+          top = r .top;
+          seen = put-has (some read) (r .has-it);
+          quiet = quiet-put (some read);
+        }
+    seen-fails f v s not-at-all = failed-with none (λ g e. none-some e)
 
--- all items on tape
-pub seen-recorded : {last pass : ℕ} {xs : List Element} {t : Tape} → Seen last pass xs (length xs + 1) (length xs + 1) (last + 1) t → Recorded last pass t xs
-seen-recorded {xs = xs} h = h .seen ∙ seen-all xs (h .m) (omega (arith, h .low))
+-- ---- where nothing bears the pass
+
+module _ {last pass : ℕ} {t : Tape} where
+  pub clean-elsewhere : {edge : ℕ} (a : ℕ) (v : Option (List ℕ)) → isUser last a ≡ false → Clean last pass edge t → Clean last pass edge (put t a v)
+  clean-elsewhere a v u h = record {
+    old = h .old;
+    old-low = h .old-low;
+    none = λ b f o l w e. h .none b f o l w (sym (put-other t a v b (λ q. true≢false (sym w ∙ ap (isUser last) q ∙ u))) ∙ e);
+  }
+
+  pub clean-moves : {edge : ℕ} (target : ℕ) → edge ≤ target → Clean last pass edge t → Clean last pass target t
+  clean-moves target l h = record { old = h .old; old-low = omega (arith, h .old-low); none = λ b f o m. h .none b f o (omega arith) }
+
+  -- one address is tried
+  pub clean-behind : {a : ℕ} (v : Option (List ℕ)) → Clean last pass a t → NoneFrom last pass (put t a v) (a + 1)
+  clean-behind {a} v h b f l w e = h .none b f (omega (arith, h .old-low)) (omega arith) w (sym (put-other t a v b (λ q. omega arith)) ∙ e)
+
+  pub clean-put : {a : ℕ} (v : Option (List ℕ)) → Clean last pass a t → Clean last pass (a + 1) (put t a v)
+  clean-put v h = record { old = h .old; old-low = omega (arith, h .old-low); none = λ b f _ l. clean-behind v h b f l }

@@ -204,6 +204,11 @@ fn calls(random: &mut Random) -> Vec<Call> {
         7..=18 => random.between(60, 250),
         _ => random.between(250, 1_500),
     };
+    calls_of_length(random, length)
+}
+
+/// A list of so many calls.
+pub(super) fn calls_of_length(random: &mut Random, length: u32) -> Vec<Call> {
     let filemarks = random.below(5);
     let closes = random.chance(300);
     let talk = random.between(2, 12);
@@ -244,6 +249,7 @@ fn header(random: &mut Random, oldest: u32, last: Address) -> Shared {
         update_count,
         last: if random.chance(900) { last } else { Address(5) },
         eod: if random.chance(500) { Address(0) } else { last },
+        old_end: Address(update_count),
     };
     let mut frame = [0; FRAME_LENGTH];
     fill_header(&mut frame, &fields);

@@ -17,6 +17,13 @@ pub trait Layer {
     /// Its reading sessions.
     type Reading: ReadingCalls;
 
+    /// Opens a recording at the end that a reading found.
+    fn open_at_end(
+        reading: &Self::Reading,
+        depth: u32,
+        window_blocks: u32,
+    ) -> (Self::Recording, Outcome);
+
     /// The newer of two headers.
     ///
     /// # Errors
@@ -85,6 +92,10 @@ pub struct Model;
 impl Layer for Model {
     type Recording = Recording;
     type Reading = Reading;
+
+    fn open_at_end(reading: &Reading, depth: u32, window_blocks: u32) -> (Recording, Outcome) {
+        Recording::open_at_end(reading, depth, window_blocks)
+    }
 
     fn choose<'a>(geometry: &Geometry, first: &'a [u8], second: &'a [u8]) -> Result<&'a [u8], u8> {
         header::choose(geometry, first, second)

@@ -1,15 +1,15 @@
-//! Random cartridges for as long as wanted, as a program.
+//! Random cartridges and chains for as long as wanted, as a program.
 
 use std::process::ExitCode;
 use std::time::{Duration, Instant};
 
 use super::layer::Layer;
-use super::shrink::run_and_shrink_on;
-use super::{Case, Tally};
+use super::shrink::{run_and_shrink_chain_on, run_and_shrink_on};
+use super::{Case, Chain, Tally};
 use crate::fault::Fault;
 
-/// Runs random cartridges on this layer: the program `name SECONDS SEED`. A
-/// failing case is printed shrunk.
+/// Runs random cartridges and chains on this layer: the program
+/// `name SECONDS SEED`. A failing one is printed shrunk.
 pub fn run_for<L: Layer>(name: &str) -> ExitCode {
     let mut arguments = std::env::args().skip(1).map(|argument| argument.parse());
     let (Some(Ok(seconds)), Some(Ok(first)), None) =
@@ -35,12 +35,15 @@ fn run_seeds<L: Layer>(time: Duration, first: u64) -> Result<String, String> {
     let mut tally = Tally::default();
     let mut cartridges = 0_u32;
     while start.elapsed() < time {
-        let case = Case::of_seed(first.wrapping_add(cartridges.into()), Fault::None);
+        let seed = first.wrapping_add(cartridges.into());
+        let case = Case::of_seed(seed, Fault::None);
         tally.add(&run_and_shrink_on::<L>(&case)?);
+        let chain = Chain::of_seed(seed, Fault::None);
+        tally.add(&run_and_shrink_chain_on::<L>(&chain)?);
         cartridges = cartridges.saturating_add(1);
     }
     let rate = f64::from(cartridges) / start.elapsed().as_secs_f64();
     Ok(format!(
-        "{cartridges} cartridges, {rate:.0} a second, {tally:?}"
+        "{cartridges} cartridges and as many chains, {rate:.0} a second, {tally:?}"
     ))
 }

@@ -1,11 +1,11 @@
 //! A host that looks at nothing but the demand itself: what was accepted,
 //! whether the close reported done, and which addresses were written.
 
-use super::case::{Call, Case};
 use super::content::{block, Element};
+use super::{opening, Before, Call, Model};
 use crate::command::{Answer, Command, Outcome};
 use crate::drive::Drive;
-use crate::geometry::{Address, BLOCK_LENGTH, FRAME_LENGTH};
+use crate::geometry::{BLOCK_LENGTH, FRAME_LENGTH};
 use crate::recording::Recording;
 use crate::reply::Reply;
 
@@ -15,7 +15,7 @@ const CALLS: u32 = 20_000;
 /// What a recording came to.
 #[derive(Clone, Debug, Default, PartialEq, Eq)]
 pub struct Recorded {
-    /// What was accepted, in order.
+    /// What was accepted, in order, behind what stood before.
     pub accepted: Vec<Element>,
     /// Whether the close reported done.
     pub done: bool,
@@ -35,27 +35,23 @@ struct Host<'a> {
 ///
 /// # Errors
 /// The address that must not be written.
-pub fn record(
-    case: &Case,
-    last: Address,
-    drive: &mut Drive,
-    newest: Option<&[u8]>,
-    calls: &[Call],
-) -> Result<Recorded, String> {
-    let (mut session, outcome) =
-        Recording::open(&case.geometry, case.depth, case.window_blocks, newest);
-    session.plant(case.fault);
-    let blocks = usize::try_from(case.window_blocks).unwrap_or(0);
+pub(super) fn record(before: &Before<Model>, drive: &mut Drive) -> Result<Recorded, String> {
+    let (mut session, outcome) = opening::open(before);
+    session.plant(before.case.fault);
+    let blocks = usize::try_from(before.window_blocks).unwrap_or(0);
     let mut host = Host {
         drive,
         session,
         window: vec![0; blocks.saturating_mul(BLOCK_LENGTH)],
         frame: Box::new([0; FRAME_LENGTH]),
         awaited: None,
-        recorded: Recorded::default(),
+        recorded: Recorded {
+            accepted: before.opening.elements().to_vec(),
+            done: false,
+        },
         ended: outcome != Outcome::Accepted,
     };
-    for call in calls {
+    for call in before.calls {
         host.call(*call);
     }
     host.session.close();
@@ -67,7 +63,7 @@ pub fn record(
     }
     let recorded = host.recorded;
     let mut written = drive.log().written.iter();
-    match written.find(|address| !address.is_header_copy() && !address.is_user_frame(last)) {
+    match written.find(|address| !address.is_header_copy() && !address.is_user_frame(before.last)) {
         Some(address) => Err(format!("{address:?} was written")),
         None => Ok(recorded),
     }

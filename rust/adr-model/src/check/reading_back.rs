@@ -4,6 +4,7 @@ use super::case::Case;
 use super::content::{block, Element};
 use super::guarded::Guarded;
 use super::layer::{Layer, ReadingCalls};
+use super::opening;
 use crate::command::{Command, Outcome, ReadAnswer, ReadOutcome};
 use crate::drive::Drive;
 use crate::frame::{data_of, Frame, HeaderFields};
@@ -15,15 +16,48 @@ use crate::reply::{Meaning, Reply, GOOD};
 /// The LAST up to which a cartridge without an end is read.
 const FAR: u32 = 20_000;
 
-/// How a reading came to its end.
-#[derive(Clone, Copy, Debug, PartialEq, Eq)]
-enum Finish {
-    End,
-    Refused(u8),
+/// What a reading came to.
+#[derive(Clone, Debug, PartialEq, Eq)]
+pub struct ReadBack<R> {
+    /// The session.
+    pub session: R,
+    /// What the header read says.
+    pub header: HeaderFields,
+    /// What was delivered.
+    pub elements: Vec<Element>,
+    /// Where each of these was delivered.
+    pub places: Vec<Address>,
+    /// Where EOD ended it.
+    pub end: Option<Address>,
+    /// The refusal that ended it.
+    pub refused: Option<u8>,
+    /// The recordings that wrote what was read.
+    pub recordings: usize,
 }
 
-/// Reads a finished cartridge back and gives the number of deliveries, which
-/// must be all that was accepted.
+impl<R> ReadBack<R> {
+    /// The last filemark delivered, and where it was.
+    #[must_use]
+    pub fn latest_marker(&self) -> Option<(usize, Address)> {
+        let delivered = self.elements.iter().zip(&self.places).enumerate();
+        delivered
+            .rev()
+            .find(|(_, (element, _))| **element == Element::Filemark)
+            .map(|(number, (_, place))| (number, *place))
+    }
+
+    fn told(&self) -> String {
+        format!(
+            "end {:?}, refusal {:?} after {} deliveries",
+            self.end,
+            self.refused,
+            self.elements.len()
+        )
+    }
+}
+
+/// Reads a finished cartridge back on newest headers: every copy, or one. All
+/// that was accepted must be delivered; the last reading is given.
 ///
 /// # Errors
 /// What was found wrong.
@@ -33,19 +67,25 @@ pub fn read_back<L: Layer>(
     drive: &mut Drive,
     accepted: &[Element],
     seed: u64,
-) -> Result<u64, String> {
-    let Some((header, fields)) = drive.tape().newest_header(last) else {
-        return Err("the cartridge holds no header".into());
-    };
-    if !fields.eod.is_user_frame(last) {
-        return Err("the newest header is not closed".into());
+    every_copy: bool,
+) -> Result<ReadBack<L::Reading>, String> {
+    let mut copies = drive.tape().newest_headers(last);
+    if !every_copy {
+        copies.drain(..copies.len().saturating_sub(1));
     }
-    choice_agrees::<L>(case, drive, &fields)?;
-    let (delivered, finish) = read::<L::Reading>(case, &header, drive, accepted, seed)?;
-    if finish != Finish::End || delivered != accepted.len() {
-        return Err(format!("{finish:?} after {delivered} deliveries"));
+    let mut read_last = Err("the cartridge holds no header".into());
+    for ((header, fields), seed) in copies.iter().zip(seed..) {
+        if !fields.eod.is_user_frame(last) {
+            return Err("the newest header is not closed".into());
+        }
+        choice_agrees::<L>(case, drive, fields)?;
+        let back = read::<L::Reading>(case, header, drive, accepted, seed)?;
+        if back.end.is_none() || back.elements.len() != accepted.len() {
+            return Err(back.told());
+        }
+        read_last = Ok(back);
     }
-    Ok(delivered as u64)
+    read_last
 }
 
 /// Chooses among the ten copies two by two, as a host does.
@@ -76,7 +116,8 @@ fn choice_agrees<L: Layer>(
 
 /// Reads a cartridge whose recording broke off, if its headers were written;
 /// the deliveries are the first so many of what was accepted, and the end is
-/// missing if EOD was never sent.
+/// missing if EOD was never sent, but for the `closed` elements that an EOD
+/// stood behind at the opening.
 ///
 /// # Errors
 /// What was found wrong.
@@ -85,6 +126,7 @@ pub fn read_unfinished<L: Layer>(
     pass: u16,
     drive: &mut Drive,
     accepted: &[Element],
+    closed: Option<usize>,
     seed: u64,
 ) -> Result<(), String> {
     let last = case.geometry.last().filter(|last| last.0 <= FAR);
@@ -92,11 +134,13 @@ pub fn read_unfinished<L: Layer>(
     let Some((header, _)) = newest.filter(|(_, fields)| fields.pass == pass) else {
         return Ok(());
     };
-    match read::<L::Reading>(case, &header, drive, accepted, seed)? {
-        (_, Finish::Refused(12)) => Ok(()),
-        (delivered, Finish::End) if delivered == accepted.len() => Ok(()),
-        (delivered, finish) => Err(format!("{finish:?} after {delivered} deliveries")),
+    let back = read::<L::Reading>(case, &header, drive, accepted, seed)?;
+    let delivered = Some(back.elements.len());
+    let ends = [Some(accepted.len()), closed];
+    if back.refused != Some(12) && (back.end.is_none() || !ends.contains(&delivered)) {
+        return Err(back.told());
     }
+    opening::is_answered::<L>(&back)
 }
 
 fn read<S: ReadingCalls>(
@@ -105,16 +149,26 @@ fn read<S: ReadingCalls>(
     drive: &mut Drive,
     accepted: &[Element],
     seed: u64,
-) -> Result<(usize, Finish), String> {
+) -> Result<ReadBack<S>, String> {
     let (mut session, outcome) = S::open(&case.geometry, header.as_slice());
-    if outcome != Outcome::Accepted {
+    let opened = check(&case.geometry, header.as_slice());
+    let (Outcome::Accepted, Ok(header)) = (outcome, opened) else {
         return Err(format!("the reading opened with {outcome:?}"));
-    }
+    };
     session.plant(case.fault);
     let mut lent = Lent::new();
-    let finished = read_with(&mut session, &mut lent, case, drive, accepted, seed);
+    let back = ReadBack {
+        session,
+        header,
+        elements: Vec::new(),
+        places: Vec::new(),
+        end: None,
+        refused: None,
+        recordings: 0,
+    };
+    let back = read_with(back, &mut lent, case, drive, accepted, seed)?;
     lent.is_unaltered()?;
-    session.wrong().map_or(finished, Err)
+    back.session.wrong().map_or(Ok(back), Err)
 }
 
 /// The frame that is lent with a reply, and what it must hold.
@@ -158,22 +212,26 @@ impl Lent {
 }
 
 fn read_with<S: ReadingCalls>(
-    session: &mut S,
+    mut back: ReadBack<S>,
     lent: &mut Lent,
     case: &Case,
     drive: &mut Drive,
     accepted: &[Element],
     seed: u64,
-) -> Result<(usize, Finish), String> {
+) -> Result<ReadBack<S>, String> {
     let mut random = Random::new(seed ^ 0x4EAD);
-    let mut delivered = 0;
+    let session = &mut back.session;
     // Each address is read once at most, and located before that.
     let mut bound = 2 * u64::from(case.geometry.frames()) + 2;
     loop {
         let command = match fetched(session, drive, &mut random)? {
             Ok(command) => command,
-            Err(number) => return Ok((delivered, Finish::Refused(number))),
+            Err(number) => {
+                back.refused = Some(number);
+                return Ok(back);
+            }
         };
+        let place = drive.next();
         let reply = lent.send(drive, command)?;
         if reply.sense.meaning() != Meaning::Busy {
             bound = bound.checked_sub(1).ok_or("replies without bound")?;
@@ -184,21 +242,29 @@ fn read_with<S: ReadingCalls>(
         }
         match outcome {
             ReadOutcome::Nothing => {}
-            ReadOutcome::End => break,
-            ReadOutcome::Refused(number) => return Ok((delivered, Finish::Refused(number))),
+            ReadOutcome::End => {
+                back.end = Some(place);
+                break;
+            }
+            ReadOutcome::Refused(number) => {
+                back.refused = Some(number);
+                return Ok(back);
+            }
             outcome => {
-                let element = accepted.get(delivered);
-                if !is_delivered(outcome, &lent.held, element) {
+                let element = accepted.get(back.elements.len());
+                let Some(element) = element.filter(|due| is_delivered(outcome, &lent.held, due))
+                else {
                     return Err(format!("{outcome:?} where {element:?} was due"));
-                }
-                delivered += 1;
+                };
+                back.elements.push(*element);
+                back.places.push(place);
             }
         }
     }
     if session.fetch() != ReadAnswer::End || session.fetch() != ReadAnswer::End {
         return Err("the end is not said again".into());
     }
-    Ok((delivered, Finish::End))
+    Ok(back)
 }
 
 /// The next command, which fits where the drive stands, or a refusal.
@@ -222,10 +288,10 @@ fn fetched<S: ReadingCalls>(
     }
 }
 
-fn is_delivered(outcome: ReadOutcome, frame: &Frame, element: Option<&Element>) -> bool {
+fn is_delivered(outcome: ReadOutcome, frame: &Frame, element: &Element) -> bool {
     match (outcome, element) {
-        (ReadOutcome::Block, Some(Element::Block(number))) => data_of(frame) == block(*number),
-        (ReadOutcome::Filemark, Some(Element::Filemark)) => true,
+        (ReadOutcome::Block, Element::Block(number)) => data_of(frame) == block(*number),
+        (ReadOutcome::Filemark, Element::Filemark) => true,
         _ => false,
     }
 }

@@ -2,34 +2,35 @@
 
 use std::collections::{BTreeMap, VecDeque};
 
-use super::case::{Call, Case};
+use super::case::Call;
 use super::content::{block, Element};
 use super::guarded::Guarded;
 use super::layer::RecordingCalls;
+use super::opening::Opened;
 use super::replies::UNTOUCHED;
 use crate::command::{Answer, Command, Outcome};
 use crate::drive::Drive;
 use crate::frame::{Frame, HeaderFields};
 use crate::geometry::{Address, BLOCK_LENGTH, FRAME_LENGTH};
 use crate::reply::Reply;
-use crate::tape::Shared;
 
 /// The host of a recording.
 #[derive(Clone, Debug)]
 pub struct Recorder<R> {
     /// The drive.
     pub drive: Drive,
-    /// What was accepted, in order.
+    /// What was accepted, in order, behind what stood before.
     pub accepted: Vec<Element>,
     /// Whether a fetch answered done.
     pub done: bool,
     /// The refusal from 8 to 12 that ended the session.
     pub refused: Option<u8>,
     pub(super) session: R,
-    pub(super) last: Address,
+    /// What the opening headers must say.
+    pub(super) opening: HeaderFields,
+    /// Where the first element, or EOD, must go, until it is sent.
+    pub(super) first: Option<Address>,
     pub(super) end: Address,
-    pub(super) pass: u16,
-    pub(super) update_count: u32,
     pub(super) closed: bool,
     pub(super) window: Guarded,
     /// What the window must hold.
@@ -63,81 +64,26 @@ pub(super) enum Sent {
     Eod,
 }
 
-/// What an opening must make of the newest header.
-struct Opened {
-    pass: u16,
-    update_count: u32,
-    /// Whether pass or update count are used up.
-    spent: bool,
-}
-
-impl Opened {
-    fn on(newest: Option<&HeaderFields>) -> Opened {
-        newest.map_or(
-            Opened {
-                pass: 1,
-                update_count: 0,
-                spent: false,
-            },
-            |old| Opened {
-                pass: old.pass.wrapping_add(1),
-                update_count: old.update_count.wrapping_add(1),
-                spent: old.pass == 65_534 || old.update_count > 4_294_967_293,
-            },
-        )
-    }
-
-    fn outcome(&self) -> Outcome {
-        if self.spent {
-            Outcome::Refused(5)
-        } else {
-            Outcome::Accepted
-        }
-    }
-}
-
 impl<R: RecordingCalls> Recorder<R> {
-    /// Opens a recording on the newest header.
-    ///
-    /// # Errors
-    /// What was found wrong.
-    pub fn open(
-        case: &Case,
-        last: Address,
-        drive: Drive,
-        newest: Option<(Shared, HeaderFields)>,
-    ) -> Result<Recorder<R>, String> {
-        let header = newest.as_ref().map(|(frame, _)| frame.as_slice());
-        let (mut session, outcome) =
-            R::open(&case.geometry, case.depth, case.window_blocks, header);
-        let opened = Opened::on(newest.as_ref().map(|(_, fields)| fields));
-        if outcome != opened.outcome() {
-            return Err(format!("opening answered {outcome:?}"));
-        }
-        session.plant(case.fault);
-        Ok(Recorder::at_start(case, last, drive, session, &opened))
-    }
-
-    fn at_start(
-        case: &Case,
-        last: Address,
-        drive: Drive,
-        session: R,
-        opened: &Opened,
-    ) -> Recorder<R> {
-        let blocks = usize::try_from(case.window_blocks).unwrap_or(0);
-        let lent = if opened.spent { 0 } else { blocks };
+    /// The host of a session opened with so many blocks of window.
+    pub(super) fn of(drive: Drive, session: R, window_blocks: u32, opened: Opened) -> Recorder<R> {
+        let blocks = usize::try_from(window_blocks).unwrap_or(0);
+        let refused = match opened.outcome {
+            Outcome::Accepted => None,
+            Outcome::Refused(number) => Some(number),
+        };
+        let lent = if refused.is_some() { 0 } else { blocks };
         let window = Guarded::filled(0x5A, lent * BLOCK_LENGTH);
         Recorder {
             drive,
-            accepted: Vec::new(),
+            confirmed: opened.elements.len(),
+            accepted: opened.elements,
             done: false,
-            refused: opened.spent.then_some(5),
+            refused,
             session,
-            last,
-            end: last,
-            pass: opened.pass,
-            update_count: opened.update_count,
+            opening: opened.header,
+            first: Some(opened.first),
+            end: opened.header.last,
             closed: false,
             shadow: window.to_vec(),
             window,
@@ -146,9 +92,8 @@ impl<R: RecordingCalls> Recorder<R> {
             awaited: None,
             again: None,
             target: None,
-            markers: BTreeMap::new(),
+            markers: opened.marker.into_iter().collect(),
             taken: VecDeque::new(),
-            confirmed: 0,
             good_headers: 0,
             eod: None,
             window_blocks: blocks,
@@ -194,7 +139,7 @@ impl<R: RecordingCalls> Recorder<R> {
         let written = &self.drive.log().written;
         match written
             .iter()
-            .find(|address| !address.is_header_copy() && !address.is_user_frame(self.last))
+            .find(|address| !address.is_header_copy() && !address.is_user_frame(self.opening.last))
         {
             Some(address) => Err(format!("{address:?} was written")),
             None => Ok(()),

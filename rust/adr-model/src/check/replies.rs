@@ -86,14 +86,12 @@ impl<R: RecordingCalls> Recorder<R> {
         }
         let sent = self.due(address)?;
         let index = self.confirmed + self.taken.len();
+        if sent != Sent::Header && self.first.take().is_some_and(|first| first != address) {
+            return Err(format!("{address:?} is not where the first frame goes"));
+        }
         if sent == Sent::Header {
-            let fields = HeaderFields {
-                pass: self.pass,
-                update_count: self.update_count + u32::from(self.eod.is_some()),
-                last: self.last,
-                eod: self.eod.unwrap_or(Address(0)),
-            };
-            fill_header(&mut self.expected, &fields);
+            let header = self.header();
+            fill_header(&mut self.expected, &header);
         } else {
             let element = self.accepted.get(index).copied();
             let before = self.accepted.iter().take(index);
@@ -105,8 +103,8 @@ impl<R: RecordingCalls> Recorder<R> {
             };
             let label = Label {
                 kind,
-                pass: self.pass,
-                last: self.last,
+                pass: self.opening.pass,
+                last: self.opening.last,
                 number: SequenceNumber(u32::try_from(index).unwrap_or(u32::MAX)),
                 filemarks: u32::try_from(filemarks.count()).unwrap_or(u32::MAX),
                 latest_marker: self.markers.range(..index).next_back().map(|(_, at)| *at),
@@ -120,6 +118,19 @@ impl<R: RecordingCalls> Recorder<R> {
             Ok(())
         } else {
             Err(format!("the frame for {address:?} has wrong bytes"))
+        }
+    }
+
+    /// What the header copies must say.
+    fn header(&self) -> HeaderFields {
+        match self.eod {
+            None => self.opening,
+            Some(eod) => HeaderFields {
+                update_count: self.opening.update_count + 1,
+                eod,
+                old_end: Address(0),
+                ..self.opening
+            },
         }
     }
 

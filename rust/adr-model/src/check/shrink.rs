@@ -1,13 +1,83 @@
 //! Makes a failing case smaller.
 
+use std::fmt::Debug;
+
 use super::case::{Call, Case};
+use super::chain::{run_chain_on, Chain};
 use super::layer::{Layer, Model};
-use super::run_on;
+use super::{run_on, Tally};
 use crate::geometry::Address;
 use crate::hostility::Hostility;
 
 /// The runs a shrinking may take.
 const RUNS: u32 = 1_500;
+
+/// What can be run, and made smaller where it fails.
+trait Shrinks<L: Layer>: Clone + Debug {
+    fn run(&self) -> Result<Tally, String>;
+
+    /// Smaller ones, of which some may fail too.
+    fn smaller(&self) -> Vec<Self>;
+
+    fn seed(&self) -> u64;
+}
+
+impl<L: Layer> Shrinks<L> for Case {
+    fn run(&self) -> Result<Tally, String> {
+        run_on::<L>(self)
+    }
+
+    fn smaller(&self) -> Vec<Case> {
+        candidates(self)
+    }
+
+    fn seed(&self) -> u64 {
+        self.seed
+    }
+}
+
+impl<L: Layer> Shrinks<L> for Chain {
+    fn run(&self) -> Result<Tally, String> {
+        run_chain_on::<L>(self)
+    }
+
+    fn smaller(&self) -> Vec<Chain> {
+        let with = |case| Chain {
+            case,
+            ..self.clone()
+        };
+        candidates(&self.case).into_iter().map(with).collect()
+    }
+
+    fn seed(&self) -> u64 {
+        self.case.seed
+    }
+}
+
+/// A smaller one that fails too.
+fn shrunk<L: Layer, S: Shrinks<L>>(failing: &S) -> S {
+    let mut smallest = failing.clone();
+    let mut runs = 0;
+    loop {
+        let smaller = smallest.smaller().into_iter().find(|candidate| {
+            runs += 1;
+            runs <= RUNS && candidate.run().is_err()
+        });
+        match smaller {
+            Some(smaller) => smallest = smaller,
+            None => return smallest,
+        }
+    }
+}
+
+fn run_or_shrink<L: Layer, S: Shrinks<L>>(tried: &S) -> Result<Tally, String> {
+    tried.run().map_err(|wrong| {
+        let small = shrunk::<L, S>(tried);
+        let small_wrong = small.run().err().unwrap_or_default();
+        let seed = tried.seed();
+        format!("seed {seed}: {wrong}\nshrunk: {small_wrong}\n{small:?}")
+    })
+}
 
 /// A smaller case that fails too: fewer recordings, shorter lists, fewer
 /// ways of being hostile.
@@ -19,25 +89,14 @@ pub fn shrink(case: &Case) -> Case {
 /// A smaller case that fails too on this layer.
 #[must_use]
 pub fn shrink_on<L: Layer>(case: &Case) -> Case {
-    let mut smallest = case.clone();
-    let mut runs = 0;
-    loop {
-        let smaller = candidates(&smallest).into_iter().find(|candidate| {
-            runs += 1;
-            runs <= RUNS && run_on::<L>(candidate).is_err()
-        });
-        match smaller {
-            Some(smaller) => smallest = smaller,
-            None => return smallest,
-        }
-    }
+    shrunk::<L, Case>(case)
 }
 
 /// Runs a case; a failure is shrunk and told with its seed.
 ///
 /// # Errors
 /// The failure, the seed and the shrunk case.
-pub fn run_and_shrink(case: &Case) -> Result<super::Tally, String> {
+pub fn run_and_shrink(case: &Case) -> Result<Tally, String> {
     run_and_shrink_on::<Model>(case)
 }
 
@@ -45,15 +104,22 @@ pub fn run_and_shrink(case: &Case) -> Result<super::Tally, String> {
 ///
 /// # Errors
 /// The failure, the seed and the shrunk case.
-pub fn run_and_shrink_on<L: Layer>(case: &Case) -> Result<super::Tally, String> {
-    run_on::<L>(case).map_err(|wrong| {
-        let small = shrink_on::<L>(case);
-        let small_wrong = run_on::<L>(&small).err().unwrap_or_default();
-        format!(
-            "seed {}: {wrong}\nshrunk: {small_wrong}\n{small:?}",
-            case.seed
-        )
-    })
+pub fn run_and_shrink_on<L: Layer>(case: &Case) -> Result<Tally, String> {
+    run_or_shrink::<L, Case>(case)
+}
+
+/// A smaller chain that fails too on this layer.
+#[must_use]
+pub fn shrink_chain_on<L: Layer>(chain: &Chain) -> Chain {
+    shrunk::<L, Chain>(chain)
+}
+
+/// Runs a chain on this layer; a failure is shrunk and told with its seed.
+///
+/// # Errors
+/// The failure, the seed and the shrunk chain.
+pub fn run_and_shrink_chain_on<L: Layer>(chain: &Chain) -> Result<Tally, String> {
+    run_or_shrink::<L, Chain>(chain)
 }
 
 fn candidates(case: &Case) -> Vec<Case> {

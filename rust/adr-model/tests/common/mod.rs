@@ -14,14 +14,18 @@ pub fn geometry() -> Geometry {
 }
 
 pub fn header(pass: u16, update_count: u32, last: u32) -> Frame {
-    let fields = HeaderFields {
+    header_of(&HeaderFields {
         pass,
         update_count,
         last: Address(last),
         eod: Address(0),
-    };
+        old_end: Address(0),
+    })
+}
+
+pub fn header_of(fields: &HeaderFields) -> Frame {
     let mut frame = [0; FRAME_LENGTH];
-    fill_header(&mut frame, &fields);
+    fill_header(&mut frame, fields);
     frame
 }
 
@@ -54,7 +58,15 @@ pub struct Host {
 impl Host {
     /// Opened on no header.
     pub fn open(geometry: &Geometry, depth: u32, window_blocks: u32) -> Host {
-        let (session, outcome) = Recording::open(geometry, depth, window_blocks, None);
+        Host::of(
+            Recording::open(geometry, depth, window_blocks, None),
+            window_blocks,
+        )
+    }
+
+    /// Of a session that an opening gave.
+    #[track_caller]
+    pub fn of((session, outcome): (Recording, Outcome), window_blocks: u32) -> Host {
         assert_eq!(outcome, ACCEPTED);
         Host {
             session,

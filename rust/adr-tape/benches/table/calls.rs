@@ -56,8 +56,12 @@ fn reading(session: &ffi::Recording, expected: u32) -> ffi::Reading {
         told: ffi::Told {
             last: session.copies.header.last,
             pass: session.copies.header.pass,
+            ..ffi::Told::default()
         },
-        next: 3_000 + expected,
+        position: ffi::Position {
+            next: 3_000 + expected,
+            locate: 0,
+        },
         expected,
         exchange: ffi::Exchange {
             command: ffi::Command {
@@ -256,7 +260,7 @@ pub fn without_data(rounds: u32) -> Vec<(&'static str, f64, f64)> {
             "fetch of a reading",
             Box::new(|number, full| {
                 let mut session = located;
-                session.next = if full { 4_000_000_000 + number } else { 3_000 };
+                session.position.next = if full { 4_000_000_000 + number } else { 3_000 };
                 let fetched = ffi::read_fetch(session);
                 assert_eq!(black_box(fetched).answer, ffi::COMMAND);
             }),

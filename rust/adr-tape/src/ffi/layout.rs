@@ -53,19 +53,20 @@ layout!(Setup, 2, {
     depth: 0,
     highest: 1,
 });
-layout!(Header, 16, {
+layout!(Header, 20, {
     last: 0,
     eod: 4,
-    update: 8,
-    pass: 12,
+    old: 8,
+    update: 12,
+    pass: 16,
 });
-layout!(Copies, 24, {
+layout!(Copies, 28, {
     header: 0,
-    group: 16,
-    copy: 17,
-    outstanding: 18,
-    confirmed: 19,
-    locate: 20,
+    group: 20,
+    copy: 21,
+    outstanding: 22,
+    confirmed: 23,
+    locate: 24,
 });
 layout!(Trail, 8, {
     filemarks: 0,
@@ -83,50 +84,57 @@ layout!(Elements, 96, {
     eod: 29,
     marks: 30,
 });
-layout!(Recording, 140, {
+layout!(Recording, 144, {
     setup: 0,
     stage: 2,
     closed: 3,
     ended: 4,
     exchange: 8,
     copies: 20,
-    elements: 44,
+    elements: 48,
 });
-layout!(Told, 8, {
+layout!(Told, 20, {
     last: 0,
-    pass: 4,
+    eod: 4,
+    old: 8,
+    update: 12,
+    pass: 16,
 });
-layout!(Reading, 32, {
+layout!(Position, 8, {
+    next: 0,
+    locate: 4,
+});
+layout!(Reading, 56, {
     told: 0,
-    next: 8,
-    expected: 12,
-    exchange: 16,
-    locate: 28,
-    finished: 29,
-    ended: 30,
+    position: 20,
+    expected: 28,
+    trail: 32,
+    exchange: 40,
+    finished: 52,
+    ended: 53,
 });
-layout!(RecordOutcome, 144, {
+layout!(RecordOutcome, 148, {
     session: 0,
-    number: 140,
+    number: 144,
 });
-layout!(RecordFetched, 152, {
+layout!(RecordFetched, 156, {
     session: 0,
-    command: 140,
-    answer: 148,
-    number: 149,
+    command: 144,
+    answer: 152,
+    number: 153,
 });
-layout!(ReadOpened, 36, {
+layout!(ReadOpened, 60, {
     session: 0,
-    number: 32,
+    number: 56,
 });
-layout!(ReadFetched, 44, {
+layout!(ReadFetched, 68, {
     session: 0,
-    command: 32,
-    answer: 40,
-    number: 41,
+    command: 56,
+    answer: 64,
+    number: 65,
 });
-layout!(ReadTaken, 36, {
+layout!(ReadTaken, 60, {
     session: 0,
-    answer: 32,
-    number: 33,
+    answer: 56,
+    number: 57,
 });

@@ -91,6 +91,8 @@ pub struct Header {
     pub last: u32,
     /// The address of EOD, 0 for none.
     pub eod: u32,
+    /// The end that the session was opened at, in opening headers; 0 for none.
+    pub old: u32,
     /// Update count.
     pub update: u32,
     /// Write pass.
@@ -115,8 +117,8 @@ pub struct Copies {
     pub locate: u8,
 }
 
-/// `struct adr_trail`: the filemarks before the oldest element not known on
-/// tape.
+/// `struct adr_trail`: filemarks. In a recording those before the oldest element
+/// not known on tape, in a reading those delivered.
 #[repr(C)]
 #[derive(Clone, Copy, Debug, Default, PartialEq, Eq)]
 pub struct Trail {
@@ -163,7 +165,7 @@ pub struct Recording {
     pub stage: u8,
     /// 1 once close was called.
     pub closed: u8,
-    /// 1 once a refusal of 8 to 12 ended it, or if its opening was refused.
+    /// 1 once a refusal of 8 or above ended it, or if its opening was refused.
     pub ended: u8,
     /// The command last given.
     pub exchange: Exchange,
@@ -179,8 +181,24 @@ pub struct Recording {
 pub struct Told {
     /// LAST.
     pub last: u32,
+    /// The address of EOD, 0 for none.
+    pub eod: u32,
+    /// The end that the header's session was opened at, 0 for none.
+    pub old: u32,
+    /// Update count.
+    pub update: u32,
     /// Write pass.
     pub pass: u16,
+}
+
+/// `struct adr_position`: where a reading goes on.
+#[repr(C)]
+#[derive(Clone, Copy, Debug, Default, PartialEq, Eq)]
+pub struct Position {
+    /// The address read next, unless a LOCATE comes first.
+    pub next: u32,
+    /// 1 if a LOCATE of `next` comes first.
+    pub locate: u8,
 }
 
 /// `struct adr_reading`: a reading session. Keep it, hand it back, change
@@ -190,17 +208,17 @@ pub struct Told {
 pub struct Reading {
     /// What the header told.
     pub told: Told,
-    /// The address read next, unless a LOCATE comes first.
-    pub next: u32,
+    /// Where it goes on.
+    pub position: Position,
     /// The number of the element expected.
     pub expected: u32,
+    /// The filemarks delivered.
+    pub trail: Trail,
     /// The command last given.
     pub exchange: Exchange,
-    /// 1 if a LOCATE of `next` comes first.
-    pub locate: u8,
     /// 1 once EOD was read.
     pub finished: u8,
-    /// 1 once a refusal of 8 to 12 ended it, or if its opening was refused.
+    /// 1 once a refusal of 8 or above ended it, or if its opening was refused.
     pub ended: u8,
 }
 

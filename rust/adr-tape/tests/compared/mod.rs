@@ -4,6 +4,8 @@
 //! are guarded here.
 #![allow(dead_code)]
 
+pub mod any_calls;
+pub mod any_reads;
 pub mod sessions;
 
 use std::cell::RefCell;
@@ -41,6 +43,12 @@ fn lend<T>(content: &[u8], act: impl FnOnce(&[u8]) -> T) -> (T, bool) {
     let right = copy.is_intact() && *copy == *content;
     BUFFERS.with_borrow_mut(|buffers| buffers.push(copy));
     (result, right)
+}
+
+/// Nothing was found wrong.
+#[track_caller]
+pub fn right(wrong: Option<String>, seed: u32) {
+    assert_eq!(wrong, None, "seed {seed}");
 }
 
 pub fn geometry_of(geometry: &Geometry) -> ffi::Geometry {
@@ -161,6 +169,43 @@ impl ComparedRecording {
     fn complain(&mut self, wrong: String) {
         self.wrong.get_or_insert(wrong);
     }
+
+    /// Takes what both openings gave and compares it.
+    fn opened(
+        what: &str,
+        right: bool,
+        (model, outcome): (Recording, Outcome),
+        layer: ffi::RecordOutcome,
+    ) -> (Self, Outcome) {
+        let mut session = ComparedRecording {
+            layer: layer.session,
+            model,
+            wrong: None,
+        };
+        if layer.number != 0 && layer.session != refused_session() {
+            session.complain(format!("{what}: refused, but not with the ended session"));
+        }
+        let outcome = session.note(what, right, outcome, layer);
+        (session, outcome)
+    }
+
+    /// Opens both at the end of a reading; that of the layer may be one that
+    /// no call returned.
+    pub fn open_at_end(
+        layer: ffi::Reading,
+        model: &Reading,
+        depth: u32,
+        window_blocks: u32,
+    ) -> (Self, Outcome) {
+        let model = Recording::open_at_end(model, depth, window_blocks);
+        let layer = ffi::record_open_at_end(layer, depth, window_blocks);
+        ComparedRecording::opened("opening at the end", true, model, layer)
+    }
+}
+
+/// What every refused opening of the layer gives.
+fn refused_session() -> ffi::Recording {
+    ffi::record_open_blank(ffi::Geometry::default(), 0, 0).session
 }
 
 impl RecordingCalls for ComparedRecording {
@@ -170,7 +215,7 @@ impl RecordingCalls for ComparedRecording {
         window_blocks: u32,
         newest: Option<&[u8]>,
     ) -> (Self, Outcome) {
-        let (model, outcome) = Recording::open(geometry, depth, window_blocks, newest);
+        let model = Recording::open(geometry, depth, window_blocks, newest);
         let geometry = geometry_of(geometry);
         let (opened, right) = match newest {
             None => (ffi::record_open_blank(geometry, depth, window_blocks), true),
@@ -178,13 +223,7 @@ impl RecordingCalls for ComparedRecording {
                 ffi::record_open(geometry, depth, window_blocks, lent)
             }),
         };
-        let mut session = ComparedRecording {
-            layer: opened.session,
-            model,
-            wrong: None,
-        };
-        let outcome = session.note("opening", right, outcome, opened);
-        (session, outcome)
+        ComparedRecording::opened("opening", right, model, opened)
     }
 
     fn plant(&mut self, fault: Fault) {
@@ -328,6 +367,14 @@ pub struct Compared;
 impl Layer for Compared {
     type Recording = ComparedRecording;
     type Reading = ComparedReading;
+
+    fn open_at_end(
+        reading: &ComparedReading,
+        depth: u32,
+        window_blocks: u32,
+    ) -> (ComparedRecording, Outcome) {
+        ComparedRecording::open_at_end(reading.layer, &reading.model, depth, window_blocks)
+    }
 
     /// The layer's choice; the checks know which copy is the newest.
     fn choose<'a>(geometry: &Geometry, first: &'a [u8], second: &'a [u8]) -> Result<&'a [u8], u8> {

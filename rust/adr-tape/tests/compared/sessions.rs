@@ -4,7 +4,7 @@ use adr_model::frame::{HeaderFields, Kind};
 use adr_model::state::{
     CopiesState, ElementsState, ExchangeState, Going, ReadingState, RecordingState, StageName,
 };
-use adr_model::{Address, SequenceNumber};
+use adr_model::{Address, Geometry, Reading, SequenceNumber};
 use adr_tape::ffi;
 
 use super::command_of;
@@ -47,7 +47,23 @@ fn header_fields(header: &ffi::Header) -> HeaderFields {
         update_count: header.update,
         last: Address(header.last),
         eod: Address(header.eod),
+        old_end: Address(header.old),
     }
+}
+
+fn told_fields(told: &ffi::Told) -> HeaderFields {
+    HeaderFields {
+        pass: told.pass,
+        update_count: told.update,
+        last: Address(told.last),
+        eod: Address(told.eod),
+        old_end: Address(told.old),
+    }
+}
+
+/// Where the latest marker of a trail stands.
+fn latest_marker(trail: &ffi::Trail) -> Option<Address> {
+    (trail.marker != NO_MARKER).then_some(Address(trail.marker))
 }
 
 fn copies_state(copies: &ffi::Copies) -> Result<CopiesState, Wrong> {
@@ -90,7 +106,7 @@ fn elements_state(elements: &ffi::Elements) -> Result<ElementsState, Wrong> {
         },
         end: Address(elements.limit.wrapping_sub(1)),
         filemarks: trail.filemarks,
-        latest_marker: (trail.marker != NO_MARKER).then_some(Address(trail.marker)),
+        latest_marker: latest_marker(trail),
     })
 }
 
@@ -126,12 +142,22 @@ pub fn reading_state(session: &ffi::Reading) -> Result<Option<ReadingState>, Wro
         return Ok(None);
     }
     Ok(Some(ReadingState {
-        pass: session.told.pass,
-        last: Address(session.told.last),
-        next: Address(session.next),
-        locate: flag("locate", session.locate)?,
+        header: told_fields(&session.told),
+        next: Address(session.position.next),
+        locate: flag("locate", session.position.locate)?,
         expected: SequenceNumber(session.expected),
+        filemarks: session.trail.filemarks,
+        latest_marker: latest_marker(&session.trail),
         finished: flag("finished", session.finished)?,
         exchange: exchange_state(&session.exchange)?,
     }))
+}
+
+/// The model's reading that stands where the layer's does; numbers that are no
+/// reading's stand for one that is ended.
+pub fn model_reading(session: &ffi::Reading) -> Reading {
+    match reading_state(session) {
+        Ok(Some(state)) => Reading::of_state(&state),
+        _ => Reading::open(&Geometry::beginning(0, 0), &[]).0,
+    }
 }

@@ -250,7 +250,7 @@ pub struct Elements {
     waiting: VecDeque<Input>,
     current: Option<Job>,
     allow_empty: bool,
-    /// Jobs begun.
+    /// Jobs begun, with those before them.
     begun: u64,
     changed: Vec<String>,
 }
@@ -265,6 +265,14 @@ impl Elements {
             allow_empty,
             begun: 0,
             changed: Vec::new(),
+        }
+    }
+
+    /// The same behind so many jobs, which are on the cartridge already.
+    pub fn behind(self, jobs: u64) -> Elements {
+        Elements {
+            begun: jobs,
+            ..self
         }
     }
 
@@ -314,12 +322,17 @@ mod tests {
     /// How a file of 100,000 bytes is told that something happens to after
     /// its first block was sent.
     fn told(name: &str, happens: impl FnOnce(&mut File)) -> Vec<String> {
+        told_behind(0, name, happens)
+    }
+
+    /// The same behind so many jobs.
+    fn told_behind(jobs: u64, name: &str, happens: impl FnOnce(&mut File)) -> Vec<String> {
         let path = format!("adr-source-{name}-{}", std::process::id());
         let path = std::env::temp_dir().join(path);
         std::fs::write(&path, vec![7; 100_000]).expect("room for a file");
         let mut file = File::options().append(true).open(&path).expect("it");
         let inputs = vec![Input::file(&path, Path::new("none.adr")).expect("a file")];
-        let mut elements = Elements::new(inputs, false);
+        let mut elements = Elements::new(inputs, false).behind(jobs);
         assert!(elements.next().is_some_and(|element| element.is_ok()));
         assert!(elements.next().is_some_and(|element| element.is_ok()));
         happens(&mut file);
@@ -344,6 +357,12 @@ mod tests {
         assert_eq!(
             told("touched", |file| file.set_modified(UNIX_EPOCH).expect("it")),
             ["changed while it was recorded, as job 1"]
+        );
+        assert_eq!(
+            told_behind(2, "third", |file| file
+                .set_modified(UNIX_EPOCH)
+                .expect("it")),
+            ["changed while it was recorded, as job 3"]
         );
     }
 

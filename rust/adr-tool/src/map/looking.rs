@@ -122,6 +122,7 @@ fn mark_beyond(image: &mut Image, header: &[u8], spots: &mut Spots) -> Result<()
     let Some(fields) = fields.and_then(|header| fields_of(header, last)) else {
         return Ok(());
     };
+    let ends_from = fields.ends_from();
     let mut frame: Frame = [0; FRAME_LENGTH];
     let mut next = 0;
     for (address, spot) in &mut spots.known {
@@ -131,8 +132,11 @@ fn mark_beyond(image: &mut Image, header: &[u8], spots: &mut Spots) -> Result<()
         }
         let lone = LoneFrame::of(&frame).filter(|_| read);
         let of_recording = |lone: &LoneFrame| lone.pass == fields.pass && lone.last == last;
+        // Where something was added, the end before that may still read.
+        let earlier_end = |lone: &LoneFrame| lone.kind == Kind::Eod && *address < ends_from.0;
         // An element that was sent again is in force where it came first.
-        let in_force = |lone: &LoneFrame| of_recording(lone) && lone.number >= next;
+        let in_force =
+            |lone: &LoneFrame| of_recording(lone) && !earlier_end(lone) && lone.number >= next;
         let Some(lone) = lone.filter(in_force) else {
             continue;
         };

@@ -1,5 +1,6 @@
 //! Frames found on a cartridge, and the recording that they belong to.
 
+use std::cmp::Reverse;
 use std::collections::BTreeMap;
 
 use adr_model::frame::{data_of, number_at, Frame, Kind};
@@ -35,6 +36,8 @@ pub struct Recording {
     last: Address,
     /// Where its end of data stands, if a header tells it.
     eod: Option<Address>,
+    /// Ends below here are those that it had before something was added.
+    ends_from: Address,
 }
 
 /// What a header tells. Its update count stands first: it orders headers.
@@ -44,6 +47,7 @@ struct Header {
     pass: u16,
     last: Address,
     eod: Address,
+    ends_from: Address,
 }
 
 /// Everything that was found.
@@ -77,6 +81,7 @@ impl Finds {
             pass: header.pass,
             last: header.last,
             eod: Some(header.eod).filter(|eod| *eod != Address(0)),
+            ends_from: header.ends_from,
         })
     }
 
@@ -89,6 +94,7 @@ impl Finds {
             pass: newest.pass,
             last: newest.last,
             eod: None,
+            ends_from: Address(0),
         })
     }
 
@@ -103,24 +109,29 @@ impl Finds {
     pub fn of(self, recording: &Recording) -> Vec<Found> {
         let mut frames = self.frames;
         frames.retain(|found| recording.has(found));
-        if let Some(end) = end_of(&frames, recording) {
-            let counts = (end.number, end.filemarks);
-            let within = |found: &Found| match found.kind {
-                Kind::Eod => (found.number, found.filemarks) == counts,
-                _ => found.number < end.number && found.filemarks <= end.filemarks,
-            };
-            frames.retain(within);
-        }
+        let end = end_of(&frames, recording);
+        let counts = end.map(|end| (end.number, end.filemarks));
+        frames.retain(|found| match (found.kind, end) {
+            (Kind::Eod, _) => Some((found.number, found.filemarks)) == counts,
+            (_, Some(end)) => found.number < end.number && found.filemarks <= end.filemarks,
+            (_, None) => true,
+        });
         frames.sort_unstable_by_key(order);
         frames
     }
 }
 
-/// The end of data: at its address, or else the first that a reading meets.
+/// The end of data: at its address, or else the one behind most elements, for
+/// each time that something was added the recording got a later one. Where no
+/// header names its address, one that elements follow is an earlier one.
 fn end_of(frames: &[Found], recording: &Recording) -> Option<Found> {
-    let ends = frames.iter().filter(|found| found.kind == Kind::Eod);
+    let (ends, elements): (Vec<&Found>, Vec<&Found>) =
+        frames.iter().partition(|found| found.kind == Kind::Eod);
+    let last = elements.iter().map(|found| found.number).max();
+    let counts = |found: &&Found| recording.eod.is_some() || Some(found.number) > last;
+    let ends = ends.into_iter().filter(counts);
     let elsewhere = |found: &&Found| found.origin.address != recording.eod.map(|eod| eod.0);
-    ends.min_by_key(|found| (elsewhere(found), order(found)))
+    ends.min_by_key(|found| (elsewhere(found), Reverse(found.number), order(found)))
         .copied()
 }
 
@@ -131,7 +142,7 @@ fn order(found: &Found) -> impl Ord {
         generation,
     } = found.origin;
     let address = address.unwrap_or(u32::MAX);
-    let newest_first = std::cmp::Reverse(generation);
+    let newest_first = Reverse(generation);
     (found.filemarks, found.number, address, newest_first, cell)
 }
 
@@ -140,7 +151,9 @@ impl Recording {
         let end = self.eod.unwrap_or(self.last);
         let address = found.origin.address.map(Address);
         let stands = address.is_none_or(|at| at.is_user_frame(self.last) && at <= end);
-        found.pass == self.pass && found.last == self.last && stands
+        let is_end = found.kind == Kind::Eod;
+        let earlier_end = is_end && address.is_some_and(|at| at < self.ends_from);
+        found.pass == self.pass && found.last == self.last && stands && !earlier_end
     }
 }
 
@@ -152,6 +165,7 @@ fn header(origin: Origin, frame: &Frame) -> Option<Header> {
         pass: fields.pass,
         last: fields.last,
         eod: fields.eod,
+        ends_from: fields.ends_from(),
     };
     let address = origin.address.map(Address);
     address

@@ -8,7 +8,8 @@ pub const CELL: usize = 36_864;
 /// How the first block of a job starts.
 pub const DESCRIPTION: &[u8] = b"ADRJOB 2";
 
-const FRAME: usize = 33_280;
+/// Bytes of a frame; a cell's label stands behind it.
+pub const FRAME: usize = 33_280;
 const BLOCK: usize = 32_768;
 /// Where an index cell's entries start, and their length.
 const ENTRIES: usize = 8;
@@ -41,6 +42,27 @@ pub fn entries(image: &[u8]) -> Vec<usize> {
     let count = number(image, newer_root(image) + 32);
     let first = index_of(image) + ENTRIES;
     (0..count).map(|turn| first + turn * ENTRY).collect()
+}
+
+/// Where the frame of an address starts, as the index has it.
+pub fn frame_at(image: &[u8], address: usize) -> usize {
+    let all = entries(image).into_iter();
+    let mut at = all.filter(|entry| number(image, *entry) >> 32 == address);
+    CELLS + number(image, at.next().expect("an entry") + 8) * CELL
+}
+
+/// The addresses of the header's copies.
+pub fn header_addresses() -> impl Iterator<Item = usize> {
+    (5..10).chain(2_990..2_995)
+}
+
+/// Changes every copy of the header.
+pub fn change_headers(image: &mut [u8], change: impl Fn(&mut [u8])) {
+    for address in header_addresses() {
+        let start = frame_at(image, address);
+        change(&mut image[start..start + FRAME]);
+        seal_frame(image, start);
+    }
 }
 
 /// Lets the checksums of an index of one cell, and of the roots, hold again.
@@ -78,6 +100,16 @@ pub fn seal_frame(image: &mut [u8], start: usize) {
         }
     }
     seal_index(image);
+}
+
+/// Makes cells as they were before there were labels.
+pub fn remove_labels(image: &mut [u8]) {
+    for cell in (CELLS..image.len()).step_by(CELL) {
+        let is_index = cell == index_of(image);
+        if !is_index {
+            image[cell + FRAME..cell + CELL].fill(0);
+        }
+    }
 }
 
 /// Where the cells start whose content starts with these bytes.

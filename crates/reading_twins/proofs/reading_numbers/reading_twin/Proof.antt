@@ -4,11 +4,14 @@ use Rattle.reading_twins.specs.Reading.{readingTwin}
 use Rattle.reading_twins.proofs.reading_numbers.reading_twin.Statement.{statement}
 use Rattle.reading_twins.proofs.reading_numbers.reading_twin.Tie as tie
 
-exchange-twin-requires : tie.Need-exchange-twin-requires
-exchange-twin-requires c κs = search needs
-
 flag-number-requires : tie.Need-flag-number-requires
 flag-number-requires c κs = search needs
+
+trail-twin-requires : tie.Need-trail-twin-requires
+trail-twin-requires c κs = search needs
+
+exchange-twin-requires : tie.Need-exchange-twin-requires
+exchange-twin-requires c κs = search needs
 
 flag-number-requires-2 : tie.Need-flag-number-requires-2
 flag-number-requires-2 c κs = search needs
@@ -18,14 +21,22 @@ flag-number-requires-3 c κs = search needs
 
 returns : tie.Need-returns
 unfolding readingTwin
-returns c = rw (c .before .before .before .exchange-twin .ensures, c .before .before .flag-number .ensures, c .before .flag-number2 .ensures, c .flag-number3 .ensures)
+returns c =
+    rw (
+      c .before .before .before .before .flag-number .ensures,
+      c .before .before .before .trail-twin .ensures,
+      c .before .before .exchange-twin .ensures,
+      c .before .flag-number2 .ensures,
+      c .flag-number3 .ensures,
+    )
 
 pub reading-twin-spec : {M : Type 1} → statement M
 reading-twin-spec =
     tie.close
     (tie.spec
-    exchange-twin-requires
     flag-number-requires
+    trail-twin-requires
+    exchange-twin-requires
     flag-number-requires-2
     flag-number-requires-3
     returns)

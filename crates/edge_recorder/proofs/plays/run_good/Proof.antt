@@ -1,14 +1,14 @@
 -- The count stays within its bound, and a lent slice keeps its length. Assumes nothing.
 use borrow.Author.Needs.{needs}
 use Prim.Native.Nat.{_≤_, _-_}
-use Rattle.edge_recorder.proofs.plays.play_good.Statement.{statement}
-use Rattle.edge_recorder.proofs.plays.play_good.Tie as tie
+use Rattle.edge_recorder.proofs.plays.run_good.Statement.{statement}
+use Rattle.edge_recorder.proofs.plays.run_good.Tie as tie
 
 abbrev Inv-loop : tie.InvT-loop
-Inv-loop window n s₀ counter₀ s counter = counter ≤ n
+Inv-loop window n shown s₀ counter₀ s counter = counter ≤ n
 
 abbrev μ-loop : tie.MeasureT-loop
-μ-loop window n s₀ counter₀ s counter = n - counter
+μ-loop window n shown s₀ counter₀ s counter = n - counter
 
 loop-holds : tie.Need-loop-holds Inv-loop μ-loop
 loop-holds c = search needs
@@ -16,8 +16,8 @@ loop-holds c = search needs
 good-requires : tie.Need-good-requires Inv-loop μ-loop
 good-requires c κs = search needs
 
-play-requires : tie.Need-play-requires Inv-loop μ-loop
-play-requires c κs = search needs
+exchange-requires : tie.Need-exchange-requires Inv-loop μ-loop
+exchange-requires c κs = search needs
 
 add-counter : tie.Need-add-counter Inv-loop μ-loop
 add-counter c = search needs
@@ -31,15 +31,15 @@ loop-again c = search needs
 returns : tie.Need-returns Inv-loop μ-loop
 returns c = search needs
 
-pub play-good-spec : {M : Type 1} → statement M
-play-good-spec =
+pub run-good-spec : {M : Type 1} → statement M
+run-good-spec =
     tie.close
     (tie.spec
     Inv-loop
     μ-loop
     loop-holds
     good-requires
-    play-requires
+    exchange-requires
     add-counter
     loop-less
     loop-again

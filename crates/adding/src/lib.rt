@@ -1,0 +1,24 @@
+// The public call that opens a recording at the end that a reading found.
+ghost use mathlib.Core.Path.{_≡_};
+ghost use Rattle.recording.specs.Recording.{outcomeSaid};
+ghost use Rattle.recording_state.specs.Open.{openRefused};
+ghost use Rattle.adding_opening.specs.AtEnd.{openAtEndOf};
+use geometry::Refusal;
+use opening::refuse_opening;
+use reading::Reading;
+use recording::Outcome;
+
+// At the end of a reading, for a drive that buffers `depth` frames, with a window of `blocks` blocks. The reading is not used up.
+pub fn open_at_end(reading: Reading, depth: u8, blocks: u8) -> Outcome
+    ensures { λ r. ⌜ outcomeSaid r ≡ openAtEndOf (reading .state) depth blocks ⌝ }
+{
+    let s = reading.state;
+    Outcome::of(adding_opening::open_at_end(s, depth, blocks))
+}
+
+// Where there is no reading that could be at its end.
+pub fn open_at_none() -> Outcome
+    ensures { λ r. ⌜ outcomeSaid r ≡ openRefused 7 ⌝ }
+{
+    Outcome::of(refuse_opening(Refusal::Phase))
+}

@@ -1,0 +1,226 @@
+-- What holds after every list of a recording's calls, however the session was opened: by the invariant. Assumes nothing.
+use Prim.Native.Nat.{ℕ, _+_, _^_, _≤_, _<_}
+use mathlib.Core.Path.{_≡_, refl, sym, ap, subst, _∙_}
+use mathlib.Core.Bool.{true, false, not, true≢false}
+use mathlib.Core.List.{List, [], _++_}
+use mathlib.Core.Logic.{⊎-elim}
+use native.Mathlib.Nat.{eq-or-lt-of-le}
+use native.Mathlib.Omega.{arith}
+use borrow.Author.Tests.{eq-eqb, ne-eqb}
+use lib.Dec.{eqb}
+use lib.ListN.{length}
+use Rattle.geometry.specs.Place.{address}
+use Rattle.geometry.specs.Cartridge.{lastOf, isUser}
+use Rattle.geometry.specs.declared.cartridge.Geometry.{Geometry}
+use Rattle.geometry.proofs.Last.{frames-of}
+use Rattle.geometry.proofs.TestLaws.{neither}
+use Rattle.header.specs.Valid.{headerOf}
+use Rattle.header.proofs.Facts.{valid-last, valid-pass}
+use Rattle.judgement.specs.Judgement.{endsFrom}
+use Rattle.judgement.specs.declared.told.Told.{Told}
+use Rattle.recording_state.specs.State.{accepting}
+use Rattle.recording_state.specs.declared.state.State.{State}
+use Rattle.reading_state.specs.State.{isAtEnd, endOf}
+use Rattle.reading_state.specs.Open as reading
+use Rattle.reading_state.specs.Open.{toldOf}
+use Rattle.adding_opening.specs.AtEnd.{endsElsewhere, openAtEndOf}
+use Rattle.archive.specs.Tape.{Tape, Cartridge, SameFrames}
+use Rattle.archive.specs.Conduct.{Drive, AtRest}
+use Rattle.archive.specs.Headers.{Newest}
+use Rattle.archive.specs.Fold.{finished, wholeOf, ReadingIsFold}
+use Rattle.archive.specs.Recordings as recordings
+use Rattle.archive.specs.Recordings.{Element}
+use Rattle.archive.specs.Readings as readings
+use Rattle.archive.specs.Demand.{Opening, opened, newPass, OnNewest, NoneBears, Faithful, Readable, Within}
+use Rattle.archive.specs.Chain.{HasRead, Start, fresh, added, earlierOf, OnItsNewest, AsItStands, NoneAbove, NoneInTheWay, Continued}
+use Rattle.archive.proofs.tape.Seen.{Seen, Clean}
+use Rattle.archive.proofs.tape.FoldLaws.{fold-users}
+use Rattle.archive.proofs.tape.Ended.{EndsHere, fold-ended, ends-known}
+use Rattle.archive.proofs.reading.Invariant.{Ended}
+use Rattle.archive.proofs.reading.Promises.{AtEnd, at-end-so}
+use Rattle.archive.proofs.recording.Setting.{Setting, HeadersLeft, Leaves}
+use Rattle.archive.proofs.recording.Invariant.{Inv, live, rejecting, over}
+use Rattle.archive.proofs.recording.InvariantLaws.{flight-awaits, fetch-awaited}
+use Rattle.archive.proofs.recording.Start.{Started, started-as, starts-below, sets, pass-is, nothing-seen, nothing-borne, begins}
+use Rattle.archive.proofs.recording.Added.{AddedView, at-end-facts, added-view, added-started, added-pass, added-below, added-seen, added-clean}
+use Rattle.archive.proofs.recording.Noted.{noted, runs-with}
+use Rattle.archive.proofs.recording.HeaderCopies.{Below}
+use Rattle.archive.proofs.recording.DriveMoves.{keeps-move}
+use Rattle.archive.proofs.recording.Calls.{keeps-call}
+use Rattle.archive.proofs.recording.Completion.{user-some, ends-named, reported-rests, closes, completes, opens}
+use Rattle.archive.proofs.recording.Named.{given-named, newest-named}
+use Rattle.archive.proofs.Fold.{Opens, reading-is-fold, reading-opened, reading-kept}
+
+-- ---- the invariant holds after every list
+
+runs-keep : {last pass : ℕ} {on-newest none-bears : Type 0} {w v : recordings.World} {cs : List recordings.Call} → Setting last pass → Inv last pass on-newest none-bears w → recordings.Runs w cs v → Inv last pass on-newest none-bears v
+runs-keep set i recordings.stop = i
+runs-keep set i (recordings.call c rest) = runs-keep set (keeps-call _ _ _ set i c) rest
+runs-keep set i (recordings.drive m rest) = runs-keep set (keeps-move _ _ set i m) rest
+
+within : {last pass : ℕ} {on-newest none-bears : Type 0} {w : recordings.World} → Inv last pass on-newest none-bears w → Within last (w .drive .written)
+within (live h _) = h
+within (rejecting h _) = h
+within (over h _) = h
+
+-- ---- what a recording left that reported done
+
+-- every newest header names the EOD, so that a reading on it ends there
+names-end : {last pass n : ℕ} {none-bears : Type 0} {t : Tape} (l : HeadersLeft last pass none-bears n t) (h : List ℕ) → Newest last t h → endsFrom (toldOf (headerOf h)) ≡ l .end-at
+names-end {last} l h n = ends-named (headerOf h) (λ z. user-some last (l .end-at) (l .ends .user) (sym (l .names h n) ∙ z)) ∙ l .names h n
+
+pub left-whole : {last pass : ℕ} {none-bears : Type 0} {t : Tape} {xs : List Element} (l : Leaves last pass none-bears t xs) (h : List ℕ) → Newest last t h → wholeOf (toldOf (headerOf h)) t ≡ finished xs (l .headers .end-at)
+left-whole {last} l h n = l .recorded (toldOf (headerOf h)) (valid-last last h (n .here .valid)) (l .headers .passes h n) (names-end (l .headers) h n)
+
+-- so a reading of it is an instance of what every reading gives
+readable : {none-bears : Type 0} (g : Geometry) (last pass : ℕ) (t : Tape) (xs : List Element) → g .segtrk < 2 ^ 16 → g .trks < 2 ^ 16 → lastOf g ≡ address last → Leaves last pass none-bears t xs → Readable g last t xs
+unfolding ReadingIsFold
+readable g last pass t xs seg trk e l = record {
+  header = l .headers .header;
+  newest = l .headers .newest;
+  opens = opens g last t (l .headers .header) e (l .cartridge) (l .headers .newest);
+  reads = λ h at calls w n r.
+      subst (λ (x : ℕ). Faithful x xs w) (valid-last last h (n .here .valid))
+      (reading-is-fold g last t h at calls w seg trk e (l .cartridge) (opens g last t h e (l .cartridge) n) r .faithful xs (l .headers .end-at) (left-whole l h n));
+}
+
+-- above the EOD that they name nothing bears the pass
+left-clear : {last pass n : ℕ} {none-bears : Type 0} {t : Tape} → none-bears → HeadersLeft last pass none-bears n t → (h : List ℕ) → Newest last t h → NoneAbove last t (headerOf h .eod .0) (headerOf h .pass)
+left-clear none l h n a f u above there bears = l .ends .above none a f (omega (arith, l .names h n)) u there (bears ∙ l .passes h n)
+
+-- ---- a reading that has come to its end
+
+module _ (g : Geometry) (last : ℕ) (seg : g .segtrk < 2 ^ 16) (trk : g .trks < 2 ^ 16) (e : lastOf g ≡ address last) where
+  pub read-ended : {t : Tape} {h : List ℕ} {r : readings.World} → HasRead g last t h r → r .session .finished ≡ true → r .session .ended ≡ false → AtEnd (toldOf (headerOf h)) t r
+  read-ended {t} {h} {r} x = at-end-so r (reading-kept g last t h (x .at) (x .calls) r seg trk e (x .cartridge) (x .opens) (x .runs))
+
+  -- it ended at an EOD from the named one on, above which nothing bears the pass: so there
+  ends-there : {pass n : ℕ} {none-bears : Type 0} {t : Tape} → none-bears → HeadersLeft last pass none-bears n t → (h : List ℕ) (r : readings.World) → Newest last t h → HasRead g last t h r
+      → isAtEnd (r .session) ≡ true → endsElsewhere (r .session) ≡ false
+  ends-there {t = t} none l h r n x end =
+      let s = r .session in
+      let told = toldOf (headerOf h) in
+      let facts = at-end-facts s end in
+      let a = read-ended x (facts .0) (facts .1) in
+      let here : EndsHere told t (r .notes .deliveries) (endOf s .0) = fold-ended told t (r .notes .deliveries) (endOf s .0) (told .last .0 + 1) (a .ended .whole) in
+      let known = ends-known here in
+      let user : isUser last (endOf s .0) ≡ true = subst (λ (m : ℕ). isUser m (endOf s .0) ≡ true) (valid-last last h (n .here .valid)) (here .user) in
+      let low : l .end-at ≤ endOf s .0 = omega (arith, names-end l h n, known .1) in
+      let there : l .end-at ≡ endOf s .0 =
+      ⊎-elim (λ same. same) (λ above. absurd (l .ends .above none (endOf s .0) (here .frame) (omega arith) user (here .reads) (known .0 .typed .written ∙ l .passes h n))) (eq-or-lt-of-le low) in
+      let named : s .told .eod .0 ≡ l .end-at = ap (λ (y : Told). y .eod .0) (a .ended .told-is) ∙ l .names h n in
+      neither (eqb (s .told .eod .0) 0) (not (eqb (s .told .eod .0) (endOf s .0)))
+      (ne-eqb _ _ (λ z. user-some last (l .end-at) (l .ends .user) (sym named ∙ z))) (ap not (eq-eqb _ _ (named ∙ there)))
+
+-- ---- the invariant of a session, behind the elements that the cartridge held already
+
+-- of the list as it is, and of the same with its window noted as altered, where nothing of what the tape held need be known
+pub record Kept (last pass : ℕ) (on-newest as-it-stands none-in-the-way : Type 0) (earlier : List Element) (w : recordings.World) : Type 0 where
+  pub set : Setting last pass
+  pub whole : Inv last pass on-newest (as-it-stands × none-in-the-way) (noted earlier true w)
+  pub frames : Inv last pass on-newest none-in-the-way (noted earlier false w)
+
+module _ (g : Geometry) (last : ℕ) (seg : g .segtrk < 2 ^ 16) (trk : g .trks < 2 ^ 16) (e : lastOf g ≡ address last) (d : Drive) (window : List ℕ) (calls : List recordings.Call) (w : recordings.World)
+    (cart : Cartridge last (d .tape)) (unwritten : d .written ≡ []) (rest : AtRest d) where
+  -- from the start of its elements, and what the cartridge was then
+  begun-kept : (s : State) (earlier : List Element) (at : ℕ) (x : Started last earlier at s) (on-newest as-it-stands none-in-the-way : Type 0) → recordings.Runs (recordings.started s window d) calls w
+      → (on-newest → Below last (s .copies .header) (d .tape)) → (as-it-stands → none-in-the-way → Seen last (s .copies .header .pass) earlier (length earlier) at (d .tape))
+      → (none-in-the-way → Clean last (s .copies .header .pass) at (d .tape)) → Kept last (s .copies .header .pass) on-newest as-it-stands none-in-the-way earlier w
+  begun-kept s earlier at x on-newest as-it-stands none-in-the-way r below seen clean =
+      let set = sets g last earlier at s seg trk e x in
+      record {
+        set = set;
+        whole =
+            runs-keep set (begins last d window earlier true at s x on-newest (as-it-stands × none-in-the-way) set unwritten rest cart below (λ c _. seen (c .0) (c .1)) (λ c. clean (c .1))) (runs-with earlier true r);
+        frames = runs-keep set (begins last d window earlier false at s x on-newest none-in-the-way set unwritten rest cart below (λ _ z. absurd (true≢false (sym z))) clean) (runs-with earlier false r);
+      }
+
+  -- ---- opened afresh
+
+  module _ (s : State) (depth blocks : ℕ) (o : Opening) (op : opened g depth blocks o ≡ accepting s) where
+    none-there : NoneBears last (d .tape) (newPass o) → NoneBears last (d .tape) (s .copies .header .pass)
+    none-there = subst (NoneBears last (d .tape)) (sym (pass-is g last depth blocks s e o op))
+
+    fresh-kept : recordings.Runs (recordings.started s window d) calls w → Kept last (s .copies .header .pass) (OnNewest last (d .tape) o) (Unit {0}) (NoneBears last (d .tape) (newPass o)) [] w
+    fresh-kept r =
+        begun-kept s [] 10 (started-as g last depth blocks s e (frames-of g last e .large) o op) (OnNewest last (d .tape) o) (Unit {0}) (NoneBears last (d .tape) (newPass o)) r
+        (starts-below g last depth blocks s e (d .tape) o op) (λ _ none. nothing-seen last (s .copies .header .pass) (d .tape) cart (none-there none))
+        (λ none. nothing-borne last (s .copies .header .pass) (d .tape) (none-there none))
+
+  -- ---- opened at the end of a reading
+
+  module _ (s : State) (depth blocks : ℕ) (u : Tape) (h : List ℕ) (r : readings.World) (read : HasRead g last u h r) (op : openAtEndOf (r .session) depth blocks ≡ accepting s) where
+    view : AddedView (r .session) depth blocks s
+    view = added-view (r .session) depth blocks s op
+
+    pub added-ended : AtEnd (toldOf (headerOf h)) u r
+    added-ended = read-ended g last seg trk e read (view .finished-is) (view .going-on)
+
+    opened-is : Opens last h (reading.openOf g h)
+    opened-is = reading-opened g last u h (read .at) (read .calls) r seg trk e (read .cartridge) (read .opens) (read .runs)
+
+    large : 3000 ≤ last
+    large = frames-of g last e .large
+
+    abbrev None : Type 0
+    None = NoneAbove last (d .tape) (endOf (r .session) .0) (headerOf h .pass)
+
+    -- the reading ended so on the cartridge as it stands
+    ended-now : SameFrames last u (d .tape) → Ended (toldOf (headerOf h)) (d .tape) (r .session) (r .notes .deliveries)
+    ended-now same =
+        let x = added-ended .ended in
+        let users = subst (λ (n : ℕ). SameFrames n u (d .tape)) (sym (opened-is .last-is)) same in
+        record {
+          told-is = x .told-is;
+          so-far = sym (fold-users (toldOf (headerOf h)) u (d .tape) users (endOf (r .session) .0)) ∙ x .so-far;
+          whole = sym (fold-users (toldOf (headerOf h)) u (d .tape) users (headerOf h .last .0 + 1)) ∙ x .whole;
+        }
+
+    pass-kept : headerOf h .pass ≡ s .copies .header .pass
+    pass-kept = sym (added-pass (toldOf (headerOf h)) last u (r .session) (r .notes .deliveries) large (opened-is .last-is) (added-ended .ended) depth blocks s view)
+
+    added-kept : recordings.Runs (recordings.started s window d) calls w → Kept last (s .copies .header .pass) (Newest last (d .tape) h) (SameFrames last u (d .tape)) None (r .notes .deliveries) w
+    added-kept runs =
+        begun-kept s (r .notes .deliveries) (endOf (r .session) .0)
+        (added-started (toldOf (headerOf h)) last u (r .session) (r .notes .deliveries) large (opened-is .last-is) (added-ended .ended) depth blocks s view (valid-pass last h (opened-is .valid)))
+        (Newest last (d .tape) h) (SameFrames last u (d .tape)) None runs
+        (added-below (toldOf (headerOf h)) last u (r .session) (r .notes .deliveries) large (opened-is .last-is) (added-ended .ended) depth blocks s view h refl (d .tape))
+        (λ same none.
+        subst (λ (n : ℕ). Seen last n (r .notes .deliveries) (length (r .notes .deliveries)) (endOf (r .session) .0) (d .tape)) pass-kept
+        (added-seen (toldOf (headerOf h)) last (d .tape) (r .session) (r .notes .deliveries) large (opened-is .last-is) (ended-now same) depth blocks s view cart none))
+        (λ none. subst (λ (n : ℕ). Clean last n (endOf (r .session) .0) (d .tape)) pass-kept (added-clean none))
+
+  -- ---- however it was opened
+
+  pub start-kept : (s : State) (b : Start g last s) → recordings.Runs (recordings.started s window d) calls w
+      → Kept last (s .copies .header .pass) (OnItsNewest b (d .tape)) (AsItStands b (d .tape)) (NoneInTheWay b (d .tape)) (earlierOf b) w
+  start-kept s (fresh depth blocks o op) r = fresh-kept s depth blocks o op r
+  start-kept s (added depth blocks u h r read op) runs = added-kept s depth blocks u h r read op runs
+
+module _ {last pass : ℕ} {on-newest as-it-stands none-in-the-way : Type 0} {earlier : List Element} {w : recordings.World} (k : Kept last pass on-newest as-it-stands none-in-the-way earlier w) where
+  -- the tape, where all is as it should be
+  pub leaves : on-newest → as-it-stands → none-in-the-way → w .notes .unaltered ≡ true → w .notes .reported ≡ true → Leaves last pass (as-it-stands × none-in-the-way) (w .drive .tape) (earlier ++ w .notes .accepted)
+  leaves newest same none = completes (noted earlier true w) (k .set) (k .whole) newest (same, none)
+
+  -- its headers, where less is
+  headers : on-newest → w .notes .reported ≡ true → HeadersLeft last pass none-in-the-way (length (earlier ++ w .notes .accepted)) (w .drive .tape)
+  headers = closes (noted earlier false w) (k .set) (k .frames)
+
+pub continued : (g : Geometry) (last : ℕ) (d : Drive) (s : State) (b : Start g last s) (window : List ℕ) (calls : List recordings.Call) (w : recordings.World)
+    → g .segtrk < 2 ^ 16 → g .trks < 2 ^ 16 → lastOf g ≡ address last → Cartridge last (d .tape) → d .written ≡ [] → AtRest d
+    → recordings.Runs (recordings.started s window d) calls w → Continued g last (d .tape) s b w
+continued g last d s b window calls w seg trk e cart unwritten rest runs =
+    let k = start-kept g last seg trk e d window calls w cart unwritten rest s b runs in
+    let v = noted (earlierOf b) true w in
+    record {
+      written = within (k .whole);
+      alone = λ lent frame busy. fetch-awaited (w .session) lent frame (flight-awaits (k .whole) busy);
+      readable = λ newest same none unaltered reported.
+          let l = leaves k newest same none unaltered reported in
+          (readable g last (s .copies .header .pass) (w .drive .tape) (earlierOf b ++ w .notes .accepted) seg trk e l, l .cartridge);
+      rests = reported-rests v (k .whole);
+      given = given-named v (k .set) (k .whole);
+      newest = newest-named v (k .set) (k .whole);
+      clear = λ newest none reported. left-clear none (headers k newest reported);
+      addable = λ newest none reported. ends-there g last seg trk e none (headers k newest reported);
+    }

@@ -1,0 +1,226 @@
+-- A session that was opened at the end of a reading starts behind what the reading delivered. Assumes nothing.
+use Prim.Native.Nat.{ℕ, _+_, _-_, _%_, _^_, _≤_, _<_}
+use mathlib.Core.Path.{_≡_, refl, sym, ap, subst, _∙_}
+use mathlib.Core.Bool.{Bool, true, false, _&&_, _||_, not, true≢false}
+use mathlib.Core.List.{List}
+use mathlib.Core.Logic.{_⊎_, inl, inr, ⊎-elim}
+use mathlib.Core.Option.{some}
+use native.Mathlib.Nat.{le-refl, eq-or-lt-of-le, mod-eq-of-lt}
+use native.Mathlib.Omega.{arith}
+use borrow.Author.Tests.{ltb-false, lt-ltb, eqb-true, eqb-false}
+use lib.Dec.{eqb, ltb}
+use lib.ListN.{length, take, drop}
+use lib.Seq.{take-length}
+use Rattle.geometry.specs.Place.{asAddress}
+use Rattle.geometry.specs.Cartridge.{isUser}
+use Rattle.geometry.specs.declared.address.Address.{Address}
+use Rattle.geometry.proofs.PickLaws.{pick-by, pick-f}
+use Rattle.geometry.proofs.TestLaws.{or-false, and-true}
+use Rattle.geometry.proofs.UserFrames.{User, user-ranges}
+use Rattle.buffer.specs.Bytes.{get32}
+use Rattle.frame.specs.declared.element.Kind.the-variants.{Eod}
+use Rattle.frame.specs.declared.trail.Trail.{Trail}
+use Rattle.header.specs.Valid.{updateOf, headerOf}
+use Rattle.judgement.specs.Judgement as judgement
+use Rattle.judgement.specs.Judgement.{endsFrom, judgeFrame}
+use Rattle.judgement.specs.declared.told.Told.{Told}
+use Rattle.judgement.proofs.Facts.{FoundAs}
+use Rattle.judgement.proofs.JudgeLaws.{below-so, earlier-so, found-told, other-pass}
+use Rattle.carried_headers.specs.Carried.{isCountedOut, addedTo}
+use Rattle.recording_state.specs.State.{OutcomeSaid, accepting}
+use Rattle.recording_state.specs.Open.{openRefused, isMisfit}
+use Rattle.recording_state.specs.declared.state.State.{State}
+use Rattle.recording_state.proofs.Sizes.{sizes-fit}
+use Rattle.reading_state.specs.State.{isAtEnd, endOf}
+use Rattle.reading_state.specs.Open.{toldOf}
+use Rattle.reading_state.specs.declared.state.State.{State as Reading}
+use Rattle.adding_opening.specs.AtEnd.{endsElsewhere, addedSession, openAtEndOf}
+use Rattle.archive.specs.Tape.{Tape, Cartridge}
+use Rattle.archive.specs.Headers.{Newest}
+use Rattle.archive.specs.Recordings.{Element}
+use Rattle.archive.specs.Readings.{World}
+use Rattle.archive.specs.Fold.{Reader, going, finished, foldOf, wholeOf}
+use Rattle.archive.specs.Chain.{NoneAbove}
+use Rattle.archive.proofs.tape.Seen.{Has, has, Seen, Quiet, Clean}
+use Rattle.archive.proofs.tape.Stands.{unending}
+use Rattle.archive.proofs.tape.StandsLaws.{ends-telling}
+use Rattle.archive.proofs.tape.FoldLaws.{fold-alike}
+use Rattle.archive.proofs.tape.Ended.{EndsHere, fold-ended, ends-known}
+use Rattle.archive.proofs.reading.Facts.{Counts, fold-counts, Spread, fold-spread}
+use Rattle.archive.proofs.reading.Invariant.{Ended}
+use Rattle.archive.proofs.recording.HeaderCopies.{Below}
+use Rattle.archive.proofs.recording.Start.{Started, refused-accepting}
+
+-- ---- an opening that was accepted
+
+pub record AddedView (r : Reading) (depth blocks : ℕ) (s : State) : Type 0 where
+  pub finished-is : r .finished ≡ true
+  pub going-on : r .ended ≡ false
+  pub few : blocks ≤ 64
+  pub counts : r .told .update ≤ 4294967293
+  pub some-end : r .told .eod .0 ≡ 0 → ⊥
+  pub named : r .told .eod .0 ≡ endOf r .0
+  pub is : addedSession depth (blocks - 1) r ≡ s
+
+not-true : (b : Bool) → not b ≡ true → b ≡ false
+not-true true e = absurd (true≢false (sym e))
+not-true false e = refl
+
+not-untrue : (b : Bool) → not b ≡ false → b ≡ true
+not-untrue true e = refl
+not-untrue false e = absurd (true≢false e)
+
+pub at-end-facts : (r : Reading) → isAtEnd r ≡ true → (r .finished ≡ true) × (r .ended ≡ false)
+at-end-facts r at =
+    let ends = and-true (r .finished) (not (r .ended || r .exchange .awaiting || r .exchange .again)) at in
+    let idle = or-false (r .ended || r .exchange .awaiting) (r .exchange .again) (not-true _ (ends .1)) in
+    (ends .0, or-false (r .ended) (r .exchange .awaiting) (idle .0) .0)
+
+pub added-view : (r : Reading) (depth blocks : ℕ) (s : State) → openAtEndOf r depth blocks ≡ accepting s → AddedView r depth blocks s
+unfolding openAtEndOf
+added-view r depth blocks s =
+    pick-by View (isAtEnd r)
+    (λ at. pick-by View (isMisfit depth blocks) (λ _ q. refused-accepting 4 (omega arith) q)
+    (λ fit. pick-by View (isCountedOut (r .told .update)) (λ _ q. refused-accepting 5 (omega arith) q)
+    (λ count. pick-by View (endsElsewhere r) (λ _ q. refused-accepting 13 (omega arith) q)
+    (λ here q.
+    let ends = at-end-facts r at in
+    let place = or-false (eqb (r .told .eod .0) 0) (not (eqb (r .told .eod .0) (endOf r .0))) here in
+    record {
+      finished-is = ends .0;
+      going-on = ends .1;
+      few = sizes-fit depth blocks fit .1;
+      counts = ltb-false 4294967293 (r .told .update) count;
+      some-end = eqb-false (r .told .eod .0) 0 (place .0);
+      named = eqb-true (r .told .eod .0) (endOf r .0) (not-untrue _ (place .1));
+      is = ap (λ (x : OutcomeSaid). x .session) q;
+    }))))
+    (λ _ q. refused-accepting 7 (omega arith) q)
+  where
+    View : OutcomeSaid → Type 0
+    View x = x ≡ accepting s → AddedView r depth blocks s
+
+-- ---- what bears the pass at the start
+
+pub added-clean : {last pass end : ℕ} {t : Tape} → NoneAbove last t end pass → Clean last pass end t
+added-clean {end = end} none = record { old = end; old-low = le-refl end; none = λ a f o l u e. none a f u o e }
+
+-- ---- at the end of a reading of a tape t, which delivered earlier
+
+module _ (told : Told) (last : ℕ) (t : Tape) (r : Reading) (earlier : List Element) (large : 3000 ≤ last) (last-is : told .last .0 ≡ last) (ended : Ended told t r earlier) where
+  abbrev end-at : ℕ
+  end-at = endOf r .0
+
+  here : EndsHere told t earlier end-at
+  here = fold-ended told t earlier end-at (told .last .0 + 1) (ended .whole)
+
+  end-user : isUser last end-at ≡ true
+  end-user = subst (λ (n : ℕ). isUser n end-at ≡ true) last-is (here .user)
+
+  end-low : end-at ≤ last
+  end-low = ⊎-elim (λ h. let x = h .1 in omega arith) (λ h. h .1) (user-ranges last end-at end-user)
+
+  count-is : length earlier ≡ r .expected .0
+  count-is = let c : Counts end-at (going (r .expected .0) earlier (r .trail)) = subst (Counts end-at) (ended .so-far) (fold-counts told t end-at) in c .0
+
+  -- as many user frames have gone by
+  spread : length earlier + 10 ≤ end-at
+  spread =
+      let s : Spread end-at (going (r .expected .0) earlier (r .trail)) = subst (Spread end-at) (ended .so-far) (fold-spread told t end-at) in
+      ⊎-elim (λ h. let x = h .0 in omega (arith, count-is)) (λ h. let x = h .0 in omega (arith, count-is)) (user-ranges last end-at end-user)
+
+  end-zone : (end-at ≤ 2990) ⊎ (3000 ≤ end-at)
+  end-zone = ⊎-elim (λ h. let x = h .1 in inl (omega arith)) (λ h. inr (h .0)) (user-ranges last end-at end-user)
+
+  module _ (depth blocks : ℕ) (s : State) (v : AddedView r depth blocks s) where
+    told-update : r .told .update ≡ told .update
+    told-update = ap (λ (x : Told). x .update) (ended .told-is)
+
+    count-up : (r .told .update + 1) % 2 ^ 32 ≡ r .told .update + 1
+    count-up = mod-eq-of-lt (let y = v .counts in omega arith)
+
+    pub added-started : told .pass ≤ 65534 → Started last earlier end-at s
+    added-started low = record {
+      depth = depth;
+      highest = blocks - 1;
+      header = addedTo (r .told .last) (r .told .pass) (r .told .update) (endOf r);
+      number = r .expected;
+      trail = r .trail;
+      is = v .is;
+      narrow = let y = v .few in omega arith;
+      last-is = ap (λ (x : Told). x .last .0) (ended .told-is) ∙ last-is;
+      pass-low = subst (λ (n : ℕ). n ≤ 65534) (sym (ap (λ (x : Told). x .pass) (ended .told-is))) low;
+      eod-zero = refl;
+      old-low = end-low;
+      count-fits = let y = v .counts in omega (arith, count-up);
+      number-is = sym count-is;
+      roof = end-low;
+      zone = end-zone;
+      spread = spread;
+    }
+
+    pub added-pass : s .copies .header .pass ≡ told .pass
+    added-pass = sym (ap (λ (x : State). x .copies .header .pass) (v .is)) ∙ ap (λ (x : Told). x .pass) (ended .told-is)
+
+    -- every valid header that the cartridge holds counts less
+    pub added-below : (h : List ℕ) → told ≡ toldOf (headerOf h) → (u : Tape) → Newest last u h → Below last (s .copies .header) u
+    added-below h of-header u n a f at =
+        let is : (r .told .update + 1) % 2 ^ 32 ≡ s .copies .header .update = ap (λ (x : State). x .copies .header .update) (v .is) in
+        let count : told .update ≡ updateOf h = ap (λ (x : Told). x .update) of-header in
+        inl (omega (arith, n .highest a f at, count-up, is, count, told-update))
+
+    -- ---- what a reading sees at the start
+
+    ends-is : endsFrom told ≡ end-at
+    unfolding endsFrom
+    ends-is =
+        let same : r .told .eod .0 ≡ told .eod .0 = ap (λ (x : Told). x .eod .0) (ended .told-is) in
+        pick-by (λ (n : ℕ). n ≡ end-at) (eqb (told .eod .0) 0) (λ z. absurd (v .some-end (same ∙ eqb-true (told .eod .0) 0 z))) (λ _. sym same ∙ v .named)
+
+    -- in the open view all that was delivered is there below the old end
+    seen-before : foldOf (unending last (told .pass)) t end-at ≡ going (r .expected .0) earlier (r .trail)
+    seen-before =
+        fold-alike (unending last (told .pass)) told (sym last-is) refl t end-at
+        (λ a l. lt-ltb a (endsFrom (unending last (told .pass))) (omega (arith, ends-telling last (told .pass) (last + 1), end-low)) ∙ sym (lt-ltb a (endsFrom told) (omega (arith, ends-is))))
+        ∙ ended .so-far
+
+    -- at the old end stands the EOD that the reading ended at
+    old-eod : FoundAs (unending last (told .pass)) (r .expected) Eod (here .frame)
+    old-eod =
+        let same : here .number ≡ r .expected .0 = number-same (sym (here .before) ∙ ended .so-far) in
+        found-told told (unending last (told .pass)) last-is refl (subst (λ (n : ℕ). FoundAs told (record { 0 = n }) Eod (here .frame)) same (ends-known here .0))
+      where
+        number-same : {n m : ℕ} {x y : List Element} {a b : Trail} → going n x a ≡ going m y b → n ≡ m
+        number-same e = cc
+
+    quiet-there : Cartridge last t → NoneAbove last t end-at (told .pass) → Quiet last (told .pass) (length earlier) end-at t
+    quiet-there cart none a f l u e i base = go (eq-or-lt-of-le l)
+      where
+        eod-quiet : (end-at ≡ a) → (r .expected .0 ≡ i) ⊎ (r .expected .0 < i) → judgeFrame (unending last (told .pass)) (record { 0 = a }) (record { 0 = i }) (here .frame) ≡ judgement.skipped
+        eod-quiet at (inl same) =
+            earlier-so (unending last (told .pass)) (record { 0 = a }) (record { 0 = i }) (here .frame) (old-eod .typed) (old-eod .number ∙ same)
+            (omega (arith, ends-telling last (told .pass) (last + 1), end-low))
+        eod-quiet at (inr above) =
+            below-so (unending last (told .pass)) (record { 0 = a }) (record { 0 = i }) (here .frame) Eod (old-eod .typed) (subst (λ (n : ℕ). n < i) (sym (old-eod .number)) above)
+
+        frame-is : end-at ≡ a → here .frame ≡ f
+        frame-is at = some-same (sym (here .reads) ∙ ap t at ∙ e)
+          where
+            some-same : {x y : List ℕ} → some x ≡ some y → x ≡ y
+            some-same q = cc
+
+        go : (end-at ≡ a) ⊎ (end-at < a) → judgeFrame (unending last (told .pass)) (record { 0 = a }) (record { 0 = i }) f ≡ judgement.skipped
+        go (inl at) = subst (λ (x : List ℕ). judgeFrame (unending last (told .pass)) (record { 0 = a }) (record { 0 = i }) x ≡ judgement.skipped) (frame-is at) (eod-quiet at (eq-or-lt-of-le (omega (arith, count-is))))
+        go (inr above) = other-pass (unending last (told .pass)) (record { 0 = a }) (record { 0 = i }) f (cart .long a f e) (none a f u above e)
+
+    pub added-seen : Cartridge last t → NoneAbove last t end-at (told .pass) → Seen last (told .pass) earlier (length earlier) end-at t
+    added-seen cart none = record {
+      base = length earlier;
+      m = length earlier;
+      floor = le-refl (length earlier);
+      low = inl (le-refl (length earlier));
+      high = omega arith;
+      top = le-refl (length earlier);
+      seen = has (r .trail) (seen-before ∙ ap (λ (n : ℕ). going n earlier (r .trail)) (sym count-is) ∙ ap (λ (x : List Element). going (length earlier) x (r .trail)) (sym (take-length earlier)));
+      quiet = quiet-there cart none;
+    }

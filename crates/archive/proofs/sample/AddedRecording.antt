@@ -1,0 +1,245 @@
+-- A sample recording that adds to the cartridge that the first left, from its opening at the end of a reading to done: a chain of two sessions, of which Chains speaks. Assumes nothing.
+use Prim.Native.Nat.{ℕ, _≤_, _<_}
+use mathlib.Core.Path.{_≡_, refl, ap, sym, subst, _∙_}
+use mathlib.Core.Bool.{Bool, true}
+use mathlib.Core.List.{List, [], _∷_, _++_}
+use mathlib.Core.Logic.{_⊎_, inl, inr}
+use mathlib.Core.Option.{none, some}
+use native.Mathlib.Omega.{arith}
+use lib.Dec.{lit<, lit≤}
+use lib.ListN.{length}
+use Rattle.geometry.specs.Place.{asAddress}
+use Rattle.geometry.proofs.UserFrames.{User, user-ranges}
+use Rattle.frame.specs.Frame.{blank, elementFrame}
+use Rattle.frame.specs.Header.{headerFrame}
+use Rattle.frame.specs.declared.header.Header.{Header}
+use Rattle.header.specs.Valid.{validHeader, headerOf}
+use Rattle.header.proofs.Built.{built-valid, built-fields}
+use Rattle.archive.specs.Conduct as conduct
+use Rattle.archive.specs.Conduct.{Drive}
+use Rattle.drive.specs.Senses.{meaningIn}
+use Rattle.archive.specs.Tape.{Tape, put, Cartridge}
+use Rattle.drive.specs.declared.command.Command.the-variants.{Write, Locate, ReadPosition}
+use Rattle.elements.specs.Trail.{trailOf}
+use Rattle.elements.specs.Due.{dueOf}
+use Rattle.elements.specs.Reply as reply
+use Rattle.elements.specs.declared.elements.Elements.{Elements}
+use Rattle.recording_state.specs.Open.{startedAt, fresh}
+use Rattle.recording_state.specs.State.{accepting, settledOf}
+use Rattle.recording_state.specs.Due.{decisionOf}
+use Rattle.recording_state.specs.Written.{writtenFrame, writtenElement, elementOf}
+use Rattle.recording_state.specs.Reply.{replyBy, replyOf}
+use Rattle.recording_state.specs.declared.state.State.{State}
+use Rattle.reading_state.specs.State.{endOf}
+use Rattle.reading_state.specs.Open as reading
+use Rattle.adding_opening.specs.AtEnd.{openAtEndOf}
+use Rattle.archive.specs.Headers.{Newest}
+use Rattle.archive.specs.Recordings.{Element, World, Call, Runs, started}
+use Rattle.archive.specs.Readings as readings
+use Rattle.archive.specs.Demand.{on-none, Readable}
+use Rattle.archive.specs.Chain as chain
+use Rattle.archive.specs.Chain.{NoneAbove, Adds, Continued, Chain, Chains}
+use Rattle.archive.specs.Sample.{geometry, depth, blocks, good, stopped, older, firstOpening, window, firstElements, firstBlock, firstFilemark, firstEod, firstClosing, firstCalls, firstReading, addedOpening, addedElements, addedError, addedFilemark, addedEod, addedClosing, addedCalls}
+use Rattle.archive.proofs.tape.Basics.{none-some}
+use Rattle.archive.proofs.tape.FoldLaws.{put-other}
+use Rattle.archive.proofs.sample.Exchange.{Step, reported}
+use Rattle.archive.proofs.sample.Flush.{buffered}
+use Rattle.archive.proofs.sample.Headers.{writing, ending, finished, headersWritten, opening-written-at, closing-written}
+use Rattle.archive.proofs.sample.Tapes.{empty, same-reads, headers-elsewhere, headers-newest}
+use Rattle.archive.proofs.sample.Elements.{element-failed}
+use Rattle.archive.proofs.sample.Filemark.{located, eodDue, eodOnTape, filemark-begun, filemark-taken, filemark-written, eod-written}
+use Rattle.archive.proofs.sample.FirstRecording.{window-long, afterFailure, afterBlock, afterFilemark, firstOpened, firstWritten, firstLeft, firstEnd, first-opened, first-runs, first-cartridge, first-on-none, first-bears-none, first-newest}
+use Rattle.archive.proofs.sample.FirstReading.{firstTrail, firstRead, first-reading-opened, first-read}
+use Rattle.archive.proofs.sample.SecondRecording.{second-cartridge}
+use Rattle.archive.proofs.Chain.{adds, chains}
+
+-- ---- the opening
+
+abbrev addedState : State
+addedState = startedAt depth 0 addedOpening (asAddress 46) (record { 0 = 2 }) firstTrail
+
+pub added-opened : (b : List ℕ) → openAtEndOf (firstRead b .session) depth blocks ≡ accepting addedState
+unfolding openAtEndOf
+added-opened b = refl
+
+-- ---- the filemark fails at 46 and is due again at 80
+
+abbrev filemarkTaken : Elements
+filemarkTaken = reply.takenOf (located 46 2 firstTrail)
+
+abbrev filemarkFailed : Elements
+filemarkFailed = reply.relocatedOf (reply.confirmedOf filemarkTaken 0) (asAddress 80)
+
+abbrev relocated : Elements
+relocated = reply.locatedOf filemarkFailed (asAddress 80)
+
+filemark-failed : Step (writing addedOpening filemarkTaken (Write (asAddress 46))) ReadPosition addedError (writing addedOpening filemarkFailed ReadPosition)
+unfolding decisionOf dueOf replyOf replyBy reply.failedOf reply.confirmedOf trailOf settledOf meaningIn
+filemark-failed = record { free = refl; sized = refl; decided = refl; replied = refl }
+
+filemark-relocated : Step (writing addedOpening filemarkFailed ReadPosition) (Locate (asAddress 80)) good (writing addedOpening relocated (Locate (asAddress 80)))
+unfolding decisionOf dueOf replyOf replyBy reply.confirmedOf settledOf meaningIn
+filemark-relocated = record { free = refl; sized = refl; decided = refl; replied = refl }
+
+-- and is then written, with EOD behind it
+abbrev marks : List Bool
+marks = located 46 2 firstTrail .marks
+
+abbrev eodWritten : Elements
+eodWritten = eodOnTape 80 2 80 firstTrail marks
+
+-- ---- the tape, by what was written
+
+-- the failed address reads as before: as EOD
+abbrev pub afterError : Tape → Tape
+afterError t = put t 46 (t 46)
+
+abbrev pub afterMark : Tape → Tape
+afterMark t = put (afterError t) 80 (some (elementFrame addedFilemark blank))
+
+abbrev pub afterEnd : Tape → Tape
+afterEnd t = put (afterMark t) 81 (some (elementFrame addedEod blank))
+
+-- the drive as the first recording left it, for which nothing is written yet; after the opening headers, after EOD, and at the end
+abbrev pub addedStart : List ℕ → Drive
+addedStart b = buffered (firstLeft b .tape) (firstLeft b .at) [] []
+
+abbrev pub addedOpened : List ℕ → Drive
+addedOpened b = headersWritten addedOpening (addedStart b)
+
+abbrev pub addedWritten : List ℕ → Drive
+addedWritten b = buffered (afterEnd (addedOpened b .tape)) 82 (81 ∷ 80 ∷ 46 ∷ addedOpened b .written) []
+
+abbrev pub addedLeft : List ℕ → Drive
+addedLeft b = headersWritten addedClosing (addedWritten b)
+
+-- the close has reported done
+abbrev pub addedEnd : List ℕ → World
+addedEnd b = reported window addedElements (finished addedClosing eodWritten) (addedLeft b)
+
+-- ---- the list
+
+filemark-frame : writtenFrame (writing addedOpening relocated (Locate (asAddress 80))) window ≡ elementFrame addedFilemark blank
+unfolding writtenFrame writtenElement elementOf elementFrame reply.confirmedOf trailOf
+filemark-frame = refl
+
+eod-frame : writtenFrame (ending addedOpening (eodDue 80 2 80 firstTrail marks) ReadPosition) window ≡ elementFrame addedEod blank
+unfolding writtenFrame writtenElement elementOf elementFrame reply.confirmedOf trailOf
+eod-frame = refl
+
+pub added-runs : (b : List ℕ) → Runs (started addedState window (addedStart b)) addedCalls (addedEnd b)
+unfolding reply.confirmedOf trailOf
+added-runs b =
+    let t : Tape = addedOpened b .tape in
+    let past : List ℕ = addedOpened b .written in
+    opening-written-at window window-long addedOpening (asAddress 46) (record { 0 = 2 }) firstTrail (addedStart b)
+    (filemark-begun 46 2 firstTrail addedOpening t (addedOpened b .at) past
+    (element-failed window window-long addedElements t past 46 34 80 (filemark-taken 46 2 46 firstTrail marks addedOpening (lit< tt) (Locate (asAddress 46))) filemark-failed filemark-relocated
+    (filemark-written 80 2 80 firstTrail marks addedOpening (lit< tt) addedElements (afterError t) (46 ∷ past) (elementFrame addedFilemark blank) (Locate (asAddress 80)) filemark-frame
+    (eod-written 80 2 80 firstTrail marks addedOpening (lit< tt) addedElements (afterMark t) (80 ∷ 46 ∷ past) (elementFrame addedEod blank) eod-frame
+    (closing-written window window-long addedElements eodWritten addedClosing (addedWritten b))))))
+
+-- ---- the premises
+
+outside : {a : ℕ} → User 11999 a → ((10 ≤ a) × (a ≤ 2989)) ⊎ (2995 ≤ a)
+outside (inl r) = inl r
+outside (inr r) = inr (omega (arith, r .0))
+
+-- nothing reads above the first recording's EOD
+pub above-empty : (b : List ℕ) (a : ℕ) → 46 < a → ((10 ≤ a) × (a ≤ 2989)) ⊎ (2995 ≤ a) → firstLeft b .tape a ≡ none
+above-empty b a high off =
+    let t : Tape = firstOpened .tape in
+    headers-elsewhere firstClosing (firstWritten b) a off
+    ∙ put-other (afterFilemark b t) 46 (some (elementFrame firstEod blank)) a (λ e. omega arith)
+    ∙ put-other (afterBlock b t) 45 (some (elementFrame firstFilemark blank)) a (λ e. omega arith)
+    ∙ put-other (afterFailure t) 44 (some (elementFrame firstBlock b)) a (λ e. omega arith)
+    ∙ same-reads t 10 a
+    ∙ headers-elsewhere firstOpening stopped a off
+    ∙ put-other empty 10 (some (elementFrame older blank)) a (λ e. omega arith)
+
+none-above : (b : List ℕ) (pass : ℕ) → NoneAbove 11999 (firstLeft b .tape) 46 pass
+none-above b pass a f user high reads bears = none-some (sym (above-empty b a high (outside (user-ranges 11999 a user))) ∙ reads)
+
+-- ---- a chain, and a session behind it that adds where a reading of its tape ended, on a drive with nothing buffered
+
+module _ (t : Tape) (xs : List Element) (before : Chain geometry 11999 chain.afresh t xs) (at : ℕ) (s : State) (h : List ℕ) (r : readings.World) (read : chain.HasRead geometry 11999 t h r)
+    (opened : openAtEndOf (r .session) depth blocks ≡ accepting s) (newest : Newest 11999 t h) (clear : NoneAbove 11999 t (endOf (r .session) .0) (headerOf h .pass)) where
+  pub chain-continued : (calls : List Call) (w : World) → Runs (started s window (buffered t at [] [])) calls w → w .notes .unaltered ≡ true → w .notes .reported ≡ true
+      → Chain geometry 11999 chain.afresh (w .drive .tape) (xs ++ w .notes .accepted)
+  chain-continued calls w runs unaltered reported =
+      chain.more t xs before (buffered t at [] []) s (chain.added depth blocks t h r read opened) w (read .cartridge) refl (λ _ _. refl) newest (record {
+        unwritten = refl;
+        rests = conduct.empty refl;
+        on-newest = newest;
+        as-it-stands = λ _ _. refl;
+        none-in-the-way = clear;
+        window = window;
+        calls = calls;
+        runs = runs;
+        unaltered = unaltered;
+        reported = reported;
+      })
+
+-- ---- the chain of the first recording and this one
+
+module _ (b : List ℕ) (full : length b ≡ 32768) where
+  pub first-chain : Chain geometry 11999 chain.afresh (firstLeft b .tape) (firstElements b)
+  first-chain = chain.first stopped (fresh depth 0 firstOpening) (chain.fresh depth blocks on-none first-opened) (firstEnd b) first-cartridge refl (record {
+    unwritten = refl;
+    rests = conduct.stopped refl;
+    on-newest = first-on-none;
+    as-it-stands = tt;
+    none-in-the-way = first-bears-none;
+    window = window;
+    calls = firstCalls b;
+    runs = first-runs b full;
+    unaltered = refl;
+    reported = refl;
+  })
+
+  first-read-at : chain.HasRead geometry 11999 (firstLeft b .tape) (headerFrame firstClosing) (firstRead b)
+  first-read-at = record {
+    cartridge = second-cartridge b full;
+    opens = ap (λ (x : reading.OpenedSaid). x .number) first-reading-opened;
+    at = 0;
+    calls = firstReading b;
+    runs = first-read b full 0;
+  }
+
+  none-in-the-way : NoneAbove 11999 (firstLeft b .tape) 46 (headerOf (headerFrame firstClosing) .pass)
+  none-in-the-way = none-above b (headerOf (headerFrame firstClosing) .pass)
+
+  pub added-chain : Chain geometry 11999 chain.afresh (addedLeft b .tape) (firstElements b ++ addedElements)
+  added-chain =
+      chain-continued (firstLeft b .tape) (firstElements b) first-chain (firstLeft b .at) addedState (headerFrame firstClosing) (firstRead b) first-read-at (added-opened b) (first-newest b) none-in-the-way
+      addedCalls (addedEnd b) (added-runs b) refl refl
+
+  -- reading gives the elements of both
+  pub added-readable : Readable geometry 11999 (addedLeft b .tape) (firstElements b ++ addedElements)
+  unfolding Chains
+  added-readable = chains geometry 11999 chain.afresh (addedLeft b .tape) (firstElements b ++ addedElements) (lit< tt) (lit< tt) refl added-chain
+
+-- the newest header of the cartridge as left
+pub added-valid : validHeader (asAddress 11999) (headerFrame addedClosing) ≡ true
+added-valid = built-valid addedClosing (lit< tt) (lit≤ tt) (lit< tt) refl
+
+pub added-newest : (b : List ℕ) → Newest 11999 (addedLeft b .tape) (headerFrame addedClosing)
+added-newest b = headers-newest addedClosing (addedWritten b) 11999 added-valid
+
+-- what the next session needs of it: a cartridge, and on it no frame of the pass above the end
+module _ (b : List ℕ) (full : length b ≡ 32768) where
+  -- what Adds says of this session
+  abbrev atFirstEnd : chain.Start geometry 11999 addedState
+  atFirstEnd = chain.added depth blocks (firstLeft b .tape) (headerFrame firstClosing) (firstRead b) (first-read-at b full) (added-opened b)
+
+  added-continued : Continued geometry 11999 (firstLeft b .tape) addedState atFirstEnd (addedEnd b)
+  unfolding Adds
+  added-continued = adds geometry 11999 (addedStart b) addedState atFirstEnd window addedCalls (addedEnd b) (lit< tt) (lit< tt) refl (second-cartridge b full) refl (conduct.empty refl) (added-runs b)
+
+  pub added-cartridge : Cartridge 11999 (addedLeft b .tape)
+  added-cartridge = added-continued .readable (first-newest b) (λ _ _. refl) (none-in-the-way b full) refl refl .1
+
+  pub added-clear : NoneAbove 11999 (addedLeft b .tape) 81 (headerOf (headerFrame addedClosing) .pass)
+  added-clear =
+      subst (λ (x : Header). NoneAbove 11999 (addedLeft b .tape) (x .eod .0) (headerOf (headerFrame addedClosing) .pass)) (built-fields addedClosing (lit< tt) (lit< tt) (lit< tt) (lit< tt) (lit< tt))
+      (added-continued .clear (first-newest b) (none-in-the-way b full) refl (headerFrame addedClosing) (added-newest b))

@@ -1,0 +1,132 @@
+-- A third session behind the two of the sample chain, opened at the end of their reading, to done: its filemark goes over the old EOD. Assumes nothing.
+use Prim.Native.Nat.{ℕ}
+use mathlib.Core.Path.{_≡_, refl, ap}
+use mathlib.Core.Bool.{Bool, true}
+use mathlib.Core.List.{List, [], _∷_, _++_}
+use mathlib.Core.Option.{some}
+use lib.Dec.{lit<, lit≤}
+use lib.ListN.{length}
+use Rattle.geometry.specs.Place.{asAddress}
+use Rattle.frame.specs.Frame.{blank, elementFrame}
+use Rattle.frame.specs.Header.{headerFrame}
+use Rattle.header.specs.Valid.{validHeader}
+use Rattle.header.proofs.Built.{built-valid}
+use Rattle.archive.specs.Conduct.{Drive}
+use Rattle.archive.specs.Tape.{Tape, put}
+use Rattle.drive.specs.declared.command.Command.the-variants.{Locate, ReadPosition}
+use Rattle.elements.specs.Trail.{trailOf}
+use Rattle.elements.specs.Reply as reply
+use Rattle.elements.specs.declared.elements.Elements.{Elements}
+use Rattle.recording_state.specs.Open.{startedAt}
+use Rattle.recording_state.specs.State.{accepting}
+use Rattle.recording_state.specs.Written.{writtenFrame, writtenElement, elementOf}
+use Rattle.recording_state.specs.declared.state.State.{State}
+use Rattle.reading_state.specs.Open as reading
+use Rattle.adding_opening.specs.AtEnd.{openAtEndOf}
+use Rattle.archive.specs.Headers.{Newest}
+use Rattle.archive.specs.Recordings.{World, Runs, started}
+use Rattle.archive.specs.Demand.{Readable}
+use Rattle.archive.specs.Chain as chain
+use Rattle.archive.specs.Chain.{Chain, Chains}
+use Rattle.archive.specs.Sample.{geometry, depth, blocks, window, firstElements, addedElements, addedClosing, addedReading, thirdOpening, thirdElements, thirdFilemark, thirdEod, thirdClosing, thirdCalls}
+use Rattle.archive.proofs.sample.Exchange.{reported}
+use Rattle.archive.proofs.sample.Flush.{buffered}
+use Rattle.archive.proofs.sample.Headers.{writing, ending, finished, headersWritten, opening-written-at, closing-written}
+use Rattle.archive.proofs.sample.Tapes.{headers-newest}
+use Rattle.archive.proofs.sample.Filemark.{located, eodDue, eodOnTape, filemark-begun, filemark-written, eod-written}
+use Rattle.archive.proofs.sample.FirstRecording.{window-long}
+use Rattle.archive.proofs.sample.AddedRecording.{addedLeft, chain-continued, added-chain, added-newest, added-cartridge, added-clear}
+use Rattle.archive.proofs.sample.AddedReading.{addedTrail, addedRead, added-reading-opened, added-read}
+use Rattle.archive.proofs.Chain.{chains}
+
+-- ---- the opening
+
+abbrev thirdState : State
+thirdState = startedAt depth 0 thirdOpening (asAddress 81) (record { 0 = 3 }) addedTrail
+
+pub third-opened : (b : List ℕ) → openAtEndOf (addedRead b .session) depth blocks ≡ accepting thirdState
+unfolding openAtEndOf
+third-opened b = refl
+
+-- ---- the elements: the filemark at 81, EOD behind it
+
+abbrev marks : List Bool
+marks = located 81 3 addedTrail .marks
+
+abbrev eodWritten : Elements
+eodWritten = eodOnTape 81 3 81 addedTrail marks
+
+-- ---- the tape, by what was written
+
+abbrev pub afterMark : Tape → Tape
+afterMark t = put t 81 (some (elementFrame thirdFilemark blank))
+
+abbrev pub afterEnd : Tape → Tape
+afterEnd t = put (afterMark t) 82 (some (elementFrame thirdEod blank))
+
+-- the drive as the two left it, for which nothing is written yet; after the opening headers, after EOD, and at the end
+abbrev pub thirdStart : List ℕ → Drive
+thirdStart b = buffered (addedLeft b .tape) (addedLeft b .at) [] []
+
+abbrev pub thirdOpened : List ℕ → Drive
+thirdOpened b = headersWritten thirdOpening (thirdStart b)
+
+abbrev pub thirdWritten : List ℕ → Drive
+thirdWritten b = buffered (afterEnd (thirdOpened b .tape)) 83 (82 ∷ 81 ∷ thirdOpened b .written) []
+
+abbrev pub thirdLeft : List ℕ → Drive
+thirdLeft b = headersWritten thirdClosing (thirdWritten b)
+
+-- the close has reported done
+abbrev pub thirdEnd : List ℕ → World
+thirdEnd b = reported window thirdElements (finished thirdClosing eodWritten) (thirdLeft b)
+
+-- ---- the list
+
+filemark-frame : writtenFrame (writing thirdOpening (located 81 3 addedTrail) (Locate (asAddress 81))) window ≡ elementFrame thirdFilemark blank
+unfolding writtenFrame writtenElement elementOf elementFrame trailOf
+filemark-frame = refl
+
+eod-frame : writtenFrame (ending thirdOpening (eodDue 81 3 81 addedTrail marks) ReadPosition) window ≡ elementFrame thirdEod blank
+unfolding writtenFrame writtenElement elementOf elementFrame reply.confirmedOf trailOf
+eod-frame = refl
+
+pub third-runs : (b : List ℕ) → Runs (started thirdState window (thirdStart b)) thirdCalls (thirdEnd b)
+unfolding reply.confirmedOf
+third-runs b =
+    let t : Tape = thirdOpened b .tape in
+    let past : List ℕ = thirdOpened b .written in
+    opening-written-at window window-long thirdOpening (asAddress 81) (record { 0 = 3 }) addedTrail (thirdStart b)
+    (filemark-begun 81 3 addedTrail thirdOpening t (thirdOpened b .at) past
+    (filemark-written 81 3 81 addedTrail marks thirdOpening (lit< tt) thirdElements t past (elementFrame thirdFilemark blank) (Locate (asAddress 81)) filemark-frame
+    (eod-written 81 3 81 addedTrail marks thirdOpening (lit< tt) thirdElements (afterMark t) (81 ∷ past) (elementFrame thirdEod blank) eod-frame
+    (closing-written window window-long thirdElements eodWritten thirdClosing (thirdWritten b)))))
+
+-- ---- the chain of the three
+
+module _ (b : List ℕ) (full : length b ≡ 32768) where
+  added-read-at : chain.HasRead geometry 11999 (addedLeft b .tape) (headerFrame addedClosing) (addedRead b)
+  added-read-at = record {
+    cartridge = added-cartridge b full;
+    opens = ap (λ (x : reading.OpenedSaid). x .number) added-reading-opened;
+    at = 0;
+    calls = addedReading b;
+    runs = added-read b full 0;
+  }
+
+  pub third-chain : Chain geometry 11999 chain.afresh (thirdLeft b .tape) (firstElements b ++ addedElements ++ thirdElements)
+  third-chain =
+      chain-continued (addedLeft b .tape) (firstElements b ++ addedElements) (added-chain b full) (addedLeft b .at) thirdState (headerFrame addedClosing) (addedRead b) added-read-at (third-opened b) (added-newest b) (added-clear b full)
+      thirdCalls (thirdEnd b) (third-runs b) refl refl
+
+  -- reading gives the elements of all three
+  pub third-readable : Readable geometry 11999 (thirdLeft b .tape) (firstElements b ++ addedElements ++ thirdElements)
+  unfolding Chains
+  third-readable = chains geometry 11999 chain.afresh (thirdLeft b .tape) (firstElements b ++ addedElements ++ thirdElements) (lit< tt) (lit< tt) refl third-chain
+
+-- the newest header of the cartridge as left
+pub third-valid : validHeader (asAddress 11999) (headerFrame thirdClosing) ≡ true
+third-valid = built-valid thirdClosing (lit< tt) (lit≤ tt) (lit< tt) refl
+
+pub third-newest : (b : List ℕ) → Newest 11999 (thirdLeft b .tape) (headerFrame thirdClosing)
+third-newest b = headers-newest thirdClosing (thirdWritten b) 11999 third-valid

@@ -1,0 +1,141 @@
+-- 02, Card 1: a recording that adds to a cartridge, and a chain of closed sessions of one pass.
+use Prim.Native.Nat.{ℕ, _^_, _<_}
+use mathlib.Core.Path.{_≡_}
+use mathlib.Core.Bool.{true, false}
+use mathlib.Core.List.{List, [], _++_}
+use mathlib.Core.Option.{some}
+use Rattle.geometry.specs.Place.{address}
+use Rattle.geometry.specs.Cartridge.{lastOf, isUser}
+use Rattle.geometry.specs.declared.cartridge.Geometry.{Geometry}
+use Rattle.header.specs.Valid.{headerOf}
+use lib.ListN.{length}
+use Rattle.recording_state.specs.State.{accepting}
+use Rattle.recording_state.specs.Answer.{command}
+use Rattle.recording_state.specs.Fetch.{fetchOf}
+use Rattle.recording_state.specs.declared.state.Stage.the-variants as S
+use Rattle.recording_state.specs.declared.state.State.{State}
+use Rattle.reading_state.specs.State.{isAtEnd, endOf}
+use Rattle.reading_state.specs.Open as reading
+use Rattle.adding_opening.specs.AtEnd.{endsElsewhere, openAtEndOf}
+use Rattle.archive.specs.Tape.{Tape, Cartridge, SameFrames, Bears}
+use Rattle.archive.specs.Conduct.{Drive, AtRest}
+use Rattle.archive.specs.Headers.{Newest}
+use Rattle.archive.specs.Recordings as recordings
+use Rattle.archive.specs.Recordings.{Element}
+use Rattle.archive.specs.Readings as readings
+use Rattle.archive.specs.Demand.{Opening, opened, OnNewest, newPass, NoneBears, Readable, Within}
+use Rattle.archive.specs.EndNamed.{EndsAt}
+
+-- where a list of a reading's calls on a cartridge of the geometry has come, from its opening on a header
+pub record HasRead (g : Geometry) (last : ℕ) (t : Tape) (h : List ℕ) (w : readings.World) : Type 0 where
+  pub cartridge : Cartridge last t
+  pub opens : reading.openOf g h .number ≡ 0
+  pub at : ℕ
+  pub calls : List readings.Call
+  pub runs : readings.Runs t (readings.started (reading.openOf g h .session) at) calls w
+
+-- how a session was opened: afresh, as demand 3 has it, or at the end that a reading found
+pub data Start (g : Geometry) (last : ℕ) (s : State) : Type 0 where
+  fresh : (depth blocks : ℕ) (o : Opening) → opened g depth blocks o ≡ accepting s → Start g last s
+  added : (depth blocks : ℕ) (u : Tape) (h : List ℕ) (r : readings.World) → HasRead g last u h r
+      → openAtEndOf (r .session) depth blocks ≡ accepting s → Start g last s
+
+-- the elements before its own: none, or what the reading delivered
+abbrev pub earlierOf : {g : Geometry} {last : ℕ} {s : State} → Start g last s → List Element
+earlierOf (fresh depth blocks o q) = []
+earlierOf (added depth blocks u h r read q) = r .notes .deliveries
+
+-- opened on the newest header that the cartridge holds, or afresh on none where it holds none
+abbrev pub OnItsNewest : {g : Geometry} {last : ℕ} {s : State} → Start g last s → Tape → Type 0
+OnItsNewest {last = last} (fresh depth blocks o q) t = OnNewest last t o
+OnItsNewest {last = last} (added depth blocks u h r read q) t = Newest last t h
+
+-- where it adds: the reading was of the cartridge as it then stands
+abbrev pub AsItStands : {g : Geometry} {last : ℕ} {s : State} → Start g last s → Tape → Type 0
+AsItStands (fresh depth blocks o q) t = Unit {0}
+AsItStands {last = last} (added depth blocks u h r read q) t = SameFrames last u t
+
+-- no user frame above the old end bears the pass
+abbrev pub NoneAbove : ℕ → Tape → ℕ → ℕ → Type 0
+NoneAbove last t end pass = (a : ℕ) (f : List ℕ) → isUser last a ≡ true → end < a → t a ≡ some f → Bears pass f → ⊥
+
+-- no user frame bears the pass that is to be written, or where it adds none above the old end
+abbrev pub NoneInTheWay : {g : Geometry} {last : ℕ} {s : State} → Start g last s → Tape → Type 0
+NoneInTheWay {last = last} (fresh depth blocks o q) t = NoneBears last t (newPass o)
+NoneInTheWay {last = last} (added depth blocks u h r read q) t = NoneAbove last t (endOf (r .session) .0) (headerOf h .pass)
+
+-- what holds after every list of a recording's calls, however the session was opened
+pub record Continued (g : Geometry) (last : ℕ) (t : Tape) (s : State) (b : Start g last s) (w : recordings.World) : Type 0 where
+  -- under the conduct alone, closed or not
+  pub written : Within last (w .drive .written)
+  -- no second command before the reply
+  pub alone : (lent frame : List ℕ) → (w .flight ≡ recordings.no-command → ⊥) → recordings.refusal (w .session) (recordings.fetch lent frame) ≡ 7
+  -- where the session was opened as it should be, the window was lent back unaltered, and the close reported done:
+  -- reading gives what was there before, and then what was accepted; and the tape is a cartridge's as before
+  pub readable : OnItsNewest b t → AsItStands b t → NoneInTheWay b t → w .notes .unaltered ≡ true → w .notes .reported ≡ true
+      → Readable g last (w .drive .tape) (earlierOf b ++ w .notes .accepted) × Cartridge last (w .drive .tape)
+  -- after a close that reported done the drive rests
+  pub rests : w .notes .reported ≡ true → AtRest (w .drive)
+  -- the tape reads as EOD, numbered by how many elements there are then, at the EOD address of each closing header that a fetch gives,
+  pub given : (lent frame : List ℕ) (a : ℕ) → w .session .stage ≡ S.ClosingHeaders → fetchOf (w .session) lent frame .said ≡ command 0x0A a
+      → EndsAt (headerOf (fetchOf (w .session) lent frame .frame)) (length (earlierOf b ++ w .notes .accepted)) (w .drive .tape)
+  -- and, where it was opened on the newest header and the close reported done, of each newest header
+  pub newest : OnItsNewest b t → w .notes .reported ≡ true → (h : List ℕ) → Newest last (w .drive .tape) h
+      → EndsAt (headerOf h) (length (earlierOf b ++ w .notes .accepted)) (w .drive .tape)
+  -- where moreover none was in the way: no user frame above that EOD bears the pass, so that whoever adds next finds none in the way,
+  pub clear : OnItsNewest b t → NoneInTheWay b t → w .notes .reported ≡ true → (h : List ℕ) → Newest last (w .drive .tape) h
+      → NoneAbove last (w .drive .tape) (headerOf h .eod .0) (headerOf h .pass)
+  -- and an opening at the end of a reading on a newest header is not refused with 13
+  pub addable : OnItsNewest b t → NoneInTheWay b t → w .notes .reported ≡ true → (h : List ℕ) (r : readings.World) → Newest last (w .drive .tape) h
+      → HasRead g last (w .drive .tape) h r → isAtEnd (r .session) ≡ true → endsElsewhere (r .session) ≡ false
+
+-- of every cartridge, whoever wrote it. Demand 3 is the case of a fresh session
+unfoldable pub Adds : Type 0
+Adds =
+    (g : Geometry) (last : ℕ) (d : Drive) (s : State) (b : Start g last s) (window : List ℕ) (calls : List recordings.Call) (w : recordings.World)
+    → g .segtrk < 2 ^ 16 → g .trks < 2 ^ 16 → lastOf g ≡ address last
+    → Cartridge last (d .tape) → d .written ≡ [] → AtRest d
+    → recordings.Runs (recordings.started s window d) calls w
+    → Continued g last (d .tape) s b w
+
+-- ---- a chain of closed sessions
+
+-- a session that was opened as it should be and whose close reported done, with the window lent back unaltered
+pub record Closed (g : Geometry) (last : ℕ) (d : Drive) (s : State) (b : Start g last s) (w : recordings.World) : Type 0 where
+  pub unwritten : d .written ≡ []
+  pub rests : AtRest d
+  pub on-newest : OnItsNewest b (d .tape)
+  pub as-it-stands : AsItStands b (d .tape)
+  pub none-in-the-way : NoneInTheWay b (d .tape)
+  pub window : List ℕ
+  pub calls : List recordings.Call
+  pub runs : recordings.Runs (recordings.started s window d) calls w
+  pub unaltered : w .notes .unaltered ≡ true
+  pub reported : w .notes .reported ≡ true
+
+-- whether a session was opened afresh or adds
+pub data Way : Type 0 where
+  afresh : Way
+  adding : Way
+
+abbrev pub wayOf : {g : Geometry} {last : ℕ} {s : State} → Start g last s → Way
+wayOf (fresh depth blocks o q) = afresh
+wayOf (added depth blocks u h r read q) = adding
+
+-- a first session on any cartridge, and then sessions that add: the tape in the end, and all elements. A first session that adds finds what others
+-- wrote, of which only what its reading delivered is known; so the two are told apart. Each session that adds finds the user frames as the one
+-- before left them, and was opened on a header that was newest then and is: headers may have been lost in between
+pub data Chain (g : Geometry) (last : ℕ) (begun : Way) : Tape → List Element → Type 0 where
+  first : (d : Drive) (s : State) (b : Start g last s) (w : recordings.World) → Cartridge last (d .tape) → wayOf b ≡ begun
+      → Closed g last d s b w → Chain g last begun (w .drive .tape) (earlierOf b ++ w .notes .accepted)
+  more : (t : Tape) (xs : List Element) → Chain g last begun t xs
+      → (d : Drive) (s : State) (b : Start g last s) (w : recordings.World) → Cartridge last (d .tape) → wayOf b ≡ adding
+      → SameFrames last t (d .tape) → OnItsNewest b t
+      → Closed g last d s b w → Chain g last begun (w .drive .tape) (xs ++ w .notes .accepted)
+
+-- the third wish over a chain: reading gives all their elements in order
+unfoldable pub Chains : Type 0
+Chains =
+    (g : Geometry) (last : ℕ) (begun : Way) (t : Tape) (xs : List Element)
+    → g .segtrk < 2 ^ 16 → g .trks < 2 ^ 16 → lastOf g ≡ address last
+    → Chain g last begun t xs → Readable g last t xs

@@ -1,0 +1,129 @@
+//! Recordings of one pass, each added at the end of the one before.
+
+use super::case::{calls_of_length, Call, Case};
+use super::layer::{Layer, Model};
+use super::{
+    drive_with, recorded_on, run_to_end, run_with, Before, Host, Opening, Tally, Turns, PLAIN,
+};
+use crate::fault::Fault;
+use crate::random::Random;
+
+/// The most recordings of a chain.
+const LONGEST: u32 = 5;
+
+/// What tells the seed of another cartridge.
+const OTHER: u64 = 0x07E4;
+
+/// A cartridge that recordings are added to.
+#[derive(Clone, Debug, PartialEq, Eq)]
+pub struct Chain {
+    /// The cartridge, the drive and the recordings. The first is one of its
+    /// own, and so is each behind one that did not report done.
+    pub case: Case,
+    /// The blocks of the window of each.
+    pub windows: Vec<u32>,
+}
+
+impl Chain {
+    /// The chain of a seed.
+    #[must_use]
+    pub fn of_seed(seed: u64, fault: Fault) -> Chain {
+        let mut case = Case::of_seed(seed, fault);
+        let mut random = Random::new(seed ^ 0x00C4_A100);
+        let recordings = random.between(2, LONGEST);
+        case.recordings = (0..recordings).map(|_| calls(&mut random)).collect();
+        // Most chains are long only where the drive keeps to what is listed.
+        if random.chance(700) {
+            case.hostility.unlisted = 0;
+        }
+        // The cartridge is read on every newest header: long readings are rare.
+        case.hostility.busy = case.hostility.busy.min(300);
+        if random.chance(800) {
+            case.hostility.blank = case.hostility.blank.max(300);
+        }
+        let windows = case.recordings.iter().map(|_| match random.below(10) {
+            0 => random.between(9, 64),
+            _ => random.between(1, 8),
+        });
+        let windows = windows.collect();
+        Chain { case, windows }
+    }
+}
+
+fn calls(random: &mut Random) -> Vec<Call> {
+    let length = match random.below(10) {
+        0 => 0,
+        1..=8 => random.below(60),
+        _ => random.between(60, 250),
+    };
+    calls_of_length(random, length)
+}
+
+/// Runs a chain. Each recording is opened at the end of a reading on a newest
+/// header; after each that reported done, the cartridge is read on every
+/// newest header, and all that was accepted since the first must be delivered.
+/// Every answer, frame and buffer is looked at.
+///
+/// # Errors
+/// What was found wrong.
+pub fn run_chain_on<L: Layer>(chain: &Chain) -> Result<Tally, String> {
+    run_with(&chain.case, Turns::Added(&chain.windows), &Host::<L>::EXACT)
+}
+
+/// Runs a chain on the model.
+///
+/// # Errors
+/// What was found wrong.
+pub fn run_chain(chain: &Chain) -> Result<Tally, String> {
+    run_chain_on::<Model>(chain)
+}
+
+/// Runs a chain as [`run_chain`] does, but looks at nothing but what the
+/// demand speaks of.
+///
+/// # Errors
+/// What was found wrong.
+pub fn run_chain_demand_only(chain: &Chain) -> Result<Tally, String> {
+    run_with(&chain.case, Turns::Added(&chain.windows), &PLAIN)
+}
+
+/// Runs a chain as [`run_chain_demand_only`] does, and looks at what stands on
+/// tape besides: where the end is, and what the frames name of filemarks.
+///
+/// # Errors
+/// What was found wrong.
+pub fn run_chain_demand_and_tape(chain: &Chain) -> Result<Tally, String> {
+    let host = Host {
+        closely: true,
+        ..PLAIN
+    };
+    run_with(&chain.case, Turns::Added(&chain.windows), &host)
+}
+
+/// Runs a chain, and then adds to another cartridge of the same geometry than
+/// the one that was read. What that one then reads as is not promised, but
+/// only header addresses and user frames may be written. Tells whether there
+/// was an end to add at.
+///
+/// # Errors
+/// What was found wrong.
+pub fn run_astray_on<L: Layer>(chain: &Chain) -> Result<bool, String> {
+    let (case, turns) = (&chain.case, Turns::Added(&chain.windows));
+    let ran = run_to_end(case, turns, &Host::<L>::EXACT)?;
+    let (Some(end), Some(last)) = (ran.end, case.geometry.last()) else {
+        return Ok(false);
+    };
+    let other = Case {
+        seed: case.seed ^ OTHER,
+        ..case.clone()
+    };
+    let drive = drive_with(other.cartridge(last), &other, other.seed);
+    let before = Before {
+        case: &other,
+        last,
+        opening: Opening::AtEnd(end),
+        window_blocks: case.window_blocks,
+        calls: case.recordings.first().map_or(&[], Vec::as_slice),
+    };
+    recorded_on::<L>(&before, drive).map(|_| true)
+}
