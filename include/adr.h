@@ -180,9 +180,10 @@
 
    What is added keeps the pass of what is there. So it may read back wrong if
    there are frames of that pass above the old end, and again no call notices.
-   There are none where the last session on the cartridge, a recording or an
-   addition, came to ADR_DONE. Where it did not, add nothing before the
-   cartridge has been recorded afresh, which gives it another pass. */
+   There are none where the last session on the cartridge came to ADR_DONE and
+   met none itself: a recording of a pass that no user frame bore, or an
+   addition above whose old end there were none. Where it did not, add nothing
+   before the cartridge has been recorded afresh, as is said here. */
 #ifndef ADR_H
 #define ADR_H
 
@@ -498,9 +499,10 @@ struct adr_record_outcome adr_record_open_blank(struct adr_geometry g, uint32_t 
      - The cartridge is the one that was read and has not changed since, and its
        newest header was the one to read on.
      - There are no frames of the pass above the old end. There are none if the
-       last session on the cartridge came to ADR_DONE: add to no other. Left-over
-       frames that an addition skips after a write error are read as its own, or
-       make its reading be refused with 10.
+       last session on the cartridge came to ADR_DONE and met none itself (see
+       WRITE PASSES above): add to no other. A left-over frame that still reads
+       behind a write error may be read as one of the addition's, or make its
+       reading be refused with 10.
    After a session that was cut short the newest header has, as a rule, EOD
    address 0. Every addition is then refused with 13, or with 7 where the
    reading finds no end, and the cartridge can only be recorded afresh; read

@@ -30,6 +30,7 @@ use Rattle.archive.specs.EndNamed.{EndsAt}
 pub record HasRead (g : Geometry) (last : ℕ) (t : Tape) (h : List ℕ) (w : readings.World) : Type 0 where
   pub cartridge : Cartridge last t
   pub opens : reading.openOf g h .number ≡ 0
+  -- where the drive stood
   pub at : ℕ
   pub calls : List readings.Call
   pub runs : readings.Runs t (readings.started (reading.openOf g h .session) at) calls w

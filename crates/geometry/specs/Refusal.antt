@@ -1,4 +1,4 @@
--- 01, "Refused calls": each refusal's number, and 0 for a call that is accepted.
+-- 01, "Refused calls", and 02 from 13 on: each refusal's number, and 0 for a call that is accepted.
 use Prim.Native.Nat.{ℕ}
 use Rattle.geometry.specs.declared.refusal.Refusal.{Refusal}
 use Rattle.geometry.specs.declared.refusal.Refusal.the-variants.{Length, Geometry, Header, Capacity, Exhausted, WindowFull, Phase}

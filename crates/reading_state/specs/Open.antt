@@ -39,10 +39,11 @@ fresh told = record {
   ended = false;
 }
 
--- a refused opening returns a session that has ended
+-- where no header tells anything
 abbrev pub toldNothing : Told
 toldNothing = record { last = asAddress 0; pass = 0; eod = asAddress 0; old = asAddress 0; update = 0 }
 
+-- a refused opening returns a session that has ended
 abbrev pub openRefused : ℕ → OpenedSaid
 openRefused n = record { session = endedOf (fresh toldNothing); number = n }
 

@@ -1,4 +1,4 @@
--- 01, "Reading a cartridge": the session with one thing changed.
+-- 01, "Reading a cartridge": the session with one thing changed; and 02, Card 1: whether it is at its end, and where that is.
 use mathlib.Core.Bool.{Bool, true, _&&_, _||_, not}
 use Rattle.geometry.specs.Place.{preceding}
 use Rattle.geometry.specs.declared.address.Address.{Address}

@@ -30,11 +30,14 @@ pub struct Appended {
 /// `header` is the cartridge's newest, as [`newest_header`](crate::newest_header)
 /// finds it. `progress` is called after each reply.
 ///
-/// Only add to a cartridge whose last recording was reported whole: what one
-/// that was not left behind the end may be read among the new elements, and no
-/// call notices. Mostly its header names no end, and nothing can be added then.
-/// Blocks at the end that no filemark closes are one run with the new ones.
-/// [`Recorder::open_at_end`] tells more.
+/// Only add to a cartridge whose last recording was reported whole and was
+/// itself made as it should be, on the newest header: a fresh one where no user
+/// frame bore its write pass, an added one where none did behind the end. Else
+/// frames of that pass may stand behind the end and be read among the new
+/// elements, and no call notices. Where a recording was cut short, the header
+/// mostly names no end, and nothing can be added. Blocks at the end that no
+/// filemark closes are one run with the new ones. [`Recorder::open_at_end`]
+/// tells more.
 ///
 /// # Errors
 /// What the reading failed with, and then nothing was written; or what the

@@ -50,8 +50,9 @@ pub enum ReadError<D, S> {
 pub enum AppendError<D, S> {
     /// What is on the cartridge was not read to its end. Nothing was written.
     Read(ReadError<D, Infallible>),
-    /// The recording behind it did not become whole. One that was refused with a
-    /// number below 8, or with [`Refusal::EndElsewhere`], wrote nothing.
+    /// The recording behind it did not become whole. One whose opening was refused
+    /// ([`Refusal::Capacity`], [`Refusal::Exhausted`], [`Refusal::EndElsewhere`])
+    /// wrote nothing; any other may have.
     Record(RecordError<D, S>),
 }
 

@@ -31,7 +31,7 @@ pub fn read_all<D: Drive, S>(
     read_with(drive, &mut reader, sink, progress)
 }
 
-/// The same with a reader that is open, which is then at its end unless the
+/// [`read_all`] with a reader that is open, which is then at its end unless the
 /// sink broke: [`Recorder::open_at_end`](crate::Recorder::open_at_end) goes on
 /// from there.
 ///

@@ -32,7 +32,7 @@ pub fn record_all<'a, D: Drive, S>(
     record_with(drive, recorder, elements, progress)
 }
 
-/// The same with a recorder that was opened before, for one that
+/// [`record_all`] with a recorder that was opened before, for one that
 /// [`Recorder::open_at_end`] opened.
 ///
 /// # Errors

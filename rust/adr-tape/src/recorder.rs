@@ -96,9 +96,11 @@ impl Recorder {
     ///
     /// * The reading was of this cartridge as it stands now, on its newest
     ///   header.
-    /// * The last recording on the cartridge came to [`Next::Done`]. Frames that
-    ///   one left behind the end and did not close are of the same pass; they may
-    ///   be read as if they were recorded here.
+    /// * The last recording on the cartridge came to [`Next::Done`], and was itself
+    ///   opened as it should be: a fresh one where no user frame bore its pass
+    ///   (`include/adr.h`, WRITE PASSES), an added one where both of these held.
+    ///   Else frames of the same pass may stand behind the end, and may be read as
+    ///   if they were recorded here.
     ///
     /// Where a recording was cut short, the newest header mostly names no end;
     /// then every such opening is refused, with [`Refusal::EndElsewhere`], or with

@@ -1,6 +1,6 @@
-//! Openings at the end of a reading, compared with the model on readings of
-//! every kind, and what is recorded behind them with replies that no drive
-//! gives.
+//! The layer's openings at the end of a reading, compared with the model on
+//! readings of every kind, and what is recorded behind them with replies that
+//! no drive gives. `appending.rs` adds as a host does.
 
 mod compared;
 

@@ -1,5 +1,6 @@
-//! `append_all` and `Recorder::open_at_end` over the simulated drive: what is
-//! added comes behind what was there.
+//! What a host calls, `append_all` and `Recorder::open_at_end`, over the
+//! simulated drive: what is added comes behind what was there. `adding.rs`
+//! compares openings with the model.
 
 mod simulated;
 
@@ -15,7 +16,7 @@ use adr_model::random::Random;
 use adr_model::tape::Tape;
 use adr_tape::{
     append_all, newest_header, read_with, record_all, AppendError, Appended, Drive, Element,
-    Geometry, ReadError, Reader, RecordError, Recorder, Refusal,
+    Geometry, ReadError, Reader, RecordError, Recorder, Refusal, BLOCK_LENGTH,
 };
 use simulated::{elements, read_back, sent, Simulated};
 
@@ -219,6 +220,24 @@ fn additions_cut_short() {
     assert!(read(&mut drive) == before);
     let elsewhere = AppendError::Record(RecordError::Refused(Refusal::EndElsewhere));
     assert_eq!(append(&mut drive, &before), Err(elsewhere));
+}
+
+/// A block of the wrong length is refused whenever its turn comes: before
+/// anything is written, or when there are headers that name no end.
+#[test]
+fn blocks_of_the_wrong_length() {
+    let before = [Element::from(block(1)), Element::Filemark];
+    let wrong = Element::from(vec![0; BLOCK_LENGTH - 1]);
+    let refused = AppendError::Record(RecordError::Refused(Refusal::Length));
+    // The window takes eight blocks before the first command.
+    for (good, then) in [(0, (1, 1, 12, 0)), (7, (1, 1, 12, 0)), (9, (1, 2, 0, 12))] {
+        let mut drive = drive(Hostility::NONE, 1);
+        record(&mut drive, &before);
+        let mut more = vec![Element::from(block(2)); good];
+        more.push(wrong.clone());
+        assert_eq!(append(&mut drive, &more), Err(refused), "{good} before it");
+        assert_eq!(told(&mut drive), then, "{good} before it");
+    }
 }
 
 /// Sends what comes before the first element, and gives up.

@@ -21,6 +21,12 @@ use crate::size::bytes_in;
 /// Where an EOD address stands in a header.
 const EOD_ADDRESS: std::ops::Range<usize> = 32..36;
 
+/// What helps where the header does not name the end that was read to. The
+/// newest header was taken, so reading again gives the same.
+const IF_END_ELSEWHERE: &str =
+    "nothing can be added here: restore what can be read, and use another cartridge, \
+     or record afresh with '--overwrite'";
+
 /// What helps where a cartridge cannot be read.
 const IF_UNREADABLE: &str = "use a copy of the file, or 'adr salvage' for what is left";
 
@@ -213,6 +219,9 @@ impl Cartridge {
         let recorded = opened.and_then(|recorder| record_with(self, recorder, elements, progress));
         let recorded = recorded.map_err(|error| match error {
             RecordError::Refused(Refusal::Capacity) => Failure::usage(Refusal::Capacity),
+            RecordError::Refused(refusal @ Refusal::EndElsewhere) => self
+                .refused("recording stopped", refusal)
+                .with(IF_END_ELSEWHERE),
             RecordError::Refused(refusal) => self.refused("recording stopped", refusal),
             RecordError::Drive(failure) | RecordError::Source(failure) => failure,
         });

@@ -9,6 +9,7 @@ mod check;
 mod checksum;
 mod demo;
 mod digest;
+mod earlier_jobs;
 mod failure;
 mod faults;
 mod format;
@@ -26,7 +27,6 @@ mod record;
 mod restore;
 mod room;
 mod salvage;
-mod shelf;
 mod size;
 #[allow(unsafe_code)]
 mod system;

@@ -9,6 +9,7 @@ use adr_tape::Summary;
 
 use crate::arguments::{Arguments, Options};
 use crate::cartridge::Cartridge;
+use crate::earlier_jobs::EarlierJobs;
 use crate::failure::Failure;
 use crate::image::Access;
 use crate::interruption;
@@ -16,7 +17,6 @@ use crate::job::source::{Elements, Input};
 use crate::output;
 use crate::progress::Progress;
 use crate::room::{frames_of_job, Room};
-use crate::shelf::Shelf;
 use crate::size::bytes_in;
 use crate::text::{amount, count, grouped, printable};
 
@@ -49,22 +49,22 @@ pub fn run(arguments: &Arguments) -> Result<(), Failure> {
 
     let mut cartridge = Cartridge::load(path, Access::Record, depth, seed)?;
     interruption::watch();
-    let shelf = if arguments.has("--append") {
+    let earlier_jobs = if arguments.has("--append") {
         cartridge.require_sizes(sizes)?;
-        read_shelf(&mut cartridge, path, &inputs, quiet)?
+        read_earlier_jobs(&mut cartridge, path, &inputs, quiet)?
     } else {
         require_place(&cartridge, path, &inputs, arguments.has("--overwrite"))?;
-        Shelf::default()
+        EarlierJobs::default()
     };
-    tell_names_that_come_again(&inputs, &shelf);
+    tell_names_that_come_again(&inputs, &earlier_jobs);
     let mut progress = Progress::new("recording", quiet);
     let update = |summary: &Summary| {
         let bytes = bytes_in(summary.blocks);
         progress.update(bytes, bytes, total);
     };
     let elements = Elements::new(inputs, arguments.has("--allow-empty"));
-    let mut elements = elements.behind(shelf.jobs());
-    let summary = match shelf.end() {
+    let mut elements = elements.behind(earlier_jobs.jobs());
+    let summary = match earlier_jobs.end() {
         None => cartridge.record(sizes, &mut elements, update),
         Some(end) => cartridge.append(end, sizes, &mut elements, update),
     }?;
@@ -89,26 +89,29 @@ fn require_place(
         refuse_content(cartridge, path)?;
     }
     let room = Room::new(cartridge.image().geometry(), None).map_err(Failure::new)?;
-    refuse_too_much(&room, path, inputs)
+    refuse_too_much(&room, path, inputs, true)
 }
 
 /// Reads what the cartridge holds, if there is room behind it.
-fn read_shelf(
+fn read_earlier_jobs(
     cartridge: &mut Cartridge,
     path: &Path,
     inputs: &[Input],
     quiet: bool,
-) -> Result<Shelf, Failure> {
+) -> Result<EarlierJobs, Failure> {
     let header = cartridge.header_for_appending()?;
-    refuse_too_much(&cartridge.room()?, path, inputs)?;
-    let shelf = Shelf::read(cartridge, &header, quiet)?;
-    if let Some(end) = shelf.end().filter(|end| !end.closed) {
+    let room = cartridge.room()?;
+    // Whether the last job is closed is known only when all was read.
+    refuse_too_much(&room, path, inputs, true)?;
+    let earlier_jobs = EarlierJobs::read(cartridge, &header, quiet)?;
+    if let Some(end) = earlier_jobs.end().filter(|end| !end.closed) {
+        refuse_too_much(&room, path, inputs, end.closed)?;
         let (shown, job) = (path.display(), end.jobs);
         output::message(format!(
             "{shown}: job {job} has no filemark at its end: one is recorded before the new jobs"
         ));
     }
-    Ok(shelf)
+    Ok(earlier_jobs)
 }
 
 /// The bytes of all inputs together, if they are known.
@@ -118,11 +121,22 @@ fn known_length(inputs: &[Input]) -> Option<u64> {
     })
 }
 
-/// Refuses files of known length that the cartridge has no room for.
-fn refuse_too_much(room: &Room, path: &Path, inputs: &[Input]) -> Result<(), Failure> {
+/// Refuses files of known length that the cartridge has no room for. A last job
+/// there that is not closed takes a filemark besides.
+fn refuse_too_much(
+    room: &Room,
+    path: &Path,
+    inputs: &[Input],
+    closed: bool,
+) -> Result<(), Failure> {
     let free = room.free();
     let what = if room.is_empty() { "" } else { " free" };
-    let mut needed = 0u64;
+    let filemark = if closed {
+        ""
+    } else {
+        " and a filemark for the last job"
+    };
+    let mut needed = u64::from(!closed);
     let mut full = None;
     for input in inputs {
         let length = input.description().length.unwrap_or(0);
@@ -134,7 +148,7 @@ fn refuse_too_much(room: &Room, path: &Path, inputs: &[Input]) -> Result<(), Fai
     match full {
         None => Ok(()),
         Some(file) => Err(Failure::new(format!(
-            "{}: the files take {} frames, and the cartridge has at most {}{what} ({}): \
+            "{}: the files{filemark} take {} frames, and the cartridge has at most {}{what} ({}): \
              it would be full in '{file}'; nothing was changed: \
              record fewer or smaller files, or use a larger cartridge",
             path.display(),
@@ -147,11 +161,11 @@ fn refuse_too_much(room: &Room, path: &Path, inputs: &[Input]) -> Result<(), Fai
 
 /// Tells jobs that have the name of an earlier one: they are recorded, but
 /// two files of one name cannot be restored to one directory.
-fn tell_names_that_come_again(inputs: &[Input], shelf: &Shelf) {
+fn tell_names_that_come_again(inputs: &[Input], earlier_jobs: &EarlierJobs) {
     let mut first: BTreeMap<&[u8], u64> = BTreeMap::new();
-    for (number, input) in (shelf.jobs().saturating_add(1)..).zip(inputs) {
+    for (number, input) in (earlier_jobs.jobs().saturating_add(1)..).zip(inputs) {
         let name = input.description().name.as_slice();
-        let there = shelf.first_named(name).unwrap_or(number);
+        let there = earlier_jobs.first_named(name).unwrap_or(number);
         let earlier = *first.entry(name).or_insert(there);
         if earlier != number {
             output::message(format!(

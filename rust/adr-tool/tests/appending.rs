@@ -107,6 +107,48 @@ fn damage_headers(image: &[u8]) -> Vec<u8> {
     damaged
 }
 
+/// Lets the frame of one address stand at another.
+fn move_frame(image: &mut [u8], from: usize, to: usize) {
+    let all = entries(image).into_iter();
+    let mut entry = all.filter(|entry| number(image, *entry) >> 32 == from);
+    let entry = entry.next().expect("an entry");
+    image[entry..entry + 4].copy_from_slice(&(to as u32).to_be_bytes());
+    seal_index(image);
+}
+
+/// Puts EOD in the place of the filemark, as a program leaves a cartridge that
+/// does not close its last job; this one has so many frames and one job. Gives
+/// the address, which the headers are yet to tell.
+fn take_filemark(image: &mut [u8], frames: u32) -> usize {
+    let end = end_of_data(image) - 1;
+    let label = Label {
+        kind: Kind::Eod,
+        pass: 1,
+        last: Address(frames - 1),
+        number: SequenceNumber(end as u32 - 10),
+        filemarks: 0,
+        latest_marker: None,
+    };
+    let start = frame_at(image, end);
+    let mut frame = [0; FRAME];
+    fill_frame(&mut frame, &label, None);
+    image[start..start + FRAME].copy_from_slice(&frame);
+    seal_frame(image, start);
+    end
+}
+
+/// Lets every copy of the header tell this address of EOD.
+fn tell_end(image: &mut [u8], end: usize) {
+    let end = (end as u32).to_be_bytes();
+    change_headers(image, |header| header[EOD].copy_from_slice(&end));
+}
+
+/// Makes a file that takes so many frames for its data.
+fn write_frames(place: &Place, name: &str, frames: u64) {
+    let file = File::create(place.path(name)).expect("room for a file");
+    file.set_len(frames * 32_768).expect("holes");
+}
+
 /// Fails with these words, and the image stays as it is.
 #[track_caller]
 fn refused_and_unchanged(place: &Place, words: &[&str], why: &str) {
@@ -262,18 +304,21 @@ fn ends_elsewhere() {
     let place = monday("append-elsewhere");
     let mut image = place.read("a.adr");
     let end = end_of_data(&image);
-    let all = entries(&image).into_iter();
-    let mut entry = all.filter(|entry| number(&image, *entry) >> 32 == end);
-    let entry = entry.next().expect("the entry of EOD");
-    let [.., low] = (end as u32 + 1).to_be_bytes();
-    image[entry + 3] = low;
-    seal_index(&mut image);
+    move_frame(&mut image, end, end + 1);
     place.write("a.adr", &image);
     let why = "the header does not name the end that was read to";
     refused_and_unchanged(&place, &["tue"], why);
     let ran = append(&place, &["tue"]).failed();
-    let told = "(refusal 13); nothing was recorded, the cartridge holds what it held before\n";
+    let told = "(refusal 13); nothing can be added here: restore what can be read, \
+                and use another cartridge, or record afresh with '--overwrite'; \
+                nothing was recorded, the cartridge holds what it held before\n";
     assert!(ran.error.ends_with(told), "{}", ran.error);
+    // Both can be done.
+    let restored = place.adr(&["restore", "a.adr", "1"]).succeeded();
+    assert!(restored.output == place.read("mon"));
+    let words = ["record", "--overwrite", "a.adr", "tue"];
+    place.adr(&words).succeeded();
+    holds(&place, &["tue"]);
 }
 
 #[test]
@@ -298,28 +343,12 @@ fn damage_before_the_end() {
     }
 }
 
-/// The cartridge of a program that does not close its last job: the filemark
-/// gives way to EOD.
 #[test]
 fn a_job_without_a_filemark() {
     let place = monday("append-unclosed");
     let mut image = place.read("a.adr");
-    let last = end_of_data(&image) - 1;
-    let label = Label {
-        kind: Kind::Eod,
-        pass: 1,
-        last: Address(19_239 * 24 - 1),
-        number: SequenceNumber(last as u32 - 10),
-        filemarks: 0,
-        latest_marker: None,
-    };
-    let start = frame_at(&image, last);
-    let mut frame = [0; FRAME];
-    fill_frame(&mut frame, &label, None);
-    image[start..start + FRAME].copy_from_slice(&frame);
-    seal_frame(&mut image, start);
-    let [.., low] = (last as u32).to_be_bytes();
-    change_headers(&mut image, |header| header[EOD][3] = low);
+    let end = take_filemark(&mut image, 19_239 * 24);
+    tell_end(&mut image, end);
     place.write("a.adr", &image);
     let list = place.adr(&["list", "a.adr"]).failed();
     assert!(list.error.contains("job 1 has no filemark at its end"));
@@ -329,6 +358,46 @@ fn a_job_without_a_filemark() {
                 one is recorded before the new jobs\n";
     assert_eq!(added.error, told);
     holds(&place, &["mon", "tue"]);
+}
+
+/// The filemark that a last job lacks takes one of the frames that are free.
+#[test]
+fn no_room_for_the_filemark() {
+    let place = monday("append-filemark");
+    let small = ["--segtrk", "3001", "--trks", "1"];
+    let words = [&["format", "--overwrite", "a.adr"], &small[..]].concat();
+    place.adr(&words).succeeded();
+    place.adr(&["record", "a.adr", "mon"]).succeeded();
+    let mut image = place.read("a.adr");
+    let filemark = take_filemark(&mut image, 3_001);
+    // Behind a long stretch that does not read, with 21 frames free. The end
+    // that was there before is where the first new frames go.
+    let end = 2_990 - 21;
+    move_frame(&mut image, filemark + 1, end + 1);
+    move_frame(&mut image, filemark, end);
+    tell_end(&mut image, end);
+    place.write("a.adr", &image);
+    write_frames(&place, "more", 18);
+    write_frames(&place, "rest", 17);
+    let why = "adr: a.adr: the files and a filemark for the last job take 22 frames, \
+               and the cartridge has at most 21 free (688.1 kB): \
+               it would be full in 'more'; nothing was changed";
+    refused_and_unchanged(&place, &["more"], why);
+    append(&place, &["--quiet", "rest"]).succeeded();
+    is_full(&place, 2);
+    holds(&place, &["mon", "rest"]);
+}
+
+/// The cartridge holds so many jobs and has no room for another.
+#[track_caller]
+fn is_full(place: &Place, jobs: usize) {
+    let list = place.adr(&["list", "a.adr"]).succeeded();
+    assert_eq!(list.output_text().lines().count(), jobs);
+    assert!(
+        list.error.ends_with("at most 0 bytes free\n"),
+        "{}",
+        list.error
+    );
 }
 
 #[test]
@@ -341,8 +410,7 @@ fn full_cartridges() {
     // data of a job three.
     let first = 2_981 - 1 - 3 - 20;
     for (name, frames) in [("mon", first), ("rest", 17), ("more", 18), ("no", 0)] {
-        let file = File::create(place.path(name)).expect("room for a file");
-        file.set_len(frames * 32_768).expect("holes");
+        write_frames(&place, name, frames);
     }
     place
         .adr(&["record", "--quiet", "a.adr", "mon"])
@@ -361,13 +429,7 @@ fn full_cartridges() {
     place
         .shell("$ADR record --quiet --append a.adr --name rest - < rest")
         .succeeded();
-    let list = place.adr(&["list", "a.adr"]).succeeded();
-    assert_eq!(list.output_text().lines().count(), 2);
-    assert!(
-        list.error.ends_with("at most 0 bytes free\n"),
-        "{}",
-        list.error
-    );
+    is_full(&place, 2);
     let why = "has at most 0 free (0 bytes): it would be full in 'no'";
     refused_and_unchanged(&place, &["no"], why);
 }

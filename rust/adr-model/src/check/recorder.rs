@@ -23,7 +23,7 @@ pub struct Recorder<R> {
     pub accepted: Vec<Element>,
     /// Whether a fetch answered done.
     pub done: bool,
-    /// The refusal from 8 to 12 that ended the session.
+    /// The refusal of the opening, or the one from 8 to 12 that ended the session.
     pub refused: Option<u8>,
     pub(super) session: R,
     /// What the opening headers must say.

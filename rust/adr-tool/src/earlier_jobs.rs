@@ -12,15 +12,19 @@ use crate::progress::Progress;
 /// The jobs before those that are to be recorded, none where these start at
 /// the beginning.
 #[derive(Default)]
-pub struct Shelf {
+pub struct EarlierJobs {
     end: Option<End>,
     /// The names, and the first job that has each.
     names: BTreeMap<Vec<u8>, u64>,
 }
 
-impl Shelf {
+impl EarlierJobs {
     /// Reads a cartridge to its end on its newest header.
-    pub fn read(cartridge: &mut Cartridge, header: &[u8], quiet: bool) -> Result<Shelf, Failure> {
+    pub fn read(
+        cartridge: &mut Cartridge,
+        header: &[u8],
+        quiet: bool,
+    ) -> Result<EarlierJobs, Failure> {
         let mut progress = Progress::new("reading", quiet);
         let mut names = BTreeMap::new();
         let mut taker = |number: u64, event: Event<'_>| {
@@ -32,7 +36,7 @@ impl Shelf {
         };
         let end = cartridge.read_to_end(header, &mut taker, &mut progress);
         let end = Some(end.map_err(Failure::unrecorded)?);
-        Ok(Shelf { end, names })
+        Ok(EarlierJobs { end, names })
     }
 
     /// Where they end, if others are added there.
