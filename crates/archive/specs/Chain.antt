@@ -51,7 +51,7 @@ abbrev pub OnItsNewest : {g : Geometry} {last : ℕ} {s : State} → Start g las
 OnItsNewest {last = last} (fresh depth blocks o q) t = OnNewest last t o
 OnItsNewest {last = last} (added depth blocks u h r read q) t = Newest last t h
 
--- where it adds: the reading was of the cartridge as it then stands
+-- where it adds: what was read is what the cartridge holds now
 abbrev pub AsItStands : {g : Geometry} {last : ℕ} {s : State} → Start g last s → Tape → Type 0
 AsItStands (fresh depth blocks o q) t = Unit {0}
 AsItStands {last = last} (added depth blocks u h r read q) t = SameFrames last u t

@@ -59,10 +59,11 @@ asTable e aux =
     agree (part 18 36 aux) (part 18 36 (auxBytes (elementAux e)))
     && agree (part 44 68 aux) (part 44 68 (auxBytes (elementAux e)))
 
--- an EOD ends reading only if its address is not below the header's EOD address or, where that is 0, the old end named there
+-- 02, Card 1: from which address on an EOD ends reading. That is the header's EOD address or, for want of one, the old end that it names
 unfoldable pub endsFrom : Told → ℕ
 endsFrom told = pick (eqb (told .eod .0) 0) (told .old .0) (told .eod .0)
 
+-- an EOD below that
 abbrev pub isEarlierEnd : Kind → Told → Address → Bool
 isEarlierEnd Data told at = false
 isEarlierEnd Marker told at = false

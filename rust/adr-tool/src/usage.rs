@@ -60,8 +60,9 @@ Room in the file that the cartridge does not need is then given back.
 With --append the cartridge is read to its end, and the files are recorded
 behind its jobs, with the numbers that follow. It is refused, and nothing is
 changed, where there is no recording, where the last one was not closed, where
-a reading does not come to the end, and where there is no room. A last job
-without a filemark, which only another program leaves, gets one first.
+a reading does not come to the end that the header names, and where there is no
+room. A last job without a filemark, which only another program leaves, gets one
+first.
 
 Files that cannot fit are told before anything is written. A file that changes
 while it is recorded is told, and the exit status is then 1: the recording is
