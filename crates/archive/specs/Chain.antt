@@ -51,7 +51,7 @@ abbrev pub OnItsNewest : {g : Geometry} {last : ℕ} {s : State} → Start g las
 OnItsNewest {last = last} (fresh depth blocks o q) t = OnNewest last t o
 OnItsNewest {last = last} (added depth blocks u h r read q) t = Newest last t h
 
--- where it adds: what was read is what the cartridge holds now
+-- where it adds: the user frames that were read are those that the cartridge holds at the opening
 abbrev pub AsItStands : {g : Geometry} {last : ℕ} {s : State} → Start g last s → Tape → Type 0
 AsItStands (fresh depth blocks o q) t = Unit {0}
 AsItStands {last = last} (added depth blocks u h r read q) t = SameFrames last u t
@@ -60,7 +60,7 @@ AsItStands {last = last} (added depth blocks u h r read q) t = SameFrames last u
 abbrev pub NoneAbove : ℕ → Tape → ℕ → ℕ → Type 0
 NoneAbove last t end pass = (a : ℕ) (f : List ℕ) → isUser last a ≡ true → end < a → t a ≡ some f → Bears pass f → ⊥
 
--- no user frame bears the pass that is to be written, or where it adds none above the old end
+-- no user frame bears the pass that is to be written or, where it adds, none above the old end does
 abbrev pub NoneInTheWay : {g : Geometry} {last : ℕ} {s : State} → Start g last s → Tape → Type 0
 NoneInTheWay {last = last} (fresh depth blocks o q) t = NoneBears last t (newPass o)
 NoneInTheWay {last = last} (added depth blocks u h r read q) t = NoneAbove last t (endOf (r .session) .0) (headerOf h .pass)
@@ -77,16 +77,16 @@ pub record Continued (g : Geometry) (last : ℕ) (t : Tape) (s : State) (b : Sta
       → Readable g last (w .drive .tape) (earlierOf b ++ w .notes .accepted) × Cartridge last (w .drive .tape)
   -- after a close that reported done the drive rests
   pub rests : w .notes .reported ≡ true → AtRest (w .drive)
-  -- the tape reads as EOD, numbered by how many elements there are then, at the EOD address of each closing header that a fetch gives,
+  -- at the EOD address of each closing header that a fetch gives the tape reads as EOD, numbered by how many elements there are then
   pub given : (lent frame : List ℕ) (a : ℕ) → w .session .stage ≡ S.ClosingHeaders → fetchOf (w .session) lent frame .said ≡ command 0x0A a
       → EndsAt (headerOf (fetchOf (w .session) lent frame .frame)) (length (earlierOf b ++ w .notes .accepted)) (w .drive .tape)
-  -- and, where it was opened on the newest header and the close reported done, of each newest header
+  -- where the session was opened on the newest header and the close reported done, so it does at that of each newest header
   pub newest : OnItsNewest b t → w .notes .reported ≡ true → (h : List ℕ) → Newest last (w .drive .tape) h
       → EndsAt (headerOf h) (length (earlierOf b ++ w .notes .accepted)) (w .drive .tape)
-  -- where moreover none was in the way: no user frame above that EOD bears the pass, so that whoever adds next finds none in the way,
+  -- where moreover none was in the way, no user frame above that EOD bears the pass: whoever adds next finds none in the way
   pub clear : OnItsNewest b t → NoneInTheWay b t → w .notes .reported ≡ true → (h : List ℕ) → Newest last (w .drive .tape) h
       → NoneAbove last (w .drive .tape) (headerOf h .eod .0) (headerOf h .pass)
-  -- and an opening at the end of a reading on a newest header is not refused with 13
+  -- and an opening at the end of a reading of the tape as left, on a newest header, is not refused with 13
   pub addable : OnItsNewest b t → NoneInTheWay b t → w .notes .reported ≡ true → (h : List ℕ) (r : readings.World) → Newest last (w .drive .tape) h
       → HasRead g last (w .drive .tape) h r → isAtEnd (r .session) ≡ true → endsElsewhere (r .session) ≡ false
 
@@ -124,8 +124,8 @@ wayOf (fresh depth blocks o q) = afresh
 wayOf (added depth blocks u h r read q) = adding
 
 -- a first session on any cartridge, and then sessions that add: the tape in the end, and all elements. A first session that adds finds what others
--- wrote, of which only what its reading delivered is known; so the two are told apart. Each session that adds finds the user frames as the one
--- before left them, and was opened on a header that was newest then and is: headers may have been lost in between
+-- wrote, of which only what its reading delivered is known; so the two are told apart. Each later session finds the user frames as the one before
+-- left them, and its header was newest when that one had closed and is newest at its own opening; other copies may have changed in between
 pub data Chain (g : Geometry) (last : ℕ) (begun : Way) : Tape → List Element → Type 0 where
   first : (d : Drive) (s : State) (b : Start g last s) (w : recordings.World) → Cartridge last (d .tape) → wayOf b ≡ begun
       → Closed g last d s b w → Chain g last begun (w .drive .tape) (earlierOf b ++ w .notes .accepted)
