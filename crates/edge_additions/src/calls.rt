@@ -1,12 +1,12 @@
-// The calls that additions share: opening, headers, one element, the close.
+// The calls that additions share: opening, and one element up to done.
 use adding::open_at_end;
 use edge_recorder::accept_block;
 use edge_recorder::accept_filemark;
-use edge_recorder::close;
+use edge_recorder::finish;
 use edge_recorder::look;
 use edge_recorder::play_good;
+use edge_recorder::play_headers;
 use edge_recorder::session_of;
-use edge_recorder::skip_good;
 use reading::Reading;
 use recording::Recording;
 
@@ -18,20 +18,6 @@ pub fn add(reading: Reading) -> Recording {
 // A refused opening, and that the session it gives is ended.
 pub fn add_refused(reading: Reading, depth: u8, blocks: u8) {
     look(session_of(open_at_end(reading, depth, blocks)), b"");
-}
-
-// The ten header copies, of which the first is printed.
-pub fn play_headers(session: Recording, window: &[u8]) -> Recording {
-    let s = play_good(session, window, 2);
-    skip_good(s, window, 12)
-}
-
-// Close, n commands up to the closing headers, these, and done.
-pub fn finish(session: Recording, window: &[u8], n: u8) {
-    let mut s = close(session);
-    s = play_good(s, window, n);
-    s = play_headers(s, window);
-    look(s, window);
 }
 
 // The headers, LOCATE, the one element that was accepted, and the close.

@@ -1,8 +1,6 @@
 // Additions at 2,989, at 3,000 and at LAST, and one of nothing.
 use crate::calls::add;
 use crate::calls::add_block;
-use crate::calls::finish;
-use crate::calls::play_headers;
 use crate::readings::begun;
 use crate::readings::located;
 use crate::readings::newest_header;
@@ -19,9 +17,11 @@ use edge_reader::play_unreadable;
 use edge_recorder::accept_block;
 use edge_recorder::accept_filemark;
 use edge_recorder::close;
+use edge_recorder::finish;
 use edge_recorder::look;
 use edge_recorder::play;
 use edge_recorder::play_good;
+use edge_recorder::play_headers;
 use frame::Kind;
 use reading::Reading;
 use recording::Recording;

@@ -1,7 +1,5 @@
 // What becomes of the old EOD.
 use crate::calls::add;
-use crate::calls::finish;
-use crate::calls::play_headers;
 use crate::readings::begun;
 use crate::readings::located;
 use crate::readings::newest_header;
@@ -12,8 +10,10 @@ use edge_reader::look;
 use edge_reader::play_element;
 use edge_reader::play_unreadable;
 use edge_recorder::accept_block;
+use edge_recorder::finish;
 use edge_recorder::play;
 use edge_recorder::play_good;
+use edge_recorder::play_headers;
 use frame::Header;
 use frame::Kind;
 use geometry::Address;

@@ -103,7 +103,7 @@ pub fn play_good(session: Recording, window: &[u8], n: u8) -> Recording {
 }
 
 // The same, not printed.
-pub fn skip_good(session: Recording, window: &[u8], n: u8) -> Recording {
+fn skip_good(session: Recording, window: &[u8], n: u8) -> Recording {
     run_good(session, window, n, false)
 }
 
@@ -115,4 +115,18 @@ pub fn play_errors(session: Recording, window: &[u8], n: u8) -> Recording {
         s = play(s, window, write_error(10 + 255 * (k as u32), 255));
     }
     s
+}
+
+// The ten header copies, of which the first is printed.
+pub fn play_headers(session: Recording, window: &[u8]) -> Recording {
+    let s = play_good(session, window, 2);
+    skip_good(s, window, 12)
+}
+
+// Close, n commands up to the closing headers, these, and done.
+pub fn finish(session: Recording, window: &[u8], n: u8) {
+    let mut s = close(session);
+    s = play_good(s, window, n);
+    s = play_headers(s, window);
+    look(s, window);
 }

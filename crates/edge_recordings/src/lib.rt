@@ -1,6 +1,10 @@
-// Three recordings, played and printed.
+// Four recordings, played and printed.
+mod filemarks;
 mod recordings;
 
-pub use recordings::crossing;
-pub use recordings::example;
-pub use recordings::one_block;
+pub fn play_all() {
+    recordings::example();
+    recordings::crossing();
+    recordings::one_block();
+    filemarks::three_filemarks();
+}

@@ -1,8 +1,6 @@
 // Plays recordings and readings through the public calls and prints what they give. The output was worked out by hand from 01 and 02.
 fn main() {
-    edge_recordings::example();
-    edge_recordings::crossing();
-    edge_recordings::one_block();
+    edge_recordings::play_all();
     edge_readings::example();
     edge_readings::passed_over();
     edge_readings::jump_over();
