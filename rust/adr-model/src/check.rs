@@ -41,6 +41,8 @@ pub struct Tally {
     pub added: [u64; CHAIN],
     /// Elements delivered.
     pub delivered: u64,
+    /// Frames on tape besides these and the end: copies and earlier EODs.
+    pub undelivered: u64,
     /// Recordings that ended with refusals 8, 9 and 12.
     pub refused: [u64; 3],
     /// Recordings that wrote at 3,000 or behind.
@@ -55,6 +57,7 @@ impl Tally {
         self.recordings += other.recordings;
         self.done += other.done;
         self.delivered += other.delivered;
+        self.undelivered += other.undelivered;
         self.crossed += other.crossed;
         add_each(&mut self.added, &other.added);
         add_each(&mut self.refused, &other.refused);
@@ -122,6 +125,8 @@ struct Before<'a, L: Layer> {
     case: &'a Case,
     last: Address,
     opening: Opening<L::Reading>,
+    /// Whether the end that it is opened at was read on another cartridge.
+    astray: bool,
     window_blocks: u32,
     calls: &'a [Call],
 }
@@ -145,7 +150,7 @@ impl<L: Layer> Host<L> {
 
 /// Looks at what the demand speaks of.
 const PLAIN: Host<Model> = Host {
-    record: record_plainly,
+    record: record_plainly::<false>,
     closely: false,
 };
 
@@ -180,6 +185,7 @@ fn run_to_end<L: Layer>(
             case,
             last,
             opening,
+            astray: false,
             window_blocks: turns.window_blocks(case, turn),
             calls,
         };
@@ -218,7 +224,9 @@ fn finished<L: Layer>(
         if back.end != Some(back.header.eod) {
             return Err(format!("{:?} is not the end that is named", back.end));
         }
-        trail::is_right(drive.tape(), &back)?;
+        let frames = trail::is_right_on_tape(drive.tape(), &back.header, &back.elements)?;
+        let delivered = back.elements.len() + 1;
+        tally.undelivered += frames.saturating_sub(delivered) as u64;
     }
     let behind = before.opening.behind();
     tally.done += 1;
@@ -276,11 +284,12 @@ fn record<L: Layer>(
     Ok((drive, recorded))
 }
 
-fn record_plainly(
+/// Makes the calls, and looks at the frames sent if wanted.
+fn record_plainly<const FRAMES: bool>(
     before: &Before<Model>,
     mut drive: Drive,
     _: &mut Tally,
 ) -> Result<(Drive, Recorded), String> {
-    let recorded = plain::record(before, &mut drive)?;
+    let recorded = plain::record(before, &mut drive, FRAMES)?;
     Ok((drive, recorded))
 }

@@ -136,6 +136,12 @@ impl<S: Storage> Drive<S> {
         self.buffer.len()
     }
 
+    /// The frames buffered, oldest first, each with the address it goes to.
+    pub fn held(&self) -> impl Iterator<Item = (Address, &Shared)> {
+        let counted = (0..).zip(&self.buffer);
+        counted.map(|(before, frame)| (self.front.plus(before), frame))
+    }
+
     /// The address the next frame taken goes to, or the next to be read.
     #[must_use]
     pub fn next(&self) -> Address {

@@ -207,7 +207,10 @@ impl Elements {
             .next_back()
             .map(|(at, _)| self.oldest().plus(count(at)))
             .or(self.latest_marker);
-        let filemarks = self.filemarks.saturating_add(count(markers.count()));
+        let mut filemarks = self.filemarks.saturating_add(count(markers.count()));
+        if self.fault == Fault::FilemarkCountStuck {
+            filemarks = filemarks.min(1);
+        }
         if self.fault == Fault::OldMarkerAddress {
             latest_marker = *self.remembered.entry(number).or_insert(latest_marker);
         }

@@ -8,6 +8,8 @@ pub enum Fault {
     None,
     /// Frames are sent again with the marker address of their first sending.
     OldMarkerAddress,
+    /// Frames name one filemark before them where there are more.
+    FilemarkCountStuck,
     /// LOCATE 3,000 goes out while frames are buffered.
     LocateWhileBuffered,
     /// READ POSITION confirms the frames the drive still holds.
@@ -43,8 +45,9 @@ pub enum Fault {
 }
 
 /// The faults that recordings of their own show.
-pub const PLANTED: [Fault; 12] = [
+pub const PLANTED: [Fault; 13] = [
     Fault::OldMarkerAddress,
+    Fault::FilemarkCountStuck,
     Fault::LocateWhileBuffered,
     Fault::BufferedConfirmed,
     Fault::NumberIgnored,

@@ -70,6 +70,11 @@ impl Tape {
         self.frames.get(&address)
     }
 
+    /// Every address that reads as a frame, with the frame.
+    pub fn frames(&self) -> impl Iterator<Item = (Address, &Shared)> {
+        self.frames.iter().map(|(address, frame)| (*address, frame))
+    }
+
     /// Writes a frame.
     pub fn write(&mut self, address: Address, frame: Shared) {
         self.frames.insert(address, frame);

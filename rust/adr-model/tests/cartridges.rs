@@ -20,6 +20,7 @@ fn cartridges_read_back_as_recorded() {
     println!("{tally:?}");
     assert!(tally.done > CARTRIDGES / 2);
     assert!(tally.delivered > CARTRIDGES * 5);
+    assert!(tally.undelivered > CARTRIDGES);
     assert!(tally.crossed > CARTRIDGES / 20);
     assert!(tally.refused.iter().all(|count| *count > 0));
     assert!(tally.deeds.iter().all(|count| *count > CARTRIDGES / 100));

@@ -22,6 +22,7 @@ fn chains_read_back_as_accepted() {
     assert!(tally.done > CHAINS);
     assert!(tally.added.iter().all(|count| *count > CHAINS / 20));
     assert!(tally.delivered > CHAINS * 10);
+    assert!(tally.undelivered > CHAINS);
     assert!(tally.crossed > CHAINS / 20);
     assert!(tally.deeds.iter().all(|count| *count > CHAINS / 100));
 }

@@ -1,6 +1,8 @@
 //! Every planted fault is found, and the sound model has none.
 
-use adr_model::check::chain::{run_chain, run_chain_demand_and_tape, run_chain_demand_only};
+use adr_model::check::chain::{
+    run_chain, run_chain_demand_and_frames, run_chain_demand_and_tape, run_chain_demand_only,
+};
 use adr_model::check::shrink::{shrink, shrink_chain_on};
 use adr_model::check::{run, run_demand_only, Case, Chain, Model};
 use adr_model::fault::{PLANTED, PLANTED_IN_ADDING};
@@ -10,6 +12,8 @@ use adr_model::Fault;
 const SEEDS: u64 = 100;
 /// The same of chains, which take longer.
 const CHAINS: u64 = 40;
+/// The chains among these that must show a fault in what frames name.
+const SEVERAL: usize = 4;
 
 #[test]
 fn planted_faults_are_found() {
@@ -21,13 +25,13 @@ fn planted_faults_are_found() {
     }
 }
 
-/// The demand alone finds all but one: no reading looks at the address of the
-/// latest marker.
+/// The demand alone finds all but two: no reading looks at what a frame names
+/// of filemarks.
 #[test]
 fn the_demand_alone_finds_them() {
     for fault in PLANTED {
         let found = (0..SEEDS).find(|seed| run_demand_only(&Case::of_seed(*seed, fault)).is_err());
-        let unseen = fault == Fault::OldMarkerAddress;
+        let unseen = matches!(fault, Fault::OldMarkerAddress | Fault::FilemarkCountStuck);
         assert_eq!(found.is_none(), unseen, "{fault:?}");
     }
     for seed in 0..SEEDS {
@@ -74,22 +78,27 @@ fn the_demand_alone_finds_faults_in_adding() {
         let seen = matches!(fault, Fault::NumberRestarted | Fault::EarlierEndTaken);
         assert_eq!(found, seen, "{fault:?}");
     }
-    for seed in 0..CHAINS {
-        let run = run_chain_demand_and_tape(&Chain::of_seed(seed, Fault::None));
-        assert!(run.is_ok(), "seed {seed}: {run:?}");
-    }
 }
 
-/// What the frames on tape name of filemarks shows the faults that nothing
-/// but them shows.
+/// What the frames name of filemarks shows the faults that nothing else shows,
+/// in several chains each: as they are sent, and on tape.
 #[test]
-fn the_frames_on_tape_show_a_wrong_trail() {
-    for fault in [Fault::TrailRestarted, Fault::OldMarkerAddress] {
-        let mut chains = (0..CHAINS).map(|seed| Chain::of_seed(seed, fault));
-        assert!(
-            chains.any(|chain| run_chain_demand_and_tape(&chain).is_err()),
-            "{fault:?}"
-        );
+fn the_frames_show_a_wrong_trail() {
+    for look in [run_chain_demand_and_frames, run_chain_demand_and_tape] {
+        for fault in [
+            Fault::OldMarkerAddress,
+            Fault::FilemarkCountStuck,
+            Fault::TrailRestarted,
+        ] {
+            let wrong = |seed: &u64| look(&Chain::of_seed(*seed, fault)).is_err();
+            let found: Vec<u64> = (0..CHAINS).filter(wrong).take(SEVERAL).collect();
+            println!("{fault:?}: seeds {found:?}");
+            assert_eq!(found.len(), SEVERAL, "{fault:?}: seeds {found:?}");
+        }
+        for seed in 0..CHAINS {
+            let run = look(&Chain::of_seed(seed, Fault::None));
+            assert!(run.is_ok(), "seed {seed}: {run:?}");
+        }
     }
 }
 

@@ -28,6 +28,7 @@ fn read_back_as_recorded(seeds: impl Iterator<Item = u64>) {
     let half = CARTRIDGES / 2;
     assert!(tally.done > half / 2);
     assert!(tally.delivered > half * 5);
+    assert!(tally.undelivered > half);
     assert!(tally.crossed > half / 20);
     assert!(tally.refused.iter().all(|count| *count > 0));
     assert!(tally.deeds.iter().all(|count| *count > half / 100));

@@ -3,7 +3,8 @@
 use super::case::{calls_of_length, Call, Case};
 use super::layer::{Layer, Model};
 use super::{
-    drive_with, recorded_on, run_to_end, run_with, Before, Host, Opening, Tally, Turns, PLAIN,
+    drive_with, record_plainly, recorded_on, run_to_end, run_with, Before, Host, Opening, Tally,
+    Turns, PLAIN,
 };
 use crate::fault::Fault;
 use crate::random::Random;
@@ -87,6 +88,19 @@ pub fn run_chain_demand_only(chain: &Chain) -> Result<Tally, String> {
     run_with(&chain.case, Turns::Added(&chain.windows), &PLAIN)
 }
 
+/// Runs a chain as [`run_chain_demand_only`] does, and looks at the frames sent
+/// besides: which element each is, and what it names of filemarks.
+///
+/// # Errors
+/// What was found wrong.
+pub fn run_chain_demand_and_frames(chain: &Chain) -> Result<Tally, String> {
+    let host = Host {
+        record: record_plainly::<true>,
+        ..PLAIN
+    };
+    run_with(&chain.case, Turns::Added(&chain.windows), &host)
+}
+
 /// Runs a chain as [`run_chain_demand_only`] does, and looks at what stands on
 /// tape besides: where the end is, and what the frames name of filemarks.
 ///
@@ -122,6 +136,7 @@ pub fn run_astray_on<L: Layer>(chain: &Chain) -> Result<bool, String> {
         case: &other,
         last,
         opening: Opening::AtEnd(end),
+        astray: true,
         window_blocks: case.window_blocks,
         calls: case.recordings.first().map_or(&[], Vec::as_slice),
     };

@@ -80,6 +80,8 @@ pub(super) struct Opened {
     pub(super) elements: Vec<Element>,
     /// The last filemark of these, and where it was delivered.
     pub(super) marker: Option<(usize, Address)>,
+    /// Whether these were delivered from another cartridge.
+    pub(super) astray: bool,
     pub(super) outcome: Outcome,
 }
 
@@ -89,7 +91,7 @@ impl Opened {
             Opening::Fresh(newest) => {
                 Opened::fresh(newest.as_ref().map(|(_, old)| old), before.last)
             }
-            Opening::AtEnd(back) => Opened::at_end(back),
+            Opening::AtEnd(back) => Opened::at_end(back, before.astray),
         }
     }
 
@@ -106,6 +108,7 @@ impl Opened {
             first: FIRST_USER,
             elements: Vec::new(),
             marker: None,
+            astray: false,
             outcome: if newest.is_some_and(spent) {
                 Outcome::Refused(5)
             } else {
@@ -114,7 +117,7 @@ impl Opened {
         }
     }
 
-    fn at_end<R>(back: &ReadBack<R>) -> Opened {
+    fn at_end<R>(back: &ReadBack<R>, astray: bool) -> Opened {
         let first = back.end.unwrap_or(Address(0));
         Opened {
             header: HeaderFields {
@@ -126,6 +129,7 @@ impl Opened {
             first,
             elements: back.elements.clone(),
             marker: back.latest_marker(),
+            astray,
             outcome: at_end_outcome(back),
         }
     }

@@ -1,11 +1,14 @@
 //! A host that looks at nothing but the demand itself: what was accepted,
-//! whether the close reported done, and which addresses were written.
+//! whether the close reported done, and which addresses were written. It can
+//! look at the frames sent besides.
 
 use super::content::{block, Element};
-use super::{opening, Before, Call, Model};
+use super::opening::{self, Opened};
+use super::trail::Followed;
+use super::{Before, Call, Model};
 use crate::command::{Answer, Command, Outcome};
 use crate::drive::Drive;
-use crate::geometry::{BLOCK_LENGTH, FRAME_LENGTH};
+use crate::geometry::{Address, BLOCK_LENGTH, FRAME_LENGTH};
 use crate::recording::Recording;
 use crate::reply::Reply;
 
@@ -29,13 +32,22 @@ struct Host<'a> {
     awaited: Option<Reply>,
     recorded: Recorded,
     ended: bool,
+    /// What the frames sent must go on from, if they are looked at.
+    followed: Option<Followed>,
+    /// What was first found wrong in one.
+    wrong: Option<String>,
 }
 
-/// Makes the calls, closes and goes on until done or an end.
+/// Makes the calls, closes and goes on until done or an end; `frames` tells
+/// whether the frames sent are looked at.
 ///
 /// # Errors
-/// The address that must not be written.
-pub(super) fn record(before: &Before<Model>, drive: &mut Drive) -> Result<Recorded, String> {
+/// The address that must not be written, or what is wrong in a frame.
+pub(super) fn record(
+    before: &Before<Model>,
+    drive: &mut Drive,
+    frames: bool,
+) -> Result<Recorded, String> {
     let (mut session, outcome) = opening::open(before);
     session.plant(before.case.fault);
     let blocks = usize::try_from(before.window_blocks).unwrap_or(0);
@@ -50,6 +62,8 @@ pub(super) fn record(before: &Before<Model>, drive: &mut Drive) -> Result<Record
             done: false,
         },
         ended: outcome != Outcome::Accepted,
+        followed: frames.then(|| Followed::of(&Opened::of(before))),
+        wrong: None,
     };
     for call in before.calls {
         host.call(*call);
@@ -60,6 +74,9 @@ pub(super) fn record(before: &Before<Model>, drive: &mut Drive) -> Result<Record
             break;
         }
         host.call(Call::Exchange);
+    }
+    if let Some(wrong) = host.wrong {
+        return Err(wrong);
     }
     let recorded = host.recorded;
     let mut written = drive.log().written.iter();
@@ -107,12 +124,23 @@ impl Host<'_> {
                 self.awaited = Some(self.drive.read(command, &mut self.frame));
             }
             Answer::Command(command) => {
+                if let Command::Write(address) = command {
+                    self.look_at_frame(address);
+                }
                 self.awaited = Some(self.drive.record(command, &self.frame));
             }
             Answer::Done => self.recorded.done = true,
             Answer::Refused(number) => self.ended = self.ended || number > 7,
             Answer::Idle => {}
         }
+    }
+
+    fn look_at_frame(&mut self, address: Address) {
+        let accepted = &self.recorded.accepted;
+        let looked = self.followed.as_ref().map_or(Ok(()), |followed| {
+            followed.is_right_with_drive(self.drive, accepted, address, &self.frame)
+        });
+        self.wrong = self.wrong.take().or(looked.err());
     }
 
     fn reply(&mut self) {

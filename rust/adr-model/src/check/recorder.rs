@@ -8,6 +8,7 @@ use super::guarded::Guarded;
 use super::layer::RecordingCalls;
 use super::opening::Opened;
 use super::replies::UNTOUCHED;
+use super::trail::Followed;
 use crate::command::{Answer, Command, Outcome};
 use crate::drive::Drive;
 use crate::frame::{Frame, HeaderFields};
@@ -28,6 +29,8 @@ pub struct Recorder<R> {
     pub(super) session: R,
     /// What the opening headers must say.
     pub(super) opening: HeaderFields,
+    /// What the frames sent must go on from.
+    pub(super) followed: Followed,
     /// Where the first element, or EOD, must go, until it is sent.
     pub(super) first: Option<Address>,
     pub(super) end: Address,
@@ -76,6 +79,7 @@ impl<R: RecordingCalls> Recorder<R> {
         let window = Guarded::filled(0x5A, lent * BLOCK_LENGTH);
         Recorder {
             drive,
+            followed: Followed::of(&opened),
             confirmed: opened.elements.len(),
             accepted: opened.elements,
             done: false,

@@ -15,6 +15,12 @@ const FETCHES: u32 = 400_000;
 /// What an untouched frame holds.
 pub(super) static UNTOUCHED: Frame = [0xA5; FRAME_LENGTH];
 
+fn whole(frame: &[u8]) -> Result<&Frame, String> {
+    frame
+        .try_into()
+        .map_err(|_| "a frame of another length".into())
+}
+
 impl<R: RecordingCalls> Recorder<R> {
     /// Fetches, and sends a command to the drive.
     pub(super) fn fetch(&mut self) -> Result<(), String> {
@@ -70,8 +76,7 @@ impl<R: RecordingCalls> Recorder<R> {
             Command::Locate(_) | Command::ReadPosition => {}
             Command::Read(_) => return Err("READ in a recording".into()),
         }
-        let sent = <&Frame>::try_from(&*self.frame).map_err(|wrong| wrong.to_string())?;
-        let reply = self.drive.record(command, sent);
+        let reply = self.drive.record(command, whole(&self.frame)?);
         if let Command::Write(_) = command {
             self.frame.copy_from_slice(&UNTOUCHED);
         }
@@ -81,9 +86,9 @@ impl<R: RecordingCalls> Recorder<R> {
 
     /// Compares every byte of a frame with what it must be at its address.
     fn look_at_frame(&mut self, address: Address) -> Result<(), String> {
-        if address != self.drive.next() {
-            return Err(format!("{address:?}, but the drive is elsewhere"));
-        }
+        let frame = whole(&self.frame)?;
+        self.followed
+            .is_right_with_drive(&self.drive, &self.accepted, address, frame)?;
         let sent = self.due(address)?;
         let index = self.confirmed + self.taken.len();
         if sent != Sent::Header && self.first.take().is_some_and(|first| first != address) {
