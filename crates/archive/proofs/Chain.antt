@@ -1,6 +1,6 @@
 -- Adding to a cartridge: Adds and Chains hold. Assumes nothing.
 use Prim.Native.Nat.{ℕ, _+_, _^_, _<_}
-use mathlib.Core.Path.{_≡_, sym, ap, subst, _∙_}
+use mathlib.Core.Path.{_≡_, sym, subst, _∙_}
 use mathlib.Core.List.{List, _++_}
 use Rattle.geometry.specs.Place.{address}
 use Rattle.geometry.specs.Cartridge.{lastOf}
@@ -13,7 +13,7 @@ use Rattle.reading_state.specs.Open.{toldOf}
 use Rattle.archive.specs.Tape.{Tape, Cartridge, SameFrames}
 use Rattle.archive.specs.Conduct.{Drive}
 use Rattle.archive.specs.Headers.{Newest}
-use Rattle.archive.specs.Fold.{Reader, finished, wholeOf}
+use Rattle.archive.specs.Fold.{finished, wholeOf}
 use Rattle.archive.specs.Recordings as recordings
 use Rattle.archive.specs.Recordings.{Element}
 use Rattle.archive.specs.Demand.{Readable}
@@ -28,7 +28,7 @@ adds = continued
 -- ---- a chain
 
 -- what the next session that adds needs of the tape: that it reads as all that came before
-record Held (g : Geometry) (last : ℕ) (t : Tape) (xs : List Element) : Type 0 where
+pub record Held (g : Geometry) (last : ℕ) (t : Tape) (xs : List Element) : Type 0 where
   readable : Readable g last t xs
   end-at : ℕ
   whole : (h : List ℕ) → Newest last t h → wholeOf (toldOf (headerOf h)) t ≡ finished xs end-at
@@ -47,17 +47,17 @@ module _ (g : Geometry) (last : ℕ) (seg : g .segtrk < 2 ^ 16) (trk : g .trks <
       }
 
   -- its reading delivered what the chain before holds
-  earlier-is : (t : Tape) (xs : List Element) → Held g last t xs → (d : Drive) (s : State) (b : Start g last s) (w : recordings.World) → Cartridge last (d .tape) → wayOf b ≡ adding
+  pub earlier-is : (t : Tape) (xs : List Element) → Held g last t xs → (d : Drive) (s : State) (b : Start g last s) (w : recordings.World) → Cartridge last (d .tape) → wayOf b ≡ adding
       → SameFrames last t (d .tape) → OnItsNewest b t → Closed g last d s b w → earlierOf b ≡ xs
   earlier-is t xs held d s (fresh depth blocks o op) w cart is same on c = never (cc)
   earlier-is t xs held d s (added depth blocks u h r read op) w cart is same on c =
       let told = toldOf (headerOf h) in
-      let x = added-ended g last seg trk e d (c .window) (c .calls) w cart (c .unwritten) (c .rests) s depth blocks u h r read op in
+      let x = added-ended g last seg trk e s depth blocks u h r read op in
       let users : (v : Tape) → SameFrames last v (d .tape) → wholeOf told v ≡ wholeOf told (d .tape) =
       λ v q. fold-users told v (d .tape) (subst (λ (n : ℕ). SameFrames n v (d .tape)) (sym (valid-last last h (on .here .valid))) q) (headerOf h .last .0 + 1) in
       finished-same (sym (x .ended .whole) ∙ users u (c .as-it-stands) ∙ sym (users t same) ∙ held .whole h on)
 
-  chain-held : {begun : Way} {t : Tape} {xs : List Element} → Chain g last begun t xs → Held g last t xs
+  pub chain-held : {begun : Way} {t : Tape} {xs : List Element} → Chain g last begun t xs → Held g last t xs
   chain-held (first d s b w cart is c) = closed-held d s b w cart c
   chain-held (more t xs before d s b w cart is same on c) =
       subst (λ (ys : List Element). Held g last (w .drive .tape) (ys ++ w .notes .accepted)) (earlier-is t xs (chain-held before) d s b w cart is same on c) (closed-held d s b w cart c)

@@ -4,6 +4,7 @@ use mathlib.Core.Path.{_≡_, refl, sym, ap, subst, _∙_}
 use mathlib.Core.Bool.{true, false, not, true≢false}
 use mathlib.Core.List.{List, [], _++_}
 use mathlib.Core.Logic.{⊎-elim}
+use mathlib.Core.Option.{some}
 use native.Mathlib.Nat.{eq-or-lt-of-le}
 use native.Mathlib.Omega.{arith}
 use borrow.Author.Tests.{eq-eqb, ne-eqb}
@@ -12,12 +13,14 @@ use lib.ListN.{length}
 use Rattle.geometry.specs.Place.{address}
 use Rattle.geometry.specs.Cartridge.{lastOf, isUser}
 use Rattle.geometry.specs.declared.cartridge.Geometry.{Geometry}
-use Rattle.geometry.proofs.Last.{frames-of}
+use Rattle.geometry.proofs.Last.{frames-of, last-small}
 use Rattle.geometry.proofs.TestLaws.{neither}
+use Rattle.frame.specs.declared.element.Kind.the-variants.{Marker}
 use Rattle.header.specs.Valid.{headerOf}
 use Rattle.header.proofs.Facts.{valid-last, valid-pass}
 use Rattle.judgement.specs.Judgement.{endsFrom}
 use Rattle.judgement.specs.declared.told.Told.{Told}
+use Rattle.judgement.proofs.Facts.{FoundAs}
 use Rattle.recording_state.specs.State.{accepting}
 use Rattle.recording_state.specs.declared.state.State.{State}
 use Rattle.reading_state.specs.State.{isAtEnd, endOf}
@@ -32,17 +35,19 @@ use Rattle.archive.specs.Recordings as recordings
 use Rattle.archive.specs.Recordings.{Element}
 use Rattle.archive.specs.Readings as readings
 use Rattle.archive.specs.Demand.{Opening, opened, newPass, OnNewest, NoneBears, Faithful, Readable, Within}
-use Rattle.archive.specs.Chain.{HasRead, Start, fresh, added, earlierOf, OnItsNewest, AsItStands, NoneAbove, NoneInTheWay, Continued}
+use Rattle.archive.specs.Chain.{HasRead, HasRecorded, Start, fresh, added, earlierOf, OnItsNewest, AsItStands, NoneAbove, NoneInTheWay, Continued}
 use Rattle.archive.proofs.tape.Seen.{Seen, Clean}
+use Rattle.archive.proofs.tape.Stands.{telling}
 use Rattle.archive.proofs.tape.FoldLaws.{fold-users}
 use Rattle.archive.proofs.tape.Ended.{EndsHere, fold-ended, ends-known}
 use Rattle.archive.proofs.reading.Invariant.{Ended}
 use Rattle.archive.proofs.reading.Promises.{AtEnd, at-end-so}
+use Rattle.archive.proofs.recording.Trailing.{Prior, Marked, Traces, priorOf}
 use Rattle.archive.proofs.recording.Setting.{Setting, HeadersLeft, Leaves}
 use Rattle.archive.proofs.recording.Invariant.{Inv, live, rejecting, over}
 use Rattle.archive.proofs.recording.InvariantLaws.{flight-awaits, fetch-awaited}
-use Rattle.archive.proofs.recording.Start.{Started, started-as, starts-below, sets, pass-is, nothing-seen, nothing-borne, begins}
-use Rattle.archive.proofs.recording.Added.{AddedView, at-end-facts, added-view, added-started, added-pass, added-below, added-seen, added-clean}
+use Rattle.archive.proofs.recording.Start.{Started, started-as, starts-below, sets, pass-is, trail-none, nothing-seen, nothing-borne, nothing-traced, begins}
+use Rattle.archive.proofs.recording.Added.{AddedView, at-end-facts, added-view, added-started, added-pass, added-traced, marker-low, added-below, added-seen, added-clean}
 use Rattle.archive.proofs.recording.Noted.{noted, runs-with}
 use Rattle.archive.proofs.recording.HeaderCopies.{Below}
 use Rattle.archive.proofs.recording.DriveMoves.{keeps-move}
@@ -53,12 +58,12 @@ use Rattle.archive.proofs.Fold.{Opens, reading-is-fold, reading-opened,
 
 -- ---- the invariant holds after every list
 
-runs-keep : {last pass : ℕ} {on-newest none-bears : Type 0} {w v : recordings.World} {cs : List recordings.Call} → Setting last pass → Inv last pass on-newest none-bears w → recordings.Runs w cs v → Inv last pass on-newest none-bears v
+runs-keep : {last pass : ℕ} {on-newest none-bears : Type 0} {prior : Prior} {w v : recordings.World} {cs : List recordings.Call} → Setting last pass → Inv last pass on-newest none-bears prior w → recordings.Runs w cs v → Inv last pass on-newest none-bears prior v
 runs-keep set i recordings.stop = i
 runs-keep set i (recordings.call c rest) = runs-keep set (keeps-call _ _ _ set i c) rest
 runs-keep set i (recordings.drive m rest) = runs-keep set (keeps-move _ _ set i m) rest
 
-within : {last pass : ℕ} {on-newest none-bears : Type 0} {w : recordings.World} → Inv last pass on-newest none-bears w → Within last (w .drive .written)
+within : {last pass : ℕ} {on-newest none-bears : Type 0} {prior : Prior} {w : recordings.World} → Inv last pass on-newest none-bears prior w → Within last (w .drive .written)
 within (live h _) = h
 within (rejecting h _) = h
 within (over h _) = h
@@ -115,24 +120,31 @@ module _ (g : Geometry) (last : ℕ) (seg : g .segtrk < 2 ^ 16) (trk : g .trks <
 -- ---- the invariant of a session, behind the elements that the cartridge held already
 
 -- of the list as it is, and of the same with its window noted as altered, where nothing of what the tape held need be known
-pub record Kept (last pass : ℕ) (on-newest as-it-stands none-in-the-way : Type 0) (earlier : List Element) (w : recordings.World) : Type 0 where
+pub record Kept (last pass : ℕ) (on-newest as-it-stands none-in-the-way : Type 0) (prior : Prior) (earlier : List Element) (w : recordings.World) : Type 0 where
   pub set : Setting last pass
-  pub whole : Inv last pass on-newest (as-it-stands × none-in-the-way) (noted earlier true w)
-  pub frames : Inv last pass on-newest none-in-the-way (noted earlier false w)
+  pub whole : Inv last pass on-newest (as-it-stands × none-in-the-way) prior (noted earlier true w)
+  pub frames : Inv last pass on-newest none-in-the-way prior (noted earlier false w)
+
+-- where its elements start
+abbrev pub startOf : {g : Geometry} {last : ℕ} {s : State} → Start g last s → ℕ
+startOf (fresh depth blocks o q) = 10
+startOf (added depth blocks u h r read q) = endOf (r .session) .0
 
 module _ (g : Geometry) (last : ℕ) (seg : g .segtrk < 2 ^ 16) (trk : g .trks < 2 ^ 16) (e : lastOf g ≡ address last) (d : Drive) (window : List ℕ) (calls : List recordings.Call) (w : recordings.World)
     (cart : Cartridge last (d .tape)) (unwritten : d .written ≡ []) (rest : AtRest d) where
   -- from the start of its elements, and what the cartridge was then
   begun-kept : (s : State) (earlier : List Element) (at : ℕ) (x : Started last earlier at s) (on-newest as-it-stands none-in-the-way : Type 0) → recordings.Runs (recordings.started s window d) calls w
       → (on-newest → Below last (s .copies .header) (d .tape)) → (as-it-stands → none-in-the-way → Seen last (s .copies .header .pass) earlier (length earlier) at (d .tape))
-      → (none-in-the-way → Clean last (s .copies .header .pass) at (d .tape)) → Kept last (s .copies .header .pass) on-newest as-it-stands none-in-the-way earlier w
-  begun-kept s earlier at x on-newest as-it-stands none-in-the-way r below seen clean =
+      → (none-in-the-way → Clean last (s .copies .header .pass) at (d .tape))
+      → Traces earlier (Marked (priorOf last (s .copies .header .pass) earlier at (d .tape) as-it-stands) last (s .copies .header .pass) at (d .tape)) (length earlier) (s .elements .trail)
+      → Kept last (s .copies .header .pass) on-newest as-it-stands none-in-the-way (priorOf last (s .copies .header .pass) earlier at (d .tape) as-it-stands) earlier w
+  begun-kept s earlier at x on-newest as-it-stands none-in-the-way r below seen clean traced =
       let set = sets g last earlier at s seg trk e x in
       record {
         set = set;
         whole =
-            runs-keep set (begins last d window earlier true at s x on-newest (as-it-stands × none-in-the-way) set unwritten rest cart below (λ c _. seen (c .0) (c .1)) (λ c. clean (c .1))) (runs-with earlier true r);
-        frames = runs-keep set (begins last d window earlier false at s x on-newest none-in-the-way set unwritten rest cart below (λ _ z. absurd (true≢false (sym z))) clean) (runs-with earlier false r);
+            runs-keep set (begins last d window earlier true at s x on-newest (as-it-stands × none-in-the-way) as-it-stands set unwritten rest cart below (λ c _. seen (c .0) (c .1)) (λ c. clean (c .1)) traced) (runs-with earlier true r);
+        frames = runs-keep set (begins last d window earlier false at s x on-newest none-in-the-way as-it-stands set unwritten rest cart below (λ _ z. absurd (true≢false (sym z))) clean traced) (runs-with earlier false r);
       }
 
   -- ---- opened afresh
@@ -141,69 +153,86 @@ module _ (g : Geometry) (last : ℕ) (seg : g .segtrk < 2 ^ 16) (trk : g .trks <
     none-there : NoneBears last (d .tape) (newPass o) → NoneBears last (d .tape) (s .copies .header .pass)
     none-there = subst (NoneBears last (d .tape)) (sym (pass-is g last depth blocks s e o op))
 
-    fresh-kept : recordings.Runs (recordings.started s window d) calls w → Kept last (s .copies .header .pass) (OnNewest last (d .tape) o) (Unit {0}) (NoneBears last (d .tape) (newPass o)) [] w
+    fresh-kept : recordings.Runs (recordings.started s window d) calls w → Kept last (s .copies .header .pass) (OnNewest last (d .tape) o) (Unit {0}) (NoneBears last (d .tape) (newPass o)) (priorOf last (s .copies .header .pass) [] 10 (d .tape) (Unit {0})) [] w
     fresh-kept r =
         begun-kept s [] 10 (started-as g last depth blocks s e (frames-of g last e .large) o op) (OnNewest last (d .tape) o) (Unit {0}) (NoneBears last (d .tape) (newPass o)) r
         (starts-below g last depth blocks s e (d .tape) o op) (λ _ none. nothing-seen last (s .copies .header .pass) (d .tape) cart (none-there none))
         (λ none. nothing-borne last (s .copies .header .pass) (d .tape) (none-there none))
+        (nothing-traced _ (s .elements .trail) (trail-none g last depth blocks s e o op))
 
-  -- ---- opened at the end of a reading
+-- ---- a session that was opened at the end of a reading
 
-  module _ (s : State) (depth blocks : ℕ) (u : Tape) (h : List ℕ) (r : readings.World) (read : HasRead g last u h r) (op : openAtEndOf (r .session) depth blocks ≡ accepting s) where
-    view : AddedView (r .session) depth blocks s
-    view = added-view (r .session) depth blocks s op
+module _ (g : Geometry) (last : ℕ) (seg : g .segtrk < 2 ^ 16) (trk : g .trks < 2 ^ 16) (e : lastOf g ≡ address last)
+    (s : State) (depth blocks : ℕ) (u : Tape) (h : List ℕ) (r : readings.World) (read : HasRead g last u h r) (op : openAtEndOf (r .session) depth blocks ≡ accepting s) where
+  view : AddedView (r .session) depth blocks s
+  view = added-view (r .session) depth blocks s op
 
-    pub added-ended : AtEnd (toldOf (headerOf h)) u r
-    added-ended = read-ended g last seg trk e read (view .finished-is) (view .going-on)
+  pub added-ended : AtEnd (toldOf (headerOf h)) u r
+  added-ended = read-ended g last seg trk e read (view .finished-is) (view .going-on)
 
-    opened-is : Opens last h (reading.openOf g h)
-    opened-is = reading-opened g last u h (read .at) (read .calls) r seg trk e (read .cartridge) (read .opens) (read .runs)
+  opened-is : Opens last h (reading.openOf g h)
+  opened-is = reading-opened g last u h (read .at) (read .calls) r seg trk e (read .cartridge) (read .opens) (read .runs)
 
-    large : 3000 ≤ last
-    large = frames-of g last e .large
+  large : 3000 ≤ last
+  large = frames-of g last e .large
 
+  -- the reading ended so on a cartridge with the same user frames
+  ended-now : (t : Tape) → SameFrames last u t → Ended (toldOf (headerOf h)) t (r .session) (r .notes .deliveries)
+  ended-now t same =
+      let x = added-ended .ended in
+      let users = subst (λ (n : ℕ). SameFrames n u t) (sym (opened-is .last-is)) same in
+      record {
+        told-is = x .told-is;
+        so-far = sym (fold-users (toldOf (headerOf h)) u t users (endOf (r .session) .0)) ∙ x .so-far;
+        whole = sym (fold-users (toldOf (headerOf h)) u t users (headerOf h .last .0 + 1)) ∙ x .whole;
+      }
+
+  pub pass-kept : headerOf h .pass ≡ s .copies .header .pass
+  pass-kept = sym (added-pass (toldOf (headerOf h)) last u (r .session) (r .notes .deliveries) large (opened-is .last-is) (added-ended .ended) depth blocks s view)
+
+  -- so the current markers of such a cartridge are below the old end, if none above bears the pass
+  pub markers-low : (t : Tape) → SameFrames last u t → NoneAbove last t (endOf (r .session) .0) (headerOf h .pass)
+      → (j b : ℕ) (f : List ℕ) → isUser last b ≡ true → t b ≡ some f → FoundAs (telling last (headerOf h .pass) 0) (record { 0 = j }) Marker f → b < endOf (r .session) .0
+  markers-low t same = marker-low (toldOf (headerOf h)) last t (r .session) (r .notes .deliveries) large (opened-is .last-is) (ended-now t same) depth blocks s view
+
+  module _ (d : Drive) (window : List ℕ) (calls : List recordings.Call) (w : recordings.World) (cart : Cartridge last (d .tape)) (unwritten : d .written ≡ []) (rest : AtRest d) where
     abbrev None : Type 0
     None = NoneAbove last (d .tape) (endOf (r .session) .0) (headerOf h .pass)
 
-    -- the reading ended so on the cartridge as it stands
-    ended-now : SameFrames last u (d .tape) → Ended (toldOf (headerOf h)) (d .tape) (r .session) (r .notes .deliveries)
-    ended-now same =
-        let x = added-ended .ended in
-        let users = subst (λ (n : ℕ). SameFrames n u (d .tape)) (sym (opened-is .last-is)) same in
-        record {
-          told-is = x .told-is;
-          so-far = sym (fold-users (toldOf (headerOf h)) u (d .tape) users (endOf (r .session) .0)) ∙ x .so-far;
-          whole = sym (fold-users (toldOf (headerOf h)) u (d .tape) users (headerOf h .last .0 + 1)) ∙ x .whole;
-        }
-
-    pass-kept : headerOf h .pass ≡ s .copies .header .pass
-    pass-kept = sym (added-pass (toldOf (headerOf h)) last u (r .session) (r .notes .deliveries) large (opened-is .last-is) (added-ended .ended) depth blocks s view)
-
-    added-kept : recordings.Runs (recordings.started s window d) calls w → Kept last (s .copies .header .pass) (Newest last (d .tape) h) (SameFrames last u (d .tape)) None (r .notes .deliveries) w
+    added-kept : recordings.Runs (recordings.started s window d) calls w → Kept last (s .copies .header .pass) (Newest last (d .tape) h) (SameFrames last u (d .tape)) None
+        (priorOf last (s .copies .header .pass) (r .notes .deliveries) (endOf (r .session) .0) (d .tape) (SameFrames last u (d .tape))) (r .notes .deliveries) w
     added-kept runs =
-        begun-kept s (r .notes .deliveries) (endOf (r .session) .0)
+        begun-kept g last seg trk e d window calls w cart unwritten rest s (r .notes .deliveries) (endOf (r .session) .0)
         (added-started (toldOf (headerOf h)) last u (r .session) (r .notes .deliveries) large (opened-is .last-is) (added-ended .ended) depth blocks s view (valid-pass last h (opened-is .valid)))
         (Newest last (d .tape) h) (SameFrames last u (d .tape)) None runs
         (added-below (toldOf (headerOf h)) last u (r .session) (r .notes .deliveries) large (opened-is .last-is) (added-ended .ended) depth blocks s view h refl (d .tape))
         (λ same none.
         subst (λ (n : ℕ). Seen last n (r .notes .deliveries) (length (r .notes .deliveries)) (endOf (r .session) .0) (d .tape)) pass-kept
-        (added-seen (toldOf (headerOf h)) last (d .tape) (r .session) (r .notes .deliveries) large (opened-is .last-is) (ended-now same) depth blocks s view cart none))
+        (added-seen (toldOf (headerOf h)) last (d .tape) (r .session) (r .notes .deliveries) large (opened-is .last-is) (ended-now (d .tape) same) depth blocks s view cart none))
         (λ none. subst (λ (n : ℕ). Clean last n (endOf (r .session) .0) (d .tape)) pass-kept (added-clean none))
+        (added-traced (toldOf (headerOf h)) last u (r .session) (r .notes .deliveries) large (opened-is .last-is) (added-ended .ended) depth blocks s view (last-small g last seg trk (frames-of g last e)) (d .tape))
 
-  -- ---- however it was opened
+-- ---- however it was opened
 
-  pub start-kept : (s : State) (b : Start g last s) → recordings.Runs (recordings.started s window d) calls w
-      → Kept last (s .copies .header .pass) (OnItsNewest b (d .tape)) (AsItStands b (d .tape)) (NoneInTheWay b (d .tape)) (earlierOf b) w
-  start-kept s (fresh depth blocks o op) r = fresh-kept s depth blocks o op r
-  start-kept s (added depth blocks u h r read op) runs = added-kept s depth blocks u h r read op runs
+pub start-kept : (g : Geometry) (last : ℕ) → g .segtrk < 2 ^ 16 → g .trks < 2 ^ 16 → lastOf g ≡ address last → (d : Drive) (window : List ℕ) (calls : List recordings.Call) (w : recordings.World)
+    → Cartridge last (d .tape) → d .written ≡ [] → AtRest d → (s : State) (b : Start g last s) → recordings.Runs (recordings.started s window d) calls w
+    → Kept last (s .copies .header .pass) (OnItsNewest b (d .tape)) (AsItStands b (d .tape)) (NoneInTheWay b (d .tape))
+    (priorOf last (s .copies .header .pass) (earlierOf b) (startOf b) (d .tape) (AsItStands b (d .tape))) (earlierOf b) w
+start-kept g last seg trk e d window calls w cart unwritten rest s (fresh depth blocks o op) r = fresh-kept g last seg trk e d window calls w cart unwritten rest s depth blocks o op r
+start-kept g last seg trk e d window calls w cart unwritten rest s (added depth blocks u h r read op) runs = added-kept g last seg trk e s depth blocks u h r read op d window calls w cart unwritten rest runs
 
-module _ {last pass : ℕ} {on-newest as-it-stands none-in-the-way : Type 0} {earlier : List Element} {w : recordings.World} (k : Kept last pass on-newest as-it-stands none-in-the-way earlier w) where
+pub kept-after : (g : Geometry) (last : ℕ) → g .segtrk < 2 ^ 16 → g .trks < 2 ^ 16 → lastOf g ≡ address last → (d : Drive) (w : recordings.World) (s : State) (b : Start g last s) → HasRecorded last d s w
+    → Kept last (s .copies .header .pass) (OnItsNewest b (d .tape)) (AsItStands b (d .tape)) (NoneInTheWay b (d .tape))
+    (priorOf last (s .copies .header .pass) (earlierOf b) (startOf b) (d .tape) (AsItStands b (d .tape))) (earlierOf b) w
+kept-after g last seg trk e d w s b x = start-kept g last seg trk e d (x .window) (x .calls) w (x .cartridge) (x .unwritten) (x .rests) s b (x .runs)
+
+module _ {last pass : ℕ} {on-newest as-it-stands none-in-the-way : Type 0} {prior : Prior} {earlier : List Element} {w : recordings.World} (k : Kept last pass on-newest as-it-stands none-in-the-way prior earlier w) where
   -- the tape, where all is as it should be
   pub leaves : on-newest → as-it-stands → none-in-the-way → w .notes .unaltered ≡ true → w .notes .reported ≡ true → Leaves last pass (as-it-stands × none-in-the-way) (w .drive .tape) (earlier ++ w .notes .accepted)
   leaves newest same none = completes (noted earlier true w) (k .set) (k .whole) newest (same, none)
 
   -- its headers, where less is
-  headers : on-newest → w .notes .reported ≡ true → HeadersLeft last pass none-in-the-way (length (earlier ++ w .notes .accepted)) (w .drive .tape)
+  pub headers : on-newest → w .notes .reported ≡ true → HeadersLeft last pass none-in-the-way (length (earlier ++ w .notes .accepted)) (w .drive .tape)
   headers = closes (noted earlier false w) (k .set) (k .frames)
 
 pub continued : (g : Geometry) (last : ℕ) (d : Drive) (s : State) (b : Start g last s) (window : List ℕ) (calls : List recordings.Call) (w : recordings.World)

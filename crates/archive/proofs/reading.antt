@@ -1,4 +1,5 @@
 pub mod Facts
+pub mod FoldTrails
 pub mod Bound
 pub mod Invariant
 pub mod Serves
@@ -6,3 +7,4 @@ pub mod Fetches
 pub mod Replies
 pub mod Calls
 pub mod Promises
+pub mod ListedReplies

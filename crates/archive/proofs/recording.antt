@@ -1,6 +1,8 @@
 pub mod HeaderCopies
 pub mod CopiesLink
 pub mod ElementsLink
+pub mod Trailing
+pub mod TrailingLaws
 pub mod Invariant
 pub mod InvariantLaws
 pub mod Setting
@@ -10,6 +12,7 @@ pub mod Added
 pub mod CopiesMoves
 pub mod ElementsMoves
 pub mod ContentMoves
+pub mod TrailingMoves
 pub mod DriveMoves
 pub mod KeptAgreement
 pub mod Accepts

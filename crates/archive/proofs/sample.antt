@@ -13,3 +13,4 @@ pub mod AddedRecording
 pub mod AddedReading
 pub mod ThirdRecording
 pub mod ThirdReading
+pub mod ThirdTrails

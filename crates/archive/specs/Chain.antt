@@ -35,6 +35,15 @@ pub record HasRead (g : Geometry) (last : ℕ) (t : Tape) (h : List ℕ) (w : re
   pub calls : List readings.Call
   pub runs : readings.Runs t (readings.started (reading.openOf g h .session) at) calls w
 
+-- where a list of a recording's calls on such a cartridge has come, from a session just opened and a drive that rests and has written nothing for it yet
+pub record HasRecorded (last : ℕ) (d : Drive) (s : State) (w : recordings.World) : Type 0 where
+  pub cartridge : Cartridge last (d .tape)
+  pub unwritten : d .written ≡ []
+  pub rests : AtRest d
+  pub window : List ℕ
+  pub calls : List recordings.Call
+  pub runs : recordings.Runs (recordings.started s window d) calls w
+
 -- how a session was opened: afresh, as demand 3 has it, or at the end that a reading found
 pub data Start (g : Geometry) (last : ℕ) (s : State) : Type 0 where
   fresh : (depth blocks : ℕ) (o : Opening) → opened g depth blocks o ≡ accepting s → Start g last s
@@ -45,6 +54,11 @@ pub data Start (g : Geometry) (last : ℕ) (s : State) : Type 0 where
 abbrev pub earlierOf : {g : Geometry} {last : ℕ} {s : State} → Start g last s → List Element
 earlierOf (fresh depth blocks o q) = []
 earlierOf (added depth blocks u h r read q) = r .notes .deliveries
+
+-- the pass that its elements' frames bear
+abbrev pub passOf : {g : Geometry} {last : ℕ} {s : State} → Start g last s → ℕ
+passOf (fresh depth blocks o q) = newPass o
+passOf (added depth blocks u h r read q) = headerOf h .pass
 
 -- opened on the newest header that the cartridge holds, or afresh on none where it holds none
 abbrev pub OnItsNewest : {g : Geometry} {last : ℕ} {s : State} → Start g last s → Tape → Type 0

@@ -1,9 +1,9 @@
 -- What is known of a frame by how it is judged. Assumes nothing.
 use mathlib.Core.Path.{_≡_, refl, sym, subst, _∙_}
-use mathlib.Core.Bool.{Bool, true, false, true≢false}
+use mathlib.Core.Bool.{true, false, true≢false}
 use mathlib.Core.List.{List}
 use mathlib.Core.Logic.{_⊎_, inl, inr}
-use Prim.Native.Nat.{ℕ, _≤_, _<_}
+use Prim.Native.Nat.{ℕ, _<_}
 use native.Mathlib.Omega.{arith}
 use borrow.Author.Tests.{ltb-true, ltb-false, eqb-true, eqb-false}
 use lib.Dec.{eqb, ltb}
@@ -83,7 +83,7 @@ module _ (told : Told) (at : Address) (expected : Seq) (frame : List ℕ) where
   judge-view = pick-by View (eqb (length frame) 33280) (λ e. aux-view (eqb-true _ _ e)) (λ e. wrong-length (eqb-false _ _ e))
 
 -- so what was found is known by the answer
-found-kind : (k m : Kind) → foundSaid m ≡ foundSaid k → m ≡ k
+pub found-kind : (k m : Kind) → foundSaid m ≡ foundSaid k → m ≡ k
 found-kind Data Data e = refl
 found-kind Marker Marker e = refl
 found-kind Eod Eod e = refl
@@ -103,9 +103,11 @@ refused-known long (found Data e _ _) = never (cc)
 refused-known long (found Marker e _ _) = never (cc)
 refused-known long (found Eod e _ _) = never (cc)
 
-module _ {told : Told} {at : Address} {expected : Seq} {frame : List ℕ} where
-  -- an EOD that ends reading is no earlier end
-  pub end-known : JudgeView told at expected frame (foundSaid Eod) → FoundAs told expected Eod frame × (endsFrom told ≤ at .0)
-  end-known (found m e late h) =
-      let same = found-kind Eod m e in
-      (rw (← same) h, ltb-false (at .0) (endsFrom told) (subst (λ (k : Kind). isEarlierEnd k told at ≡ false) same late))
+as-kind : (told : Told) (at : Address) (expected : Seq) (frame : List ℕ) (k m : Kind) → foundSaid m ≡ foundSaid k → isEarlierEnd m told at ≡ false → FoundAs told expected m frame → FoundAs told expected k frame × (isEarlierEnd k told at ≡ false)
+as-kind told at expected frame k m e late h = let same = found-kind k m e in (rw (← same) h, subst (λ (x : Kind). isEarlierEnd x told at ≡ false) same late)
+
+-- one that is delivered or ends reading, which is no earlier end
+pub found-known : {told : Told} {at : Address} {expected : Seq} {frame : List ℕ} (k : Kind) → JudgeView told at expected frame (foundSaid k) → FoundAs told expected k frame × (isEarlierEnd k told at ≡ false)
+found-known Data (found m e late h) = as-kind _ _ _ _ Data m e late h
+found-known Marker (found m e late h) = as-kind _ _ _ _ Marker m e late h
+found-known Eod (found m e late h) = as-kind _ _ _ _ Eod m e late h

@@ -3,6 +3,7 @@ use mathlib.Core.Path.{_≡_}
 use mathlib.Core.Bool.{true}
 use Rattle.geometry.proofs.TestLaws.{and-true}
 use Rattle.reading_state.specs.declared.state.State.{State}
+use Rattle.exchange_twins.specs.ComesBack.{ComesBack}
 use Rattle.exchange_twins.specs.Numbers.{isFlag, isExchange}
 use Rattle.exchange_twins.proofs.FlagLaws.{flag-back, flag-known, flag-number}
 use Rattle.exchange_twins.proofs.Inverse.{exchange-back, exchange-known, exchange-number}
@@ -27,3 +28,6 @@ reading-numbers t h =
     let h2 = and-true _ (isFlag (t .finished)) (h3 .0) in
     let h1 = and-true (isExchange (t .exchange)) (isFlag (t .position .locate)) (h2 .0) in
     rw (exchange-number (t .exchange) (h1 .0), flag-number (t .position .locate) (h1 .1), flag-number (t .finished) (h2 .1), flag-number (t .ended) (h3 .1))
+
+pub reading-comes-back : ComesBack isReading readingOf readingTwin
+reading-comes-back = record { back = reading-back; known = reading-known; numbers = reading-numbers }

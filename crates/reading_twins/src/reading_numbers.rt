@@ -1,5 +1,6 @@
 // A reading session as numbers.
 ghost use mathlib.Core.Path.{_≡_};
+ghost use Rattle.exchange_twins.specs.ComesBack.{ComesBack};
 ghost use Rattle.reading_twins.specs.Reading.{isReading, readingOf, readingTwin};
 use exchange_twins::AdrExchange;
 use exchange_twins::AdrTrail;
@@ -49,9 +50,9 @@ pub fn is_reading(s: AdrReading) -> bool
     is_exchange(exchange) & (s.position.locate <= 1) & (s.finished <= 1) & (s.ended <= 1)
 }
 
-// The session that the numbers stand for, where they are one's.
+// The session that the numbers stand for, where they are one's. The contract also says that no session is lost on the way to its numbers and back.
 pub fn reading_of(s: AdrReading) -> State
-    ensures { λ r. ⌜ r ≡ readingOf s ⌝ }
+    ensures { λ r. ⌜ (r ≡ readingOf s) × ComesBack isReading readingOf readingTwin ⌝ }
 {
     let told = s.told;
     let position = s.position;

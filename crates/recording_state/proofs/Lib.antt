@@ -7,4 +7,5 @@ pub mod FetchView
 pub mod ReplyView
 pub mod Refusals
 pub mod ListedReplies
+pub mod LawfulReplies
 pub mod Sizes

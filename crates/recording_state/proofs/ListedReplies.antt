@@ -3,21 +3,22 @@ use Prim.Native.Nat.{ℕ, _≤_, _<_}
 use mathlib.Core.Path.{_≡_, refl, ap}
 use mathlib.Core.Bool.{true, false}
 use mathlib.Core.Logic.{_⊎_, inl, inr, ⊎-elim}
-use native.Mathlib.Decide.{ℕ-discrete}
 use native.Mathlib.Omega.{arith}
 use lib.Dec.{eqb}
 use Rattle.geometry.proofs.PickLaws.{pick-by}
 use Rattle.geometry.specs.Cartridge.{isHeader}
 use Rattle.geometry.specs.declared.address.Address.{Address}
 use Rattle.geometry.proofs.Impossible.{never, clash}
+use Rattle.geometry.proofs.NumberTests.{is-unless}
 use Rattle.drive.specs.Command.{commandCode}
 use Rattle.drive.specs.Cases.{caseNumber, writeOverflow, positionGood}
 use Rattle.drive.specs.Listed as on
-use Rattle.drive.specs.Listed.{Listed}
+use Rattle.drive.specs.Listed.{Listed, Means}
 use Rattle.drive.specs.Senses.{meaningOf, good, busy, writeError, volumeOverflow}
 use Rattle.drive.specs.declared.command.Command.{Command}
-use Rattle.drive.specs.declared.command.Command.the-variants.{Read, Write}
+use Rattle.drive.specs.declared.command.Command.the-variants.{Read, Write, ReadPosition}
 use Rattle.drive.specs.declared.reply.Reply.{Reply}
+use Rattle.drive.proofs.CaseLaws.{case-parts, by-position}
 use Rattle.drive.proofs.ListedCases.{at-write, at-locate, at-position}
 use Rattle.copies.specs.Copies as copies
 use Rattle.copies.specs.Copies.{oldestAddress, nextAddress}
@@ -27,6 +28,7 @@ use Rattle.elements.specs.Reply as reply
 use Rattle.elements.proofs.ReplyView as steps
 use Rattle.recording_state.specs.State.{OutcomeSaid}
 use Rattle.recording_state.specs.Reply.{headerReplyBy, elementReplyBy, stageReply, caseOf, replyOf}
+use Rattle.recording_state.specs.Lawful.{Lawful}
 use Rattle.recording_state.specs.declared.state.State.{State}
 use Rattle.recording_state.proofs.Stages.{HeaderStage, ElementStage, header-not-done, element-not-done}
 use Rattle.recording_state.proofs.Refusals.{onward-number}
@@ -79,19 +81,19 @@ module _ (s : State) (r : Reply) where
 
   -- so one that is not listed is refused with 8
   pub unlisted-refused : s .ended ≡ false → s .exchange .awaiting ≡ true → OffHeaders s → (Here → ⊥) → replyOf s r .number ≡ 8
-  unlisted-refused running awaited off unlisted = go (ℕ-discrete (replyOf s r .number) 8)
-    where
-      go : Dec (replyOf s r .number ≡ 8) → replyOf s r .number ≡ 8
-      go (yes e) = e
-      go (no h) = absurd (unlisted (taken-listed running awaited off h))
+  unlisted-refused running awaited off unlisted = is-unless (replyOf s r .number) 8 (taken-listed running awaited off) unlisted
 
   -- ---- a listed reply whose numbers are possible is not
 
-  -- f is at most the frames outstanding, and p is outstanding
-  pub record Possible (outstanding oldest next : ℕ) : Type 0 where
-    pub counted : caseOf s r ≡ positionGood → r .buffered ≤ outstanding
-    pub from : Failed (caseOf s r) → oldest ≤ r .position .0
-    pub below : Failed (caseOf s r) → r .position .0 < next
+  -- what the case of a READ POSITION answered good, and that of a write error, tell
+  pub is-counted : caseOf s r ≡ positionGood → (s .exchange .command ≡ ReadPosition) × Means r good
+  is-counted e =
+      let p = case-parts (s .exchange .command) r 0x34 good (omega arith) e in
+      (by-position (λ (c : Command). c ≡ ReadPosition) (s .exchange .command) (p .0) refl, p .1)
+
+  pub is-failed : Failed (caseOf s r) → Means r writeError
+  is-failed (inl e) = case-parts (s .exchange .command) r 0x0A writeError (omega arith) e .1
+  is-failed (inr e) = case-parts (s .exchange .command) r 0x34 writeError (omega arith) e .1
 
   listed-case : (c : Command) (m : ℕ) → Listed c m → ((a : Address) → c ≡ Read a → ⊥) → Foreseen (caseNumber (commandCode c) m)
   listed-case c m on.locate-good h = view.located refl
@@ -128,11 +130,6 @@ module _ (s : State) (r : Reply) where
   no-overflow c m on.read-end-of-data h e = omega (arith, e)
   no-overflow c m on.read-end-of-medium h e = omega (arith, e)
 
-  -- the numbers that a reply may bring, by stage
-  pub record Lawful : Type 0 where
-    pub in-headers : HeaderStage s → Possible (s .copies .outstanding) (oldestAddress (s .copies) .0) (nextAddress (s .copies) .0)
-    pub in-elements : ElementStage s → Possible (s .elements .outstanding) (baseOf (s .elements) .0) (s .elements .next .0)
-
   header-number : (x : copies.ProgressSaid) → (x ≡ copies.refused 8 → ⊥) → headerReplyBy x s .number ≡ 8 → ⊥
   header-number (copies.more _) h q = omega arith
   header-number copies.complete h q = omega arith
@@ -160,7 +157,7 @@ module _ (s : State) (r : Reply) where
   elements-failed p l (steps.failed _ _ _) q = omega arith
   elements-failed p l (steps.full _ _ _) q = omega arith
 
-  module _ (stage : HeaderStage s ⊎ ElementStage s) (no-read : (a : Address) → s .exchange .command ≡ Read a → ⊥) (on-headers : OnHeaders s) (lawful : Lawful) (listed : Here) where
+  module _ (stage : HeaderStage s ⊎ ElementStage s) (no-read : (a : Address) → s .exchange .command ≡ Read a → ⊥) (on-headers : OnHeaders s) (lawful : Lawful s (s .exchange .command) r) (listed : Here) where
     -- by stage, where neither machine refuses with 8
     stage-number : (c : copies.ProgressSaid) (x : reply.SteppedSaid) → (HeaderStage s → c ≡ copies.refused 8 → ⊥) → (ElementStage s → x .number ≡ 8 → ⊥) → stageReply s c x .number ≡ 8 → ⊥
     stage-number c x h k = go (view.stage-view s c x)
@@ -179,10 +176,12 @@ module _ (s : State) (r : Reply) where
         go (view.located _) q = stage-number _ _ (λ _ e. never (cc)) (λ _ e. omega arith) q
         go (view.taken _) q = stage-number _ _ (λ _ e. never (cc)) (λ _ e. omega arith) q
         go (view.counted n) q =
-            stage-number _ _ (λ st. copies-counted (lawful .in-headers st .counted n) (copying.counted-view (s .copies) (r .buffered)))
-            (λ st. elements-counted (lawful .in-elements st .counted n) (steps.counted-view (s .elements) (r .buffered))) q
+            let m = is-counted n in
+            stage-number _ _ (λ st. copies-counted (omega (arith, lawful .in-headers st .counted (m .0) (m .1))) (copying.counted-view (s .copies) (r .buffered)))
+            (λ st. elements-counted (omega (arith, lawful .in-elements st .counted (m .0) (m .1))) (steps.counted-view (s .elements) (r .buffered))) q
         go (view.failed n) q =
-            stage-number _ _ (λ st. copies-failed (lawful .in-headers st .from n) (lawful .in-headers st .below n) (copying.failed-view (s .copies) (r .position)))
-            (λ st. elements-failed (lawful .in-elements st .from n) (lawful .in-elements st .below n) (steps.failed-view (s .elements) (r .position) (r .skip))) q
+            let m = is-failed n in
+            stage-number _ _ (λ st. copies-failed (omega (arith, lawful .in-headers st .from m)) (omega (arith, lawful .in-headers st .below m)) (copying.failed-view (s .copies) (r .position)))
+            (λ st. elements-failed (omega (arith, lawful .in-elements st .from m)) (omega (arith, lawful .in-elements st .below m)) (steps.failed-view (s .elements) (r .position) (r .skip))) q
         go (view.overflowed n) q = stage-number _ _ (λ st _. no-overflow (s .exchange .command) meaning listed (on-headers st) n) (λ _ e. omega arith) q
         go (view.unlisted u) q = u (listed-case (s .exchange .command) meaning listed no-read)

@@ -7,3 +7,4 @@ pub mod Due
 pub mod Written
 pub mod Fetch
 pub mod Reply
+pub mod Lawful

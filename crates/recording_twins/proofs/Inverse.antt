@@ -11,6 +11,7 @@ use Rattle.elements.specs.declared.elements.Elements.{Elements}
 use Rattle.recording_state.specs.declared.state.State.{State}
 use Rattle.recording_state.specs.declared.state.Stage.{Stage}
 use Rattle.recording_state.specs.declared.state.Stage.the-variants as S
+use Rattle.exchange_twins.specs.ComesBack.{ComesBack}
 use Rattle.exchange_twins.specs.Numbers.{isFlag, isExchange}
 use Rattle.exchange_twins.proofs.FlagLaws.{flag-back, flag-known, flag-number}
 use Rattle.exchange_twins.proofs.Inverse.{exchange-back, exchange-known, exchange-number}
@@ -84,3 +85,6 @@ recording-numbers t h =
     let h2 = and-true _ (isFlag (t .closed)) (h3 .0) in
     let h1 = and-true (isExchange (t .exchange)) (isStage (t .stage)) (h2 .0) in
     rw (exchange-number (t .exchange) (h1 .0), stage-number (t .stage) (h1 .1), flag-number (t .closed) (h2 .1), flag-number (t .ended) (h3 .1), flag-number (t .copies .locate) (h4 .1), flag-number (t .elements .locate) (h5 .1), flag-number (t .elements .eod) (h6 .1), flag-numbers (t .elements .marks) (h7 .1))
+
+pub recording-comes-back : ComesBack isRecording recordingOf recordingTwin
+recording-comes-back = record { back = recording-back; known = recording-known; numbers = recording-numbers }

@@ -24,7 +24,7 @@ use Rattle.archive.proofs.reading.Invariant.{Ordered, Stood, Served, lo
 
 -- ---- flights that differ
 
-none-sent : {X : Type 0} {c : Command} → _≡_ {A = Flight} readings.no-command (readings.sent c) → X
+pub none-sent : {X : Type 0} {c : Command} → _≡_ {A = Flight} readings.no-command (readings.sent c) → X
 none-sent e = never (cc)
 
 pub none-answered : {X : Type 0} {r : Reply} {f : Option (List ℕ)} → _≡_ {A = Flight} readings.no-command (readings.answered r f) → X

@@ -9,7 +9,7 @@ use native.Mathlib.Nat.{eq-or-lt-of-le, div-add-mod', mul-le-mul-right, mod-eq-o
 use native.Mathlib.Omega.{arith}
 use borrow.Author.Tests.{ltb-true, ltb-false, eqb-true}
 use lib.Dec.{eqb, ltb}
-use lib.ListN.{length, length-append, length-set}
+use lib.ListN.{length, getD, length-append, length-set}
 use lib.Seq.{getD-at}
 use Rattle.geometry.proofs.PickLaws.{pick-by}
 use Rattle.geometry.proofs.TestLaws.{or-false, and-true}
@@ -32,8 +32,12 @@ use Rattle.archive.specs.Recordings.{World, Element, block, filemark, Ta
 use Rattle.archive.proofs.tape.Basics.{no-effect}
 use Rattle.recording_state.proofs.WindowLaws.{put-same-block, put-other-block}
 use Rattle.archive.proofs.tape.SeenLaws.{seen-accept}
-use Rattle.archive.proofs.tape.Stands.{Item, element, eod, itemAt, Stands, Queue, StoredAs}
+use Rattle.archive.specs.Trails.{Item, element, eod, itemAt, isMarker}
+use Rattle.archive.proofs.tape.Marks.{isFilemark, mark-more, mark-new}
+use Rattle.archive.proofs.tape.Stands.{Stands, Queue, StoredAs}
 use Rattle.archive.proofs.tape.StandsLaws.{item-in, item-more}
+use Rattle.archive.proofs.recording.Trailing.{Prior, Buffered, holds, halted, Trailing}
+use Rattle.archive.proofs.recording.TrailingLaws.{traces-grow, says-grow, frames-grow, number-grow, written-grow, tape-grow}
 use Rattle.archive.proofs.recording.ElementsLink.{Writing}
 use Rattle.archive.proofs.recording.KeptAgreement.{agree-as, writing-as, writing-numbers, sent-due}
 use Rattle.archive.proofs.recording.Invariant as inv
@@ -119,7 +123,7 @@ queue-grow last pass xs ys k [] l q = tt
 queue-grow last pass xs ys k (f ∷ fs) l q =
     (subst (λ (x : Item). Stands last pass x k f) (sym (item-more xs ys k (omega arith))) (q .0), queue-grow last pass xs ys (k + 1) fs (omega arith) (q .1))
 
-module _ {last pass : ℕ} {on-newest none-bears : Type 0} (w : World) (set : Setting last pass) (l : Live last pass on-newest none-bears w) (mark : Bool) (x : Element) (acc : Accepting (w .session)) where
+module _ {last pass : ℕ} {on-newest none-bears : Type 0} {prior : Prior} (w : World) (set : Setting last pass) (l : Live last pass on-newest none-bears prior w) (mark : Bool) (x : Element) (acc : Accepting (w .session)) where
   -- the stages in which elements are accepted
   data Early (k edge : ℕ) : Type 0 where
     opening : w .session .stage ≡ S.OpeningHeaders → w .session .elements .eod ≡ false → Early k edge
@@ -246,9 +250,42 @@ module _ {last pass : ℕ} {on-newest none-bears : Type 0} (w : World) (set : Se
           stored = stored-more;
         }
 
-  live-more : (window : List ℕ) (unaltered : Bool) → (unaltered ≡ true → (w .notes .unaltered ≡ true) × Gains (w .session) (w .window) window x (elements.acceptedOf (w .session .elements) mark .marks))
-      → Live last pass on-newest none-bears (acceptedWorld w (withElement (w .session) mark) window unaltered x)
-  live-more window unaltered gain = record {
+  -- the filemarks before each frame stay
+  trailing-more : mark ≡ isMarker (element x) → Trailing last pass prior (w .notes .accepted ++ x ∷ []) (w .session .stage) (elements.acceptedOf (w .session .elements) mark) (w .drive) (w .flight) (l .k) (l .edge)
+  trailing-more same =
+      let xs = w .notes .accepted in
+      let y = l .trailing in
+      record {
+        from = y .from;
+        marked = λ i h. marked i (eq-or-lt-of-le (let z : i ≤ w .session .elements .pending = omega (arith, plain-pending) in z));
+        trail = traces-grow xs (x ∷ []) (omega (arith, count-is)) (y .trail);
+        written = λ j own h. written-grow xs (x ∷ []) (let z = k-low (l .course) in omega arith) (y .written j own h);
+        behind = λ st j a low high q. number-grow xs (x ∷ []) (let z = k-low (l .course) in omega arith) (y .behind st j a low high q);
+        queue = λ st. buffered (y .queue st);
+        sent = λ a f st q.
+            let due = sent-due (subst (Writing last (w .session) (w .drive) (l .k) (l .edge)) q (writing-of st)) in
+            says-grow xs (x ∷ []) (omega (arith, count-is)) (y .sent a f st q);
+        tape = λ s t. tape-grow xs (x ∷ []) (omega (arith, grown)) (y .tape s t);
+      }
+    where
+      buffered : Buffered last pass prior (w .notes .accepted) (w .session .elements) (w .drive) (l .k) (l .edge)
+          → Buffered last pass prior (w .notes .accepted ++ x ∷ []) (elements.acceptedOf (w .session .elements) mark) (w .drive) (l .k) (l .edge)
+      buffered (holds fits fs) = holds (omega (arith, plain-pending)) (frames-grow (w .notes .accepted) (x ∷ []) last pass _ (l .k) (w .drive .buffer) (omega (arith, count-is)) fs)
+      buffered (halted f z) = halted f z
+
+      marked : (i : ℕ) → (i ≡ w .session .elements .pending) ⊎ (i < w .session .elements .pending)
+          → getD (elements.acceptedOf (w .session .elements) mark .marks) ((w .session .elements .first .0 + i) % 64) false ≡ isFilemark (w .notes .accepted ++ x ∷ []) (w .session .elements .first .0 + i)
+      marked i (inl here) =
+          subst (λ (j : ℕ). getD (elements.acceptedOf (w .session .elements) mark .marks) ((w .session .elements .first .0 + j) % 64) false ≡ isFilemark (w .notes .accepted ++ x ∷ []) (w .session .elements .first .0 + j)) (sym here)
+          (accepted-new (w .session .elements) mark (l .counted .marks) ∙ same ∙ sym (mark-new (w .notes .accepted) x (w .session .elements .first .0 + w .session .elements .pending) count-is))
+      marked i (inr low) =
+          mark-kept (w .session .elements .marks) (w .session .elements .first .0) i (w .session .elements .pending) mark low (omega (arith, acc .room, l .counted .wide))
+          ∙ l .trailing .marked i low
+          ∙ sym (mark-more (w .notes .accepted) (x ∷ []) (w .session .elements .first .0 + i) (omega (arith, count-is)))
+
+  live-more : mark ≡ isMarker (element x) → (window : List ℕ) (unaltered : Bool) → (unaltered ≡ true → (w .notes .unaltered ≡ true) × Gains (w .session) (w .window) window x (elements.acceptedOf (w .session .elements) mark .marks))
+      → Live last pass on-newest none-bears prior (acceptedWorld w (withElement (w .session) mark) window unaltered x)
+  live-more same window unaltered gain = record {
     k = l .k;
     edge = l .edge;
     going = l .going;
@@ -261,6 +298,7 @@ module _ {last pass : ℕ} {on-newest none-bears : Type 0} (w : World) (set : Se
     below = l .below;
     clean = l .clean;
     content = λ p u. let y = gain u in content-more window (l .content p (y .0)) (y .1) unaltered;
+    trailing = trailing-more same;
   }
 
 -- ---- the calls
@@ -277,24 +315,24 @@ rejecting-more w s window unaltered x d ended awaiting command stage = record {
   unreported = d .unreported;
 }
 
-pub keeps-filemark : {last pass : ℕ} {on-newest none-bears : Type 0} (w : World) → Setting last pass → Inv last pass on-newest none-bears w → TakesEffect (filemarkOf (w .session) .number) → Inv last pass on-newest none-bears (afterFilemark w)
-keeps-filemark {last} {pass} {on-newest} {none-bears} w set i te =
+pub keeps-filemark : {last pass : ℕ} {on-newest none-bears : Type 0} {prior : Prior} (w : World) → Setting last pass → Inv last pass on-newest none-bears prior w → TakesEffect (filemarkOf (w .session) .number) → Inv last pass on-newest none-bears prior (afterFilemark w)
+keeps-filemark {last} {pass} {on-newest} {none-bears} {prior} w set i te =
     let v = filemark-view (w .session) te in
-    subst (λ (r : OutcomeSaid). Inv last pass on-newest none-bears (withAccepted w (r .session) (w .window) (w .notes .unaltered) (acceptedAfter (r .number) (w .notes .accepted) filemark))) (sym (v .0)) (go (v .1) i)
+    subst (λ (r : OutcomeSaid). Inv last pass on-newest none-bears prior (withAccepted w (r .session) (w .window) (w .notes .unaltered) (acceptedAfter (r .number) (w .notes .accepted) filemark))) (sym (v .0)) (go (v .1) i)
   where
-    go : Accepting (w .session) → Inv last pass on-newest none-bears w → Inv last pass on-newest none-bears (acceptedWorld w (withElement (w .session) true) (w .window) (w .notes .unaltered) filemark)
+    go : Accepting (w .session) → Inv last pass on-newest none-bears prior w → Inv last pass on-newest none-bears prior (acceptedWorld w (withElement (w .session) true) (w .window) (w .notes .unaltered) filemark)
     go acc (live wr l) =
-        live wr (live-more w set l true filemark acc (w .window) (w .notes .unaltered) (λ u. (u, record { keeps = λ _ _. refl; gains = accepted-new (w .session .elements) true (l .counted .marks) })))
+        live wr (live-more w set l true filemark acc refl (w .window) (w .notes .unaltered) (λ u. (u, record { keeps = λ _ _. refl; gains = accepted-new (w .session .elements) true (l .counted .marks) })))
     go acc (rejecting wr d) = rejecting wr (rejecting-more w (withElement (w .session) true) (w .window) (w .notes .unaltered) filemark d refl refl refl refl)
     go acc (over wr o) = clash (o .ended) (acc .going)
 
-pub keeps-block : {last pass : ℕ} {on-newest none-bears : Type 0} (w : World) (b lent : List ℕ) → Setting last pass → Inv last pass on-newest none-bears w → TakesEffect (blockOf (w .session) b lent .result .number) → Inv last pass on-newest none-bears (afterBlock w b lent)
-keeps-block {last} {pass} {on-newest} {none-bears} w b lent set i te =
+pub keeps-block : {last pass : ℕ} {on-newest none-bears : Type 0} {prior : Prior} (w : World) (b lent : List ℕ) → Setting last pass → Inv last pass on-newest none-bears prior w → TakesEffect (blockOf (w .session) b lent .result .number) → Inv last pass on-newest none-bears prior (afterBlock w b lent)
+keeps-block {last} {pass} {on-newest} {none-bears} {prior} w b lent set i te =
     let v = block-view (w .session) b lent te in
-    subst (λ (r : StoredSaid). Inv last pass on-newest none-bears (withAccepted w (r .result .session) (r .window) (w .notes .unaltered && agree lent (w .window)) (acceptedAfter (r .result .number) (w .notes .accepted) (block b)))) (sym (v .is)) (go v i)
+    subst (λ (r : StoredSaid). Inv last pass on-newest none-bears prior (withAccepted w (r .result .session) (r .window) (w .notes .unaltered && agree lent (w .window)) (acceptedAfter (r .result .number) (w .notes .accepted) (block b)))) (sym (v .is)) (go v i)
   where
-    go : Storing (w .session) b lent (blockOf (w .session) b lent) → Inv last pass on-newest none-bears w
-        → Inv last pass on-newest none-bears (acceptedWorld w (withElement (w .session) false) (putBlock lent (placeOf (w .session)) b) (w .notes .unaltered && agree lent (w .window)) (block b))
+    go : Storing (w .session) b lent (blockOf (w .session) b lent) → Inv last pass on-newest none-bears prior w
+        → Inv last pass on-newest none-bears prior (acceptedWorld w (withElement (w .session) false) (putBlock lent (placeOf (w .session)) b) (w .notes .unaltered && agree lent (w .window)) (block b))
     go v (live wr l) =
         let acc = v .accepting-it in
         let first = w .session .elements .first .0 in
@@ -304,7 +342,7 @@ keeps-block {last} {pass} {on-newest} {none-bears} w b lent set i te =
         let place-is : placeOf (w .session) ≡ (first + pending) % width = ap (λ (n : ℕ). n % width) exact in
         let room : placeOf (w .session) * 32768 + 32768 ≤ length lent = subst (λ (n : ℕ). placeOf (w .session) * 32768 + 32768 ≤ n) (sym (v .long)) (place-inside (elements.numberOf (w .session .elements) pending .0) (w .session .setup .highest)) in
         live wr
-        (live-more w set l false (block b) acc (putBlock lent (placeOf (w .session)) b) (w .notes .unaltered && agree lent (w .window))
+        (live-more w set l false (block b) acc refl (putBlock lent (placeOf (w .session)) b) (w .notes .unaltered && agree lent (w .window))
         (λ u.
         let both = and-true (w .notes .unaltered) (agree lent (w .window)) u in
         let same : lent ≡ w .window = agree-is lent (w .window) (both .1) in (

@@ -1,24 +1,23 @@
 -- A session that was opened at the end of a reading starts behind what the reading delivered. Assumes nothing.
 use Prim.Native.Nat.{ℕ, _+_, _-_, _%_, _^_, _≤_, _<_}
 use mathlib.Core.Path.{_≡_, refl, sym, ap, subst, _∙_}
-use mathlib.Core.Bool.{Bool, true, false, _&&_, _||_, not, true≢false}
+use mathlib.Core.Bool.{Bool, true, false, _||_, not, true≢false}
 use mathlib.Core.List.{List}
 use mathlib.Core.Logic.{_⊎_, inl, inr, ⊎-elim}
 use mathlib.Core.Option.{some}
+use native.Mathlib.Decide.{decLe}
 use native.Mathlib.Nat.{le-refl, eq-or-lt-of-le, mod-eq-of-lt}
 use native.Mathlib.Omega.{arith}
 use borrow.Author.Tests.{ltb-false, lt-ltb, eqb-true, eqb-false}
-use lib.Dec.{eqb, ltb}
-use lib.ListN.{length, take, drop}
+use lib.Dec.{eqb}
+use lib.ListN.{length, drop}
 use lib.Seq.{take-length}
-use Rattle.geometry.specs.Place.{asAddress}
 use Rattle.geometry.specs.Cartridge.{isUser}
-use Rattle.geometry.specs.declared.address.Address.{Address}
-use Rattle.geometry.proofs.PickLaws.{pick-by, pick-f}
+use Rattle.geometry.proofs.PickLaws.{pick-by}
 use Rattle.geometry.proofs.TestLaws.{or-false, and-true}
-use Rattle.geometry.proofs.UserFrames.{User, user-ranges}
-use Rattle.buffer.specs.Bytes.{get32}
-use Rattle.frame.specs.declared.element.Kind.the-variants.{Eod}
+use Rattle.geometry.proofs.UserFrames.{user-ranges}
+use Rattle.buffer.specs.Bytes.{get16}
+use Rattle.frame.specs.declared.element.Kind.the-variants.{Marker, Eod}
 use Rattle.frame.specs.declared.trail.Trail.{Trail}
 use Rattle.header.specs.Valid.{updateOf, headerOf}
 use Rattle.judgement.specs.Judgement as judgement
@@ -28,26 +27,29 @@ use Rattle.judgement.proofs.Facts.{FoundAs}
 use Rattle.judgement.proofs.JudgeLaws.{below-so, earlier-so, found-told, other-pass}
 use Rattle.carried_headers.specs.Carried.{isCountedOut, addedTo}
 use Rattle.recording_state.specs.State.{OutcomeSaid, accepting}
-use Rattle.recording_state.specs.Open.{openRefused, isMisfit}
+use Rattle.recording_state.specs.Open.{isMisfit}
 use Rattle.recording_state.specs.declared.state.State.{State}
 use Rattle.recording_state.proofs.Sizes.{sizes-fit}
 use Rattle.reading_state.specs.State.{isAtEnd, endOf}
 use Rattle.reading_state.specs.Open.{toldOf}
 use Rattle.reading_state.specs.declared.state.State.{State as Reading}
 use Rattle.adding_opening.specs.AtEnd.{endsElsewhere, addedSession, openAtEndOf}
-use Rattle.archive.specs.Tape.{Tape, Cartridge}
+use Rattle.archive.specs.Tape.{Tape, Cartridge, SameFrames}
 use Rattle.archive.specs.Headers.{Newest}
 use Rattle.archive.specs.Recordings.{Element}
-use Rattle.archive.specs.Readings.{World}
-use Rattle.archive.specs.Fold.{Reader, going, finished, foldOf, wholeOf}
+use Rattle.archive.specs.Fold.{going, finished, foldOf}
 use Rattle.archive.specs.Chain.{NoneAbove}
-use Rattle.archive.proofs.tape.Seen.{Has, has, Seen, Quiet, Clean}
-use Rattle.archive.proofs.tape.Stands.{unending}
+use Rattle.archive.proofs.tape.Seen.{has, Seen, Quiet, Clean}
+use Rattle.archive.proofs.tape.Stands.{telling, unending}
 use Rattle.archive.proofs.tape.StandsLaws.{ends-telling}
 use Rattle.archive.proofs.tape.FoldLaws.{fold-alike}
 use Rattle.archive.proofs.tape.Ended.{EndsHere, fold-ended, ends-known}
 use Rattle.archive.proofs.reading.Facts.{Counts, fold-counts, Spread, fold-spread}
+use Rattle.archive.specs.Trails.{filemarksAmong, latestAmong, NamesLatest}
+use Rattle.archive.proofs.reading.FoldTrails.{Tracing, fold-traces}
 use Rattle.archive.proofs.reading.Invariant.{Ended}
+use Rattle.archive.proofs.recording.Trailing.{MarkerBelow, Marked, Traces, priorOf}
+use Rattle.archive.proofs.tape.Marks.{latest-map}
 use Rattle.archive.proofs.recording.HeaderCopies.{Below}
 use Rattle.archive.proofs.recording.Start.{Started, refused-accepting}
 
@@ -162,6 +164,33 @@ module _ (told : Told) (last : ℕ) (t : Tape) (r : Reading) (earlier : List Ele
     pub added-pass : s .copies .header .pass ≡ told .pass
     added-pass = sym (ap (λ (x : State). x .copies .header .pass) (v .is)) ∙ ap (λ (x : Told). x .pass) (ended .told-is)
 
+    -- it goes on from the filemarks that the reading delivered, which are on a tape whose user frames are those that were read
+    pub added-traced : last + 65 < 2 ^ 32 → (u : Tape) → Traces earlier (Marked (priorOf last (s .copies .header .pass) earlier end-at u (SameFrames last t u)) last (s .copies .header .pass) end-at u) (length earlier) (s .elements .trail)
+    added-traced small u = record {
+      counts = ap (λ (x : Trail). x .filemarks) trail-is ∙ so-far .counts ∙ ap (filemarksAmong earlier) (sym count-is);
+      names =
+          subst (λ (x : Trail). NamesLatest (latestAmong earlier (length earlier)) There (x .marker .0)) (sym trail-is)
+          (subst (λ (n : ℕ). NamesLatest (latestAmong earlier n) There (r .trail .marker .0)) (sym count-is)
+          (latest-map earlier (r .expected .0) (MarkerBelow (told .last .0) (told .pass) end-at t) There (r .trail .marker .0) (λ j l _ m. there j (r .trail .marker .0) (omega (arith, count-is)) m) (so-far .names)));
+    }
+      where
+        There : ℕ → ℕ → Type 0
+        There = Marked (priorOf last (s .copies .header .pass) earlier end-at u (SameFrames last t u)) last (s .copies .header .pass) end-at u
+
+        trail-is : s .elements .trail ≡ r .trail
+        trail-is = sym (ap (λ (x : State). x .elements .trail) (v .is))
+
+        so-far : Traces earlier (MarkerBelow (told .last .0) (told .pass) end-at t) (r .expected .0) (r .trail)
+        so-far = subst (Tracing told t (omega (arith, last-is)) end-at) (ended .so-far) (fold-traces told t (omega (arith, last-is)) end-at (omega (arith, last-is, end-low)))
+
+        there : (j b : ℕ) → j < length earlier → MarkerBelow (told .last .0) (told .pass) end-at t j b → There j b
+        there j b l m = record {
+          inside = omega (arith, m .low, end-low);
+          there = λ same.
+              let y = subst (λ (n : ℕ). MarkerBelow last n end-at t j b) (sym added-pass) (subst (λ (n : ℕ). MarkerBelow n (told .pass) end-at t j b) last-is m) in
+              record { frame = y .frame; user = y .user; low = y .low; reads = sym (same l b (y .user)) ∙ y .reads; found = y .found };
+        }
+
     -- every valid header that the cartridge holds counts less
     pub added-below : (h : List ℕ) → told ≡ toldOf (headerOf h) → (u : Tape) → Newest last u h → Below last (s .copies .header) u
     added-below h of-header u n a f at =
@@ -192,6 +221,24 @@ module _ (told : Told) (last : ℕ) (t : Tape) (r : Reading) (earlier : List Ele
       where
         number-same : {n m : ℕ} {x y : List Element} {a b : Trail} → going n x a ≡ going m y b → n ≡ m
         number-same e = cc
+
+    -- so a current marker stands below it
+    pub marker-low : NoneAbove last t end-at (told .pass) → (j b : ℕ) (f : List ℕ) → isUser last b ≡ true → t b ≡ some f → FoundAs (telling last (told .pass) 0) (record { 0 = j }) Marker f → b < end-at
+    marker-low none j b f u e q = go (decLe end-at b)
+      where
+        same : end-at ≡ b → here .frame ≡ f
+        same at = some-is (sym (here .reads) ∙ ap t at ∙ e)
+          where
+            some-is : {x y : List ℕ} → some x ≡ some y → x ≡ y
+            some-is z = cc
+
+        at-end : (end-at ≡ b) ⊎ (end-at < b) → ⊥
+        at-end (inl at) = let z : _≡_ {A = ℕ} 0x0100 0x0200 = sym (old-eod .typed .type) ∙ ap (λ (x : List ℕ). get16 (drop 32768 x) 16) (same at) ∙ q .typed .type in omega arith
+        at-end (inr above) = none b f u above e (q .typed .written)
+
+        go : Dec (end-at ≤ b) → b < end-at
+        go (yes l) = absurd (at-end (eq-or-lt-of-le l))
+        go (no l) = omega arith
 
     quiet-there : Cartridge last t → NoneAbove last t end-at (told .pass) → Quiet last (told .pass) (length earlier) end-at t
     quiet-there cart none a f l u e i base = go (eq-or-lt-of-le l)

@@ -5,10 +5,11 @@ use mathlib.Core.Bool.{Bool, true, false}
 use mathlib.Core.List.{List}
 use mathlib.Core.Logic.{⊎-elim}
 use native.Mathlib.Omega.{arith}
-use lib.ListN.{length, length-set}
+use lib.ListN.{length, getD, length-set}
 use Rattle.drive.specs.Listed.{Listed}
 use Rattle.drive.specs.Senses.{meaningOf}
 use Rattle.elements.specs.Elements as elements
+use Rattle.elements.proofs.AcceptLaws.{accepted-new}
 use Rattle.recording_state.specs.Accept.{closeOf}
 use Rattle.recording_state.specs.State.{closedOf, OutcomeSaid, blocksOf, eodDue, closingStarted, settledOf}
 use Rattle.recording_state.specs.declared.state.State.{State}
@@ -16,8 +17,12 @@ use Rattle.recording_state.specs.declared.state.Stage.the-variants as S
 use Rattle.recording_state.proofs.Stages.{ElementStage}
 use Rattle.archive.specs.Recordings.{World, TakesEffect, withSession}
 use Rattle.archive.proofs.tape.Basics.{no-frames}
-use Rattle.archive.proofs.tape.Stands.{Item, itemAt, Queue, StoredAs}
+use Rattle.archive.proofs.tape.Stands.{Queue, StoredAs}
+use Rattle.archive.specs.Trails.{Item, itemAt}
+use Rattle.archive.proofs.tape.Marks.{isFilemark, mark-past}
 use Rattle.archive.proofs.tape.StandsLaws.{item-past}
+use Rattle.archive.proofs.recording.Trailing.{Prior}
+use Rattle.archive.proofs.recording.TrailingLaws.{buffered-as}
 use Rattle.archive.proofs.recording.ElementsLink.{Writing}
 use Rattle.archive.proofs.recording.KeptAgreement.{agree-as, writing-as, Numbers, writing-numbers, sent-due}
 use Rattle.archive.proofs.recording.Accepts.{close-view, settled-cases}
@@ -27,7 +32,7 @@ use Rattle.geometry.proofs.Impossible.{never, clash}
 
 -- ---- EOD becomes due
 
-module _ {last pass : ℕ} {on-newest none-bears : Type 0} (w : World) (l : Live last pass on-newest none-bears w) (st : w .session .stage ≡ S.Elements) (v : w .session .elements .eod ≡ false) (closed : w .session .closed ≡ true) (none : w .session .elements .pending ≡ 0) where
+module _ {last pass : ℕ} {on-newest none-bears : Type 0} {prior : Prior} (w : World) (l : Live last pass on-newest none-bears prior w) (st : w .session .stage ≡ S.Elements) (v : w .session .elements .eod ≡ false) (closed : w .session .closed ≡ true) (none : w .session .elements .pending ≡ 0) where
   one : (w .session .elements .pending + 1) % 2 ^ 16 ≡ 1
   one = ap (λ (n : ℕ). (n + 1) % 2 ^ 16) none
 
@@ -61,7 +66,14 @@ module _ {last pass : ℕ} {on-newest none-bears : Type 0} (w : World) (l : Live
     sent = λ a f _ q. absurd (omega (arith, sent-due (subst (Writing last (w .session) (w .drive) (l .k) (l .edge)) q (agreed (l .course))), none));
   }
 
-  pub eod-live : Live last pass on-newest none-bears (withSession w (eodDue (w .session)))
+  -- EOD is no filemark
+  eod-marked : (i : ℕ) → i < (w .session .elements .pending + 1) % 2 ^ 16 → getD (elements.acceptedOf (w .session .elements) false .marks) ((w .session .elements .first .0 + i) % 64) false ≡ isFilemark (w .notes .accepted) (w .session .elements .first .0 + i)
+  eod-marked i h =
+      let here : w .session .elements .pending ≡ i = omega (arith, one, none) in
+      subst (λ (j : ℕ). getD (elements.acceptedOf (w .session .elements) false .marks) ((w .session .elements .first .0 + j) % 64) false ≡ isFilemark (w .notes .accepted) (w .session .elements .first .0 + j)) here
+      (accepted-new (w .session .elements) false (l .counted .marks) ∙ sym (mark-past (w .notes .accepted) (w .session .elements .first .0 + w .session .elements .pending) (omega (arith, count))))
+
+  pub eod-live : Live last pass on-newest none-bears prior (withSession w (eodDue (w .session)))
   eod-live =
       let c = l .counted in
       let held = c .held in
@@ -91,11 +103,12 @@ module _ {last pass : ℕ} {on-newest none-bears : Type 0} (w : World) (l : Live
               seen = x .seen;
               stored = λ i h. eod-stored (w .window) (elements.acceptedOf (w .session .elements) false .marks) i h;
             };
+        trailing = let x = l .trailing in record { from = x .from; marked = eod-marked; trail = x .trail; written = x .written; behind = x .behind; queue = λ s. buffered-as (w .session .elements) (eodDue (w .session) .elements) (omega (arith, one, none)) (λ _ z. z) (x .queue s); sent = x .sent; tape = x .tape };
       }
 
 -- ---- close was called
 
-module _ {last pass : ℕ} {on-newest none-bears : Type 0} (w : World) (l : Live last pass on-newest none-bears w) (unclosed : w .session .closed ≡ false) where
+module _ {last pass : ℕ} {on-newest none-bears : Type 0} {prior : Prior} (w : World) (l : Live last pass on-newest none-bears prior w) (unclosed : w .session .closed ≡ false) where
   closed-course : Course last w (l .k) (l .edge) → Course last (withSession w (closedOf (w .session))) (l .k) (l .edge)
   closed-course (inv.opening q v t c) =
       inv.opening q v t (agree-as (w .session) (closedOf (w .session)) (w .drive) refl refl c)
@@ -104,7 +117,7 @@ module _ {last pass : ℕ} {on-newest none-bears : Type 0} (w : World) (l : Live
   closed-course (inv.closing q v c a b g) = clash c unclosed
   closed-course (inv.finished q v c a b f g h r y) = clash c unclosed
 
-  closed-live : Live last pass on-newest none-bears (withSession w (closedOf (w .session)))
+  closed-live : Live last pass on-newest none-bears prior (withSession w (closedOf (w .session)))
   closed-live =
       let c = l .counted in
       record {
@@ -120,6 +133,7 @@ module _ {last pass : ℕ} {on-newest none-bears : Type 0} (w : World) (l : Live
         below = l .below;
         clean = l .clean;
         content = λ p u. let x = l .content p u in record { tape = x .tape; seen = x .seen; stored = x .stored };
+        trailing = l .trailing;
       }
 
   not-eod : {X : Type 0} → w .session .elements .eod ≡ true → Course last w (l .k) (l .edge) → X
@@ -141,18 +155,18 @@ rejecting-close w s d ended awaiting command stage = record {
   unreported = d .unreported;
 }
 
-pub keeps-close : {last pass : ℕ} {on-newest none-bears : Type 0} (w : World) → Inv last pass on-newest none-bears w → TakesEffect (closeOf (w .session) .number) → Inv last pass on-newest none-bears (withSession w (closeOf (w .session) .session))
-keeps-close {last} {pass} {on-newest} {none-bears} w i te =
+pub keeps-close : {last pass : ℕ} {on-newest none-bears : Type 0} {prior : Prior} (w : World) → Inv last pass on-newest none-bears prior w → TakesEffect (closeOf (w .session) .number) → Inv last pass on-newest none-bears prior (withSession w (closeOf (w .session) .session))
+keeps-close {last} {pass} {on-newest} {none-bears} {prior} w i te =
     let v = close-view (w .session) te in
-    subst (λ (r : OutcomeSaid). Inv last pass on-newest none-bears (withSession w (r .session))) (sym (v .0)) (go (v .1) (v .2) i)
+    subst (λ (r : OutcomeSaid). Inv last pass on-newest none-bears prior (withSession w (r .session))) (sym (v .0)) (go (v .1) (v .2) i)
   where
-    go : w .session .ended ≡ false → w .session .closed ≡ false → Inv last pass on-newest none-bears w → Inv last pass on-newest none-bears (withSession w (settledOf (closedOf (w .session))))
+    go : w .session .ended ≡ false → w .session .closed ≡ false → Inv last pass on-newest none-bears prior w → Inv last pass on-newest none-bears prior (withSession w (settledOf (closedOf (w .session))))
     go going unclosed (live wr l) =
-        settled-cases (closedOf (w .session)) (λ (s : State). Inv last pass on-newest none-bears (withSession w s)) (λ _. live wr (closed-live w l unclosed))
+        settled-cases (closedOf (w .session)) (λ (s : State). Inv last pass on-newest none-bears prior (withSession w s)) (λ _. live wr (closed-live w l unclosed))
         (λ q v c none. live wr (eod-live (withSession w (closedOf (w .session))) (closed-live w l unclosed) q v c none))
         (λ q v none. not-eod w l unclosed v (l .course))
     go going unclosed (rejecting wr d) =
-        settled-cases (closedOf (w .session)) (λ (s : State). Inv last pass on-newest none-bears (withSession w s)) (λ _. rejecting wr (rejecting-close w (closedOf (w .session)) d refl refl refl (λ h. h)))
+        settled-cases (closedOf (w .session)) (λ (s : State). Inv last pass on-newest none-bears prior (withSession w s)) (λ _. rejecting wr (rejecting-close w (closedOf (w .session)) d refl refl refl (λ h. h)))
         (λ q v c none. rejecting wr (rejecting-close w (eodDue (closedOf (w .session))) d refl refl refl (λ h. h)))
         (λ q v none. rejecting wr (rejecting-close w (closingStarted (closedOf (w .session))) d refl refl refl (λ _. q)))
     go going unclosed (over wr o) = clash (o .ended) going

@@ -32,9 +32,10 @@ use Rattle.archive.specs.Headers.{HeaderAt, Newest}
 use Rattle.archive.specs.Recordings.{World}
 use Rattle.archive.proofs.tape.Seen.{Seen}
 use Rattle.archive.proofs.tape.Closed.{seen-closed}
+use Rattle.archive.proofs.recording.Trailing.{Prior}
 use Rattle.archive.proofs.recording.HeaderCopies.{Carried, Copy, Below}
 use Rattle.archive.proofs.recording.Invariant.{Course, opening, writing, closing, finished, Content, Live, live, rejecting, over, Inv}
-use Rattle.archive.proofs.recording.Setting.{Setting, EodAt, HeadersLeft, Leaves}
+use Rattle.archive.proofs.recording.Setting.{Setting, HeadersLeft, Leaves}
 
 -- ---- a copy of the header
 
@@ -105,7 +106,7 @@ module _ {last pass spare : ℕ} (set : Setting last pass) (h : Header) (c : Car
 
 -- ---- done
 
-module _ {last pass : ℕ} {on-newest none-bears : Type 0} {w : World} (set : Setting last pass) (l : Live last pass on-newest none-bears w) (done : w .session .stage ≡ S.Done) where
+module _ {last pass : ℕ} {on-newest none-bears : Type 0} {prior : Prior} {w : World} (set : Setting last pass) (l : Live last pass on-newest none-bears prior w) (done : w .session .stage ≡ S.Done) where
   headers-left : on-newest → Course last w (l .k) (l .edge) → HeadersLeft last pass none-bears (length (w .notes .accepted)) (w .drive .tape)
   headers-left p (opening s _ _ _) = never (cc)
   headers-left p (writing s _ _) = never (cc)
@@ -127,13 +128,13 @@ module _ {last pass : ℕ} {on-newest none-bears : Type 0} {w : World} (set : Se
   all-seen content (finished _ v _ k edge _ _ _ _ _) =
       subst (λ (n : ℕ). Seen last pass (w .notes .accepted) n (last + 1) (w .drive .tape)) k (subst (λ (n : ℕ). Seen last pass (w .notes .accepted) (l .k) n (w .drive .tape)) edge (content .seen))
 
-module _ {last pass : ℕ} {on-newest none-bears : Type 0} (w : World) (set : Setting last pass) where
-  pub closes : Inv last pass on-newest none-bears w → on-newest → w .notes .reported ≡ true → HeadersLeft last pass none-bears (length (w .notes .accepted)) (w .drive .tape)
+module _ {last pass : ℕ} {on-newest none-bears : Type 0} {prior : Prior} (w : World) (set : Setting last pass) where
+  pub closes : Inv last pass on-newest none-bears prior w → on-newest → w .notes .reported ≡ true → HeadersLeft last pass none-bears (length (w .notes .accepted)) (w .drive .tape)
   closes (live _ l) newest reported = headers-left set l (l .reported reported) newest (l .course)
   closes (rejecting _ d) newest reported = absurd (true≢false (sym reported ∙ d .unreported))
   closes (over _ o) newest reported = absurd (true≢false (sym reported ∙ o .unreported))
 
-  pub completes : Inv last pass on-newest none-bears w → on-newest → none-bears → w .notes .unaltered ≡ true → w .notes .reported ≡ true → Leaves last pass none-bears (w .drive .tape) (w .notes .accepted)
+  pub completes : Inv last pass on-newest none-bears prior w → on-newest → none-bears → w .notes .unaltered ≡ true → w .notes .reported ≡ true → Leaves last pass none-bears (w .drive .tape) (w .notes .accepted)
   completes (live wr l) newest none unaltered reported =
       let content = l .content none unaltered in
       let headers = headers-left set l (l .reported reported) newest (l .course) in
@@ -154,7 +155,7 @@ rests-done w done (writing s _ _) = never (cc)
 rests-done w done (closing s _ _ _ _ _) = never (cc)
 rests-done w done (finished _ _ _ _ _ _ _ _ rests _) = rests
 
-pub reported-rests : {last pass : ℕ} {on-newest none-bears : Type 0} (w : World) → Inv last pass on-newest none-bears w → w .notes .reported ≡ true → AtRest (w .drive)
+pub reported-rests : {last pass : ℕ} {on-newest none-bears : Type 0} {prior : Prior} (w : World) → Inv last pass on-newest none-bears prior w → w .notes .reported ≡ true → AtRest (w .drive)
 reported-rests w (live _ l) reported = rests-done w (l .reported reported) (l .course)
 reported-rests w (rejecting _ d) reported = absurd (true≢false (sym reported ∙ d .unreported))
 reported-rests w (over _ o) reported = absurd (true≢false (sym reported ∙ o .unreported))

@@ -23,23 +23,24 @@ use Rattle.recording_state.specs.declared.state.State.{State}
 use Rattle.recording_state.specs.declared.state.Stage.the-variants as S
 use Rattle.recording_state.proofs.Stages.{ElementStage}
 use Rattle.archive.specs.Recordings.{World, Element, withDrive}
+use Rattle.archive.specs.Trails.{Item, eod, itemAt}
 use Rattle.archive.proofs.tape.Basics.{none-some, some-same}
 use Rattle.archive.proofs.tape.Seen.{Seen, Clean}
 use Rattle.archive.proofs.tape.FoldLaws.{put-same, put-other}
 use Rattle.archive.proofs.tape.SeenLaws.{cartridge-put, seen-elsewhere, seen-writes, seen-fails, clean-elsewhere, clean-behind}
-use Rattle.archive.proofs.tape.Stands.{Item, eod, itemAt, Stands, Queue}
+use Rattle.archive.proofs.tape.Stands.{Stands, Queue}
 use Rattle.archive.proofs.tape.StandsLaws.{item-past, stands-read, stands-long}
 use Rattle.archive.proofs.recording.HeaderCopies.{Below}
 use Rattle.archive.proofs.recording.Setting.{EodAt}
 use Rattle.archive.proofs.recording.Invariant.{totalOf, Outgoing, EodPlace, Content}
 
 -- what a tried address reads as
-left-reads : {before : Option (List ℕ)} {sent f : List ℕ} {v : Option (List ℕ)} → Left before sent v → v ≡ some f → (before ≡ some f) ⊎ ReadsAs sent f
+pub left-reads : {before : Option (List ℕ)} {sent f : List ℕ} {v : Option (List ℕ)} → Left before sent v → v ≡ some f → (before ≡ some f) ⊎ ReadsAs sent f
 left-reads as-before e = inl e
 left-reads {sent = sent} (as-new _ (conduct.reads read r)) e = inr (subst (λ (x : List ℕ). ReadsAs sent x) (some-same e) r)
 left-reads not-at-all e = none-some e
 
-user-low : (last a : ℕ) → 3000 ≤ last → isUser last a ≡ true → a ≤ last
+pub user-low : (last a : ℕ) → 3000 ≤ last → isUser last a ≡ true → a ≤ last
 user-low last a large u = ⊎-elim (λ h. let x = h .1 in omega arith) (λ h. h .1) (user-ranges last a u)
 
 -- ---- headers
@@ -112,7 +113,7 @@ unclosed : {X : Type 0} (s : State) → ElementStage s → (s .stage ≡ S.Closi
 unclosed s st (inl z) = never (cc)
 unclosed s st (inr z) = never (cc)
 
-most : (b : Bool) (n : ℕ) → totalOf b n ≤ n + 1
+pub most : (b : Bool) (n : ℕ) → totalOf b n ≤ n + 1
 most false n = omega arith
 most true n = omega arith
 

@@ -12,7 +12,7 @@ use lib.ListN.{length}
 use Rattle.geometry.specs.Cartridge.{isUser}
 use Rattle.geometry.proofs.TestLaws.{either-right}
 use Rattle.geometry.proofs.Impossible.{never, clash}
-use Rattle.geometry.proofs.UserFrames.{User, user-ranges}
+use Rattle.geometry.proofs.UserFrames.{user-ranges}
 use Rattle.drive.specs.Command.{commandAddress}
 use Rattle.drive.specs.Cases.{locateGood, locateBusy, writeGood, writeBusy, writeFailed, writeOverflow, positionGood, positionBusy, positionFailed}
 use Rattle.drive.specs.Listed.{Means}
@@ -35,11 +35,15 @@ use Rattle.recording_state.proofs.ReplyView.{by-elements, reply-so}
 use Rattle.archive.specs.Recordings as recordings
 use Rattle.archive.specs.Recordings.{World, Element}
 use Rattle.archive.specs.Demand.{Within}
+use Rattle.archive.specs.Trails.{itemAt}
 use Rattle.archive.proofs.tape.Basics.{none-sent}
 use Rattle.archive.proofs.tape.Seen.{Has, Seen, Clean}
 use Rattle.archive.proofs.tape.FoldLaws.{fold-none}
 use Rattle.archive.proofs.tape.SeenLaws.{seen-moves, clean-moves}
-use Rattle.archive.proofs.tape.Stands.{itemAt, unending, StoredAs}
+use Rattle.archive.proofs.tape.Stands.{unending, StoredAs}
+use Rattle.archive.proofs.recording.Trailing.{Prior, Trailing}
+use Rattle.archive.proofs.recording.TrailingMoves.{trailing-idle, trailing-closed, trailing-stepped}
+use Rattle.archive.proofs.recording.KeptAgreement.{writing-numbers}
 use Rattle.archive.proofs.recording.HeaderCopies.{Below}
 use Rattle.archive.proofs.recording.Completion.{copy-update}
 use Rattle.archive.proofs.recording.CopiesLink as copies
@@ -76,9 +80,9 @@ seen-top {last} {pass} {edge = edge} {xs} {t} large l h = record {
   quiet = λ a f b u _ _ _. absurd (above-last large b u);
 }
 
-module _ {last pass : ℕ} {on-newest none-bears : Type 0} (w : World) (r : Reply) (set : Setting last pass) (wr : Within last (w .drive .written)) (l : Live last pass on-newest none-bears w) (st : ElementStage (w .session)) where
+module _ {last pass : ℕ} {on-newest none-bears : Type 0} {prior : Prior} (w : World) (r : Reply) (set : Setting last pass) (wr : Within last (w .drive .written)) (l : Live last pass on-newest none-bears prior w) (st : ElementStage (w .session)) where
   abbrev After : OutcomeSaid → Type 0
-  After x = Inv last pass on-newest none-bears (repliedWorld w (x .session))
+  After x = Inv last pass on-newest none-bears prior (repliedWorld w (x .session))
 
   -- ---- before the stage is looked at
 
@@ -117,7 +121,19 @@ module _ {last pass : ℕ} {on-newest none-bears : Type 0} (w : World) (r : Repl
           stored = stored-so c;
         }
 
-    stepped-live : Course last (repliedWorld w stepped) (l .k) (s .tried) → Live last pass on-newest none-bears (repliedWorld w stepped)
+    first-small : w .session .elements .first .0 + w .session .elements .pending < 2 ^ 32
+    first-small = numbered-small (l .course)
+      where
+        numbered-small : Course last w (l .k) (l .edge) → w .session .elements .first .0 + w .session .elements .pending < 2 ^ 32
+        numbered-small (inv.opening q _ _ _) = never (cc)
+        numbered-small (inv.writing _ _ a) = omega (arith, writing-numbers (l .counted .held) a .low, l .counted .windowed, l .counted .wide, set .small)
+        numbered-small (inv.closing q _ _ _ _ _) = never (cc)
+        numbered-small (inv.finished q _ _ _ _ _ _ _ _ _) = never (cc)
+
+    trailing-so : Trailing last pass prior (w .notes .accepted) (w .session .stage) e (w .drive) recordings.no-command (l .k) (s .tried)
+    trailing-so = trailing-stepped e s (set .large) (set .small) st (l .counted .held) first-small (l .trailing)
+
+    stepped-live : Course last (repliedWorld w stepped) (l .k) (s .tried) → Live last pass on-newest none-bears prior (repliedWorld w stepped)
     stepped-live course = record {
       k = l .k;
       edge = s .tried;
@@ -131,6 +147,7 @@ module _ {last pass : ℕ} {on-newest none-bears : Type 0} (w : World) (r : Repl
       below = l .below;
       clean = λ p. clean-moves (s .tried) (s .further) (l .clean p);
       content = content-so;
+      trailing = trailing-so;
     }
 
     -- ---- EOD is on tape
@@ -162,7 +179,7 @@ module _ {last pass : ℕ} {on-newest none-bears : Type 0} (w : World) (r : Repl
           go (yes h) = seen-moves (last + 1) h here
           go (no h) = seen-top (set .large) (omega arith) here
 
-      closing-live : w .session .exchange .again ≡ false → Live last pass on-newest none-bears (repliedWorld w (closingStarted stepped))
+      closing-live : w .session .exchange .again ≡ false → Live last pass on-newest none-bears prior (repliedWorld w (closingStarted stepped))
       closing-live again =
           let c = counted-so in
           record {
@@ -197,17 +214,18 @@ module _ {last pass : ℕ} {on-newest none-bears : Type 0} (w : World) (r : Repl
                   seen = seen-all x;
                   stored = λ i h. absurd (omega arith);
                 };
+            trailing = trailing-closed (set .large) trailing-so;
           }
 
   -- ---- by stage
 
-  settles : w .session .exchange .again ≡ false → EodDue (w .session .elements) (w .session .closed) → (e : Elements) → Step last (w .session) (w .drive) (l .k) (l .edge) e → Inv last pass on-newest none-bears (repliedWorld w (settledOf (withElements (repliedOf (w .session)) e)))
+  settles : w .session .exchange .again ≡ false → EodDue (w .session .elements) (w .session .closed) → (e : Elements) → Step last (w .session) (w .drive) (l .k) (l .edge) e → Inv last pass on-newest none-bears prior (repliedWorld w (settledOf (withElements (repliedOf (w .session)) e)))
   settles again (inv.not-yet v) e s =
       let x = stepped-live e s (inv.writing st (inv.not-yet (s .eod-is ∙ v)) (s .writing)) in
-      settled-cases (withElements (repliedOf (w .session)) e) (λ (u : State). Inv last pass on-newest none-bears (repliedWorld w u)) (λ _. live wr x)
+      settled-cases (withElements (repliedOf (w .session)) e) (λ (u : State). Inv last pass on-newest none-bears prior (repliedWorld w u)) (λ _. live wr x)
       (λ a b c z. live wr (eod-live (repliedWorld w (withElements (repliedOf (w .session)) e)) x a b c z)) (λ _ b _. clash b (s .eod-is ∙ v))
   settles again (inv.alone v c one) e s =
-      settled-cases (withElements (repliedOf (w .session)) e) (λ (u : State). Inv last pass on-newest none-bears (repliedWorld w u)) (λ why. live wr (stepped-live e s (inv.writing st (inv.alone (s .eod-is ∙ v) c (still why)) (s .writing))))
+      settled-cases (withElements (repliedOf (w .session)) e) (λ (u : State). Inv last pass on-newest none-bears prior (repliedWorld w u)) (λ why. live wr (stepped-live e s (inv.writing st (inv.alone (s .eod-is ∙ v) c (still why)) (s .writing))))
       (λ _ b _ _. clash (s .eod-is ∙ v) b) (λ _ _ none. live wr (closing-live e s v c (omega arith) none again))
     where
       still : (0 < e .pending) ⊎ (HeaderStage (withElements (repliedOf (w .session)) e) ⊎ (w .session .stage ≡ S.Done)) ⊎ ((e .eod ≡ false) × (w .session .closed ≡ false)) → e .pending ≡ 1
@@ -247,6 +265,7 @@ module _ {last pass : ℕ} {on-newest none-bears : Type 0} (w : World) (r : Repl
           below = l .below;
           clean = l .clean;
           content = λ p u. let c = l .content p u in record { tape = c .tape; seen = c .seen; stored = c .stored };
+          trailing = trailing-idle (l .trailing);
         }))
       where
         asks : Asks last (heldOf (repeatedOf (w .session))) (w .session .elements .pending) (w .drive) (l .k) (l .edge) (w .session .exchange .command)

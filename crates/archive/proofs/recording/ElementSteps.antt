@@ -15,9 +15,11 @@ use Rattle.geometry.specs.Place.{asAddress}
 use Rattle.write_error.specs.WriteError.{stepOf, targetAddress}
 use Rattle.geometry.specs.declared.address.Address.{Address}
 use Rattle.geometry.specs.declared.address.Seq.{Seq}
+use Rattle.geometry.proofs.Impossible.{clash}
 use Rattle.geometry.proofs.PickLaws.{pick-by}
 use Rattle.archive.specs.Conduct.{Drive, AtRest, empty, stopped}
 use Rattle.elements.specs.Elements.{baseOf, limitOf, numberOf}
+use Rattle.elements.specs.Trail.{trailOf, trailAfter}
 use Rattle.elements.specs.Reply as reply
 use Rattle.elements.specs.Reply.{kept, ending, locatedOf, takenOf, confirmedOf, overflowedOf, notedOf, fullOf, failedTo, countedOf, failedOf}
 use Rattle.elements.specs.declared.elements.Elements.{Elements}
@@ -45,6 +47,12 @@ pub record Step (last : ℕ) (s : State) (d : Drive) (k edge : ℕ) (e : Element
   pub room : e .limit .0 ≤ last + 1
   pub marks-is : e .marks ≡ s .elements .marks
   pub eod-is : e .eod ≡ s .elements .eod
+  -- no LOCATE was due of a drive that has stopped
+  pub placed : d .failed ≡ true → s .elements .locate ≡ false
+  -- those confirmed are on tape, behind one another before the drive's place, and the trail goes on over them
+  pub on-tape : s .elements .first .0 + n ≤ k
+  pub based : 0 < n → (baseOf (s .elements) .0 + k ≡ d .at + s .elements .first .0) × (d .at ≤ edge)
+  pub trail-is : e .trail ≡ trailAfter (s .elements) n
   pub writing : Writing last (withElements (repliedOf s) e) d k tried recordings.no-command
   -- where the last was confirmed, all are on tape, and it lies before the next address, where the drive is
   pub all : 0 < s .elements .pending → e .pending ≡ 0 → (k ≡ e .first .0) × AtRest d × (isUser last (e .next .0 - 1) ≡ true) × (e .next .0 ≡ d .at)
@@ -56,9 +64,10 @@ pub data Reached (last : ℕ) (s : State) (d : Drive) (k edge : ℕ) : reply.Ste
 
 module _ (last : ℕ) (s : State) (d : Drive) (k edge : ℕ) (small : last + 65 < 2 ^ 32) (again : s .exchange .again ≡ false) (held : s .elements .outstanding ≤ s .elements .pending) (low : s .elements .pending ≤ 64) (room : s .elements .limit .0 ≤ last + 1) where
   -- nothing is confirmed
-  unconfirmed : (e : Elements) → e .first ≡ s .elements .first → e .pending ≡ s .elements .pending → e .outstanding ≤ e .pending → e .limit .0 ≤ last + 1 → e .marks ≡ s .elements .marks → e .eod ≡ s .elements .eod
+  unconfirmed : (e : Elements) → e .first ≡ s .elements .first → e .pending ≡ s .elements .pending → e .outstanding ≤ e .pending → e .limit .0 ≤ last + 1 → e .marks ≡ s .elements .marks → e .eod ≡ s .elements .eod → e .trail ≡ s .elements .trail → (d .failed ≡ true → s .elements .locate ≡ false) → s .elements .first .0 ≤ k
       → Writing last (withElements (repliedOf s) e) d k edge recordings.no-command → Step last s d k edge e
-  unconfirmed e first pending out limit marks eod writing = record {
+  unfolding trailOf
+  unconfirmed e first pending out limit marks eod trail placed least writing = record {
     n = 0;
     tried = edge;
     further = le-refl edge;
@@ -69,6 +78,10 @@ module _ (last : ℕ) (s : State) (d : Drive) (k edge : ℕ) (small : last + 65 
     room = limit;
     marks-is = marks;
     eod-is = eod;
+    placed = placed;
+    on-tape = omega arith;
+    based = λ h. absurd (omega arith);
+    trail-is = trail;
     writing = writing;
     all = λ p z. absurd (omega arith);
   }
@@ -81,7 +94,7 @@ module _ (last : ℕ) (s : State) (d : Drive) (k edge : ℕ) (small : last + 65 
       let known = l .known in
       let out : (s .elements .outstanding + 1) % 2 ^ 16 ≡ s .elements .outstanding + 1 = mod-eq-of-lt (omega arith) in
       let next : (s .elements .next .0 + 1) % 2 ^ 32 ≡ s .elements .next .0 + 1 = mod-eq-of-lt (omega arith) in
-      unconfirmed (takenOf (s .elements)) refl refl (omega (arith, out)) room refl refl (elements.at-place refl again (record {
+      unconfirmed (takenOf (s .elements)) refl refl (omega (arith, out)) room refl refl refl (λ _. l .placed) (omega arith) (elements.at-place refl again (record {
         placed = l .placed;
         taken-is = omega (arith, out);
         next-is = omega (arith, next);
@@ -94,7 +107,9 @@ module _ (last : ℕ) (s : State) (d : Drive) (k edge : ℕ) (small : last + 65 
 
   pub filled-step : (a : Address) → a .0 ≤ last → Linked last (heldOf s) d k edge 0 → Step last s d k edge (overflowedOf (s .elements) a)
   filled-step a below l =
-      unconfirmed (overflowedOf (s .elements) a) refl refl held (omega arith) refl refl
+      let taken-is = l .taken-is in
+      let known = l .known in
+      unconfirmed (overflowedOf (s .elements) a) refl refl held (omega arith) refl refl refl (λ _. l .placed) (omega arith)
       (elements.at-place refl again (record { placed = l .placed; taken-is = l .taken-is; next-is = l .next-is; known = l .known; roof = l .roof; zone = l .zone; spread = l .spread; edge-is = l .edge-is }))
 
   pub moved-step : (a : Address) → d .buffer ≡ [] → d .failed ≡ false → d .at ≡ a .0 → Moving last (heldOf s) d k edge (a .0) → Step last s d k edge (locatedOf (s .elements) a)
@@ -104,7 +119,7 @@ module _ (last : ℕ) (s : State) (d : Drive) (k edge : ℕ) (small : last + 65 
       let first-is = m .first-is in
       let roof = m .roof in
       let spread = m .spread in
-      unconfirmed (locatedOf (s .elements) a) refl refl held room refl refl (elements.at-place refl again (record {
+      unconfirmed (locatedOf (s .elements) a) refl refl held room refl refl refl (λ z. clash z f) (omega arith) (elements.at-place refl again (record {
         placed = refl;
         taken-is = omega arith;
         next-is = omega arith;
@@ -125,12 +140,19 @@ module _ (last : ℕ) (s : State) (d : Drive) (k edge : ℕ) (small : last + 65 
         let spread = l .spread in
         mod-eq-of-lt (omega arith)
 
+    edge-least : d .at ≤ edge
+    edge-least = go (d .failed) (l .edge-is)
+      where
+        go : (b : Bool) → edge ≡ edgeOf b (d .at) → d .at ≤ edge
+        go true x = omega arith
+        go false x = omega arith
+
     -- n are confirmed, of which the others stay outstanding or are due again
     confirms : (n tried : ℕ) (e : Elements) → e .first ≡ confirmedOf (s .elements) n .first → e .pending ≡ confirmedOf (s .elements) n .pending → e .outstanding ≤ confirmedOf (s .elements) n .outstanding → e .limit ≡ confirmedOf (s .elements) n .limit
-        → e .marks ≡ confirmedOf (s .elements) n .marks → e .eod ≡ confirmedOf (s .elements) n .eod → edge ≤ tried → n ≤ s .elements .outstanding → Writing last (withElements (repliedOf s) e) d k tried recordings.no-command
+        → e .marks ≡ confirmedOf (s .elements) n .marks → e .eod ≡ confirmedOf (s .elements) n .eod → e .trail ≡ confirmedOf (s .elements) n .trail → s .elements .first .0 + n ≤ k → edge ≤ tried → n ≤ s .elements .outstanding → Writing last (withElements (repliedOf s) e) d k tried recordings.no-command
         → (0 < s .elements .pending → e .pending ≡ 0 → (k ≡ e .first .0) × AtRest d × (isUser last (e .next .0 - 1) ≡ true) × (e .next .0 ≡ d .at)) → Step last s d k edge e
     unfolding confirmedOf
-    confirms n tried e first pending out limit marks eod further few writing all = record {
+    confirms n tried e first pending out limit marks eod trail on-tape further few writing all = record {
       n = n;
       tried = tried;
       further = further;
@@ -141,6 +163,15 @@ module _ (last : ℕ) (s : State) (d : Drive) (k edge : ℕ) (small : last + 65 
       room = let x = ap (λ (y : Address). y .0) limit in omega arith;
       marks-is = marks;
       eod-is = eod;
+      placed = λ _. l .placed;
+      on-tape = on-tape;
+      based = λ _.
+          let taken-is = l .taken-is in
+          let next-is = l .next-is in
+          let known = l .known in
+          let spread = l .spread in
+          (omega arith, edge-least);
+      trail-is = trail;
       writing = writing;
       all = all;
     }
@@ -159,7 +190,7 @@ module _ (last : ℕ) (s : State) (d : Drive) (k edge : ℕ) (small : last + 65 
         let known = l .known in
         let spread = l .spread in
         goes (confirmedOf (s .elements) n)
-        (confirms n edge (confirmedOf (s .elements) n) refl refl (le-refl _) refl refl refl (le-refl edge) (omega arith) (elements.at-place refl again (record {
+        (confirms n edge (confirmedOf (s .elements) n) refl refl (le-refl _) refl refl refl refl (omega arith) (le-refl edge) (omega arith) (elements.at-place refl again (record {
           placed = l .placed;
           taken-is = omega arith;
           next-is = l .next-is;
@@ -197,7 +228,7 @@ module _ (last : ℕ) (s : State) (d : Drive) (k edge : ℕ) (small : last + 65 
             let one = step-least skip in
             let edge-is : edge ≡ d .at + 1 = l .edge-is ∙ ap (λ (b : Bool). edgeOf b (d .at)) f in
             goes (notedOf (s .elements) p (asAddress target))
-            (confirms n target (notedOf (s .elements) p (asAddress target)) refl refl (omega arith) refl refl refl (omega arith) (omega arith) (elements.to-locate refl again refl (record {
+            (confirms n target (notedOf (s .elements) p (asAddress target)) refl refl (omega arith) refl refl refl refl (omega arith) (omega arith) (omega arith) (elements.to-locate refl again refl (record {
               none-out = refl;
               first-is = omega arith;
               rests = stopped f;

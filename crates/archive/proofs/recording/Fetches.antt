@@ -1,5 +1,5 @@
 -- A fetch keeps the invariant. Assumes nothing.
-use Prim.Native.Nat.{ℕ, _+_, _≤_, _<_}
+use Prim.Native.Nat.{ℕ, _+_, _^_, _≤_, _<_}
 use mathlib.Core.Path.{_≡_, refl, sym, ap, subst, _∙_}
 use mathlib.Core.Bool.{Bool, true, false, _&&_, _||_}
 use mathlib.Core.List.{List}
@@ -25,6 +25,7 @@ use Rattle.copies.specs.Copies as copying
 use Rattle.copies.proofs.CommandView as command
 use Rattle.copies.proofs.Placed.{PlacedOf}
 use Rattle.geometry.proofs.HeaderPlaces.{header-from-first}
+use Rattle.elements.specs.Elements.{kindOf}
 use Rattle.elements.specs.Due as due
 use Rattle.elements.proofs.DueView as rule
 use Rattle.recording_state.specs.State.{blocksOf, windowLength}
@@ -39,10 +40,12 @@ use Rattle.recording_state.proofs.Kept.{Held, heldOf}
 use Rattle.archive.specs.Recordings as recordings
 use Rattle.archive.specs.Recordings.{World, Flight, TakesEffect, fetchNumber, flightAfter, reportedAfter, afterFetch}
 use Rattle.archive.specs.Demand.{Within}
+use Rattle.archive.specs.Trails.{itemAt, kindFor}
 use Rattle.archive.proofs.tape.Basics.{no-effect, no-frames}
-use Rattle.archive.proofs.tape.Seen.{Seen}
 use Rattle.archive.proofs.tape.SeenLaws.{seen-moves, clean-moves}
-use Rattle.archive.proofs.tape.Stands.{itemAt, Stands, StoredAs}
+use Rattle.archive.proofs.tape.Stands.{Stands, StoredAs}
+use Rattle.archive.proofs.recording.Trailing.{Prior, Place, on-tape, to-come, Says}
+use Rattle.archive.proofs.recording.TrailingMoves.{trailing-edge, trail-before}
 use Rattle.archive.proofs.recording.CopiesLink as copies
 use Rattle.archive.proofs.recording.CopiesLink.{CopyAsks, HeaderSent, Copying, CopiesAgree}
 use Rattle.archive.proofs.recording.CopiesMoves.{rests-safe}
@@ -50,7 +53,7 @@ use Rattle.archive.proofs.recording.ElementsLink as elements
 use Rattle.archive.proofs.recording.ElementsLink.{edgeOf, Linked, Moving, Asks, Writing}
 use Rattle.archive.proofs.recording.ElementsMoves.{link-safe}
 use Rattle.archive.proofs.recording.KeptAgreement.{Numbers, writing-numbers}
-use Rattle.archive.proofs.recording.SentFrames.{sent-element, sent-eod}
+use Rattle.archive.proofs.recording.SentFrames.{sent-element, sent-eod, kind-element, kind-eod, sent-says}
 use Rattle.archive.proofs.recording.Invariant as inv
 use Rattle.archive.proofs.recording.Invariant.{EodDue, totalOf, Course, Known, Content, Live, Safe, Inv, live, rejecting, over}
 use Rattle.archive.proofs.recording.InvariantLaws.{unreported}
@@ -103,7 +106,7 @@ fetchedWorld w lent x = record {
 abbrev lentWorld : World → List ℕ → State → Flight → Bool → World
 lentWorld w lent s f reported = record { session = s; window = lent; drive = w .drive; flight = f; notes = record { accepted = w .notes .accepted; unaltered = w .notes .unaltered && agree lent (w .window); reported = reported } }
 
-module _ {last pass : ℕ} {on-newest none-bears : Type 0} (w : World) (lent frame : List ℕ) (set : Setting last pass) (wr : Within last (w .drive .written)) (l : Live last pass on-newest none-bears w) where
+module _ {last pass : ℕ} {on-newest none-bears : Type 0} {prior : Prior} (w : World) (lent frame : List ℕ) (set : Setting last pass) (wr : Within last (w .drive .written)) (l : Live last pass on-newest none-bears prior w) where
   -- lent as last left
   as-left : (w .notes .unaltered && agree lent (w .window)) ≡ true → (w .notes .unaltered ≡ true) × (lent ≡ w .window)
   as-left u = let b = and-true (w .notes .unaltered) (agree lent (w .window)) u in (b .0, agree-is lent (w .window) (b .1))
@@ -121,7 +124,7 @@ module _ {last pass : ℕ} {on-newest none-bears : Type 0} (w : World) (lent fra
 
   -- ---- nothing goes out: idle, or done
 
-  quiet : (reported : Bool) → (reported ≡ true → w .session .stage ≡ S.Done) → Live last pass on-newest none-bears (lentWorld w lent (w .session) (w .flight) reported)
+  quiet : (reported : Bool) → (reported ≡ true → w .session .stage ≡ S.Done) → Live last pass on-newest none-bears prior (lentWorld w lent (w .session) (w .flight) reported)
   quiet reported done = record {
     k = l .k;
     edge = l .edge;
@@ -138,6 +141,7 @@ module _ {last pass : ℕ} {on-newest none-bears : Type 0} (w : World) (lent fra
         let b = as-left u in
         let c = l .content p (b .0) in
         record { tape = c .tape; seen = c .seen; stored = stored-lent (b .1) c };
+    trailing = l .trailing;
   }
     where
       course : Course last w (l .k) (l .edge) → Course last (lentWorld w lent (w .session) (w .flight) reported) (l .k) (l .edge)
@@ -156,8 +160,10 @@ module _ {last pass : ℕ} {on-newest none-bears : Type 0} (w : World) (lent fra
         → ((a : Address) (f : List ℕ) → Known none-bears sentWorld → ElementStage (w .session) → recordings.sent c (frameFor c (w .session) lent frame) ≡ recordings.sent (Write a) f
         → Stands last pass (itemAt (w .notes .accepted) (w .session .elements .first .0 + w .session .elements .outstanding)) (w .session .elements .first .0 + w .session .elements .outstanding) f)
         → l .edge ≤ edge
-        → Live last pass on-newest none-bears sentWorld
-    goes-out edge course sent further = record {
+        → ((a : Address) (f : List ℕ) → ElementStage (w .session) → recordings.sent c (frameFor c (w .session) lent frame) ≡ recordings.sent (Write a) f
+        → Says last pass (w .notes .accepted) (Place prior last pass (l .k) (w .drive .at) edge (w .drive .tape)) (w .session .elements .first .0 + w .session .elements .outstanding) f)
+        → Live last pass on-newest none-bears prior sentWorld
+    goes-out edge course sent further says = record {
       k = l .k;
       edge = edge;
       going = l .going;
@@ -173,6 +179,9 @@ module _ {last pass : ℕ} {on-newest none-bears : Type 0} (w : World) (lent fra
           let b = as-left u in
           let x = l .content p (b .0) in
           record { tape = x .tape; seen = seen-moves edge further (x .seen); stored = stored-lent (b .1) x };
+      trailing =
+          let x = trailing-edge (l .trailing) edge further in
+          record { from = x .from; marked = x .marked; trail = x .trail; written = x .written; behind = x .behind; queue = x .queue; sent = says; tape = x .tape };
     }
 
   -- ---- from a header stage
@@ -189,11 +198,11 @@ module _ {last pass : ℕ} {on-newest none-bears : Type 0} (w : World) (lent fra
     header-sent ReadPosition = tt
 
     header-out : (c : Command) (agree : CopiesAgree (w .session) (w .drive) (w .flight)) → CopyAsks (w .session .copies) (w .drive) c
-        → (CopiesAgree (awaits (w .session) c) (w .drive) (recordings.sent c (frameFor c (w .session) lent frame)) → Course last (sentWorld c) (l .k) (l .edge)) → Inv last pass on-newest none-bears (sentWorld c)
+        → (CopiesAgree (awaits (w .session) c) (w .drive) (recordings.sent c (frameFor c (w .session) lent frame)) → Course last (sentWorld c) (l .k) (l .edge)) → Inv last pass on-newest none-bears prior (sentWorld c)
     header-out c agree asked course =
         live wr
         (goes-out c (l .edge) (course (record { counts = agree .counts; placed = agree .placed; copying = copies.under-way c (frameFor c (w .session) lent frame) refl refl refl (header-sent c) asked }))
-        (λ _ _ _ el _. header-not-element (w .session) st el) (le-refl (l .edge)))
+        (λ _ _ _ el _. header-not-element (w .session) st el) (le-refl (l .edge)) (λ _ _ el _. header-not-element (w .session) st el))
 
     asks-header : {x : CommandSaid} → PlacedOf (w .session .copies) → command.CommandView (w .session .setup .depth) (w .session .copies) x → w .session .exchange .again ≡ false → Copying (w .session) (w .drive) recordings.no-command → CopyAsks (w .session .copies) (w .drive) (commandFor x)
     asks-header pl (command.locating t) ag (copies.at-place a g x) = clash t (x .placed)
@@ -290,8 +299,43 @@ module _ {last pass : ℕ} {on-newest none-bears : Type 0} (w : World) (lent fra
             let t = ap (λ (x : Bool). totalOf x (length (w .notes .accepted))) v in
             sent-eod last pass (w .session) lent (w .notes .accepted) (l .carried .last-is) (l .carried .pass-is) (set .low) long (omega (arith, numbers .low, l .counted .windowed, l .counted .wide, set .small)) st v (omega arith)
 
+    kind-due : w .session .elements .outstanding < w .session .elements .pending → EodDue (w .session .elements) (w .session .closed)
+        → kindOf (w .session .elements) ≡ kindFor (itemAt (w .notes .accepted) (w .session .elements .first .0 + w .session .elements .outstanding))
+    kind-due d (inv.not-yet v) =
+        let n = l .counted .numbered in
+        let t = ap (λ (x : Bool). totalOf x (length (w .notes .accepted))) v in
+        kind-element last pass (w .session) lent (w .notes .accepted) (l .carried .last-is) (l .carried .pass-is) (set .low) long (omega (arith, numbers .low, l .counted .windowed, l .counted .wide, set .small)) v (omega arith)
+        (l .trailing .marked (w .session .elements .outstanding) d)
+    kind-due d (inv.alone v closed one) =
+        let n = l .counted .numbered in
+        let t = ap (λ (x : Bool). totalOf x (length (w .notes .accepted))) v in
+        kind-eod last pass (w .session) lent (w .notes .accepted) (l .carried .last-is) (l .carried .pass-is) (set .low) long (omega (arith, numbers .low, l .counted .windowed, l .counted .wide, set .small)) v (omega arith)
+
+    -- and what it says of the filemarks before it
+    says-sent : {edge : ℕ} {a : Address} → l .edge ≤ edge → ElementStage (w .session) → Asks last (heldOf (w .session)) (w .session .elements .pending) (w .drive) (l .k) edge (Write a)
+        → Says last pass (w .notes .accepted) (Place prior last pass (l .k) (w .drive .at) edge (w .drive .tape)) (w .session .elements .first .0 + w .session .elements .outstanding) (writtenFrame (w .session) lent)
+    says-sent {edge} further st (elements.writes a p due off low x) =
+        let taken-is = x .taken-is in
+        let next-is = x .next-is in
+        let known = x .known in
+        let spread = x .spread in
+        let roof = x .roof in
+        let fits : w .session .elements .first .0 + w .session .elements .outstanding < 2 ^ 32 = omega (arith, numbers .low, l .counted .windowed, l .counted .wide, set .small) in
+        sent-says last pass (w .session) lent (w .notes .accepted) (l .carried .last-is) (l .carried .pass-is) (set .low) long fits (Place prior last pass (l .k) (w .drive .at) edge (w .drive .tape)) st (kind-due due phase)
+        (λ j b h y. place-low j b h taken-is next-is low y)
+        (trail-before (set .large) (set .small) st (trailing-edge (l .trailing) edge further) (l .counted .held) fits (omega arith) (omega arith) (let e = edge-low-least (w .drive .failed) (w .drive .at) in let i = x .edge-is in omega arith) (omega arith))
+      where
+        edge-low-least : (b : Bool) (c : ℕ) → c ≤ edgeOf b c
+        edge-low-least true c = omega arith
+        edge-low-least false c = le-refl c
+
+        place-low : (j b : ℕ) → j < w .session .elements .first .0 + w .session .elements .outstanding → w .session .elements .first .0 + w .session .elements .outstanding + 0 ≡ l .k + length (w .drive .buffer) → w .session .elements .next .0 + 0 ≡ w .drive .at + length (w .drive .buffer)
+            → w .session .elements .next .0 ≤ last → Place prior last pass (l .k) (w .drive .at) edge (w .drive .tape) j b → b < 2 ^ 32
+        place-low j b h taken-is next-is low (on-tape _ m) = omega (arith, m .inside, set .small)
+        place-low j b h taken-is next-is low (to-come g e) = omega (arith, set .small)
+
     element-out : (c : Command) → Out c → ElementStage (w .session) → ((edge : ℕ) → Writing last (awaits (w .session) c) (w .drive) (l .k) edge (recordings.sent c (frameFor c (w .session) lent frame)) → Course last (sentWorld c) (l .k) edge)
-        → Inv last pass on-newest none-bears (sentWorld c)
+        → Inv last pass on-newest none-bears prior (sentWorld c)
     element-out c o st course =
         live wr
         (goes-out c (o .edge) (course (o .edge) (elements.under-way c (frameFor c (w .session) lent frame) refl refl refl (reask (heldOf (w .session)) (heldOf (awaits (w .session) c)) refl refl refl refl (o .asks))))
@@ -301,7 +345,13 @@ module _ {last pass : ℕ} {on-newest none-bears : Type 0} (w : World) (lent fra
         subst (λ (y : List ℕ). Stands last pass (itemAt (w .notes .accepted) (w .session .elements .first .0 + w .session .elements .outstanding)) (w .session .elements .first .0 + w .session .elements .outstanding) y)
         (sym (ap (λ (y : Command). frameFor y (w .session) lent frame) command-is) ∙ frame-is)
         (stands-sent known el (due-of (subst (λ (y : Command). Asks last (heldOf (w .session)) (w .session .elements .pending) (w .drive) (l .k) (o .edge) y) command-is (o .asks)))))
-        (o .further))
+        (o .further)
+        (λ a f el q.
+        let command-is : c ≡ Write a = cc in
+        let frame-is : frameFor c (w .session) lent frame ≡ f = cc in
+        subst (Says last pass (w .notes .accepted) (Place prior last pass (l .k) (w .drive .at) (o .edge) (w .drive .tape)) (w .session .elements .first .0 + w .session .elements .outstanding))
+        (sym (ap (λ (y : Command). frameFor y (w .session) lent frame) command-is) ∙ frame-is)
+        (says-sent (o .further) el (subst (λ (y : Command). Asks last (heldOf (w .session)) (w .session .elements .pending) (w .drive) (l .k) (o .edge) y) command-is (o .asks)))))
 
 -- ---- no reply is awaited, so no command is in flight
 
@@ -324,15 +374,15 @@ writing-safe ag (elements.at-place b g x) = link-safe x
 writing-safe ag (elements.to-locate b g r x) = rests-safe (x .rests)
 writing-safe ag (elements.again b g x) = clash g ag
 
-module _ {last pass : ℕ} {on-newest none-bears : Type 0} (w : World) (lent frame : List ℕ) (set : Setting last pass) (wr : Within last (w .drive .written)) (l : Live last pass on-newest none-bears w) where
+module _ {last pass : ℕ} {on-newest none-bears : Type 0} {prior : Prior} (w : World) (lent frame : List ℕ) (set : Setting last pass) (wr : Within last (w .drive .written)) (l : Live last pass on-newest none-bears prior w) where
   abbrev After : FetchedSaid → Type 0
-  After x = Inv last pass on-newest none-bears (fetchedWorld w lent x)
+  After x = Inv last pass on-newest none-bears prior (fetchedWorld w lent x)
 
   -- the command goes to the drive as the fetch names it
-  as-named : (c : Command) → Inv last pass on-newest none-bears (sentWorld w lent frame set wr l c) → After (sending (w .session) c lent frame)
+  as-named : (c : Command) → Inv last pass on-newest none-bears prior (sentWorld w lent frame set wr l c) → After (sending (w .session) c lent frame)
   unfolding sending
   as-named c i =
-      subst (λ (x : Command). Inv last pass on-newest none-bears (lentWorld w lent (awaits (w .session) c) (recordings.sent x (frameFor c (w .session) lent frame)) (w .notes .reported))) (sym (command-by c)) i
+      subst (λ (x : Command). Inv last pass on-newest none-bears prior (lentWorld w lent (awaits (w .session) c) (recordings.sent x (frameFor c (w .session) lent frame)) (w .notes .reported))) (sym (command-by c)) i
 
   -- in a header stage
   module _ (st : HeaderStage (w .session)) (agree : CopiesAgree (w .session) (w .drive) (w .flight))
@@ -391,7 +441,7 @@ wrong-phase : {X : Type 0} (s : State) (lent frame : List ℕ) → s .ended || s
 unfolding fetchOf
 wrong-phase s lent frame e te = no-effect (omega arith) (omega arith) (subst (λ (x : FetchedSaid). TakesEffect (fetchNumber (x .said))) (pick-t _ e) te)
 
-pub keeps-fetch : {last pass : ℕ} {on-newest none-bears : Type 0} (w : World) (lent frame : List ℕ) → Setting last pass → Inv last pass on-newest none-bears w → TakesEffect (fetchNumber (fetchOf (w .session) lent frame .said)) → Inv last pass on-newest none-bears (afterFetch w lent frame)
+pub keeps-fetch : {last pass : ℕ} {on-newest none-bears : Type 0} {prior : Prior} (w : World) (lent frame : List ℕ) → Setting last pass → Inv last pass on-newest none-bears prior w → TakesEffect (fetchNumber (fetchOf (w .session) lent frame .said)) → Inv last pass on-newest none-bears prior (afterFetch w lent frame)
 keeps-fetch w lent frame set (live wr l) te = live-fetch w lent frame set wr l (l .course) (fetch-view (w .session) lent frame) te
 keeps-fetch w lent frame set (rejecting wr d) te = wrong-phase (w .session) lent frame (either-right (w .session .ended) (w .session .exchange .awaiting) (d .awaits)) te
 keeps-fetch w lent frame set (over wr o) te = wrong-phase (w .session) lent frame (either-left (w .session .ended) (w .session .exchange .awaiting) (o .ended)) te

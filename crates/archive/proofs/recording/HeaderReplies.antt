@@ -27,8 +27,11 @@ use Rattle.recording_state.proofs.ReplyView.{by-headers, reply-so}
 use Rattle.archive.specs.Recordings as recordings
 use Rattle.archive.specs.Recordings.{World}
 use Rattle.archive.specs.Demand.{Within}
+use Rattle.archive.specs.Trails.{itemAt}
 use Rattle.archive.proofs.tape.Basics.{none-sent}
-use Rattle.archive.proofs.tape.Stands.{itemAt, Queue, StoredAs}
+use Rattle.archive.proofs.tape.Stands.{Queue, StoredAs}
+use Rattle.archive.proofs.recording.Trailing.{Prior, Place, Frames, Buffered, holds, halted, Trailing}
+use Rattle.archive.proofs.recording.TrailingMoves.{trailing-idle}
 use Rattle.archive.proofs.recording.HeaderCopies.{Carried, Copy, Below}
 use Rattle.archive.proofs.recording.CopiesLink as copies
 use Rattle.archive.proofs.recording.CopiesLink.{CopyAsks, CopyAnswered, Copying, CopiesAgree}
@@ -60,9 +63,9 @@ record Sized : Type 0 where
   top : ℕ
   els : Elements
 
-module _ {last pass : ℕ} {on-newest none-bears : Type 0} (w : World) (r : Reply) (set : Setting last pass) (wr : Within last (w .drive .written)) (l : Live last pass on-newest none-bears w) where
+module _ {last pass : ℕ} {on-newest none-bears : Type 0} {prior : Prior} (w : World) (r : Reply) (set : Setting last pass) (wr : Within last (w .drive .written)) (l : Live last pass on-newest none-bears prior w) where
   abbrev After : OutcomeSaid → Type 0
-  After x = Inv last pass on-newest none-bears (repliedWorld w (x .session))
+  After x = Inv last pass on-newest none-bears prior (repliedWorld w (x .session))
 
   pub ends-so : (s : State) (n : ℕ) → (w .session .stage ≡ S.Done → ⊥) → Safe last (w .drive) → After (ending s n)
   ends-so s n d safe = over wr (record { ended = refl; none = refl; safe = safe; unreported = unreported l d })
@@ -73,7 +76,7 @@ module _ {last pass : ℕ} {on-newest none-bears : Type 0} (w : World) (r : Repl
 
     -- the same headers, other copies or another command
     more-live : (v : State) → v .ended ≡ false → v .stage ≡ w .session .stage → v .setup .highest ≡ w .session .setup .highest → v .elements ≡ w .session .elements → v .copies .header ≡ w .session .copies .header
-        → Course last (repliedWorld w v) (l .k) (l .edge) → Live last pass on-newest none-bears (repliedWorld w v)
+        → Course last (repliedWorld w v) (l .k) (l .edge) → Live last pass on-newest none-bears prior (repliedWorld w v)
     more-live v going stage high els head course = record {
       k = l .k;
       edge = l .edge;
@@ -109,7 +112,16 @@ module _ {last pass : ℕ} {on-newest none-bears : Type 0} (w : World) (r : Repl
             seen = c .seen;
             stored = subst (λ (p : Sized). (i : ℕ) → i < p .els .pending → StoredAs (itemAt (w .notes .accepted) (p .els .first .0 + i)) (w .window) (p .els .marks) (p .top + 1) (p .els .first .0 + i)) (sym (sized-same v high els)) (c .stored);
           };
+      trailing =
+          subst (λ (y : Stage). Trailing last pass prior (w .notes .accepted) y (v .elements) (w .drive) recordings.no-command (l .k) (l .edge)) (sym stage)
+          (subst (λ (y : Elements). Trailing last pass prior (w .notes .accepted) (w .session .stage) y (w .drive) recordings.no-command (l .k) (l .edge)) (sym els) (trailing-idle (l .trailing)));
     }
+
+  -- a drive at rest holds nothing, or has stopped
+  none-held : (w .session .elements .first .0 ≡ l .k) × (w .session .elements .locate ≡ true) × AtRest (w .drive) → Buffered last pass prior (w .notes .accepted) (w .session .elements) (w .drive) (l .k) (l .edge)
+  unfolding Frames
+  none-held (first, locate, stopped e) = halted e locate
+  none-held (first, locate, empty e) = holds (omega (arith, ap length e)) (subst (Frames last pass (w .notes .accepted) (Place prior last pass (l .k) (w .drive .at) (l .edge) (w .drive .tape)) (l .k)) (sym e) tt)
 
   -- the copies are through: another stage
   module _ (to : Stage) (spare : spareOf (w .session .stage) ≡ spareOf to) where
@@ -117,8 +129,9 @@ module _ {last pass : ℕ} {on-newest none-bears : Type 0} (w : World) (r : Repl
     onward = withStage (repliedOf (w .session)) to
 
     staged-live : Course last (repliedWorld w onward) (l .k) (l .edge) → (w .notes .reported ≡ true → to ≡ S.Done) → (to ≡ S.Elements → w .drive .failed ≡ false → Queue last pass (w .notes .accepted) (l .k) (w .drive .buffer))
-        → (to ≡ S.Elements → w .session .elements .eod ≡ true → ⊥) → ((to ≡ S.ClosingHeaders) ⊎ (to ≡ S.Done) → w .session .stage ≡ S.ClosingHeaders) → Live last pass on-newest none-bears (repliedWorld w onward)
-    staged-live course reported queue unended named =
+        → (to ≡ S.Elements → w .session .elements .eod ≡ true → ⊥) → ((to ≡ S.ClosingHeaders) ⊎ (to ≡ S.Done) → w .session .stage ≡ S.ClosingHeaders)
+        → (to ≡ S.Elements → (w .session .elements .first .0 ≡ l .k) × (w .session .elements .locate ≡ true) × AtRest (w .drive)) → Live last pass on-newest none-bears prior (repliedWorld w onward)
+    staged-live course reported queue unended named begins =
         let c = l .counted in
         record {
           k = l .k;
@@ -133,6 +146,18 @@ module _ {last pass : ℕ} {on-newest none-bears : Type 0} (w : World) (r : Repl
           below = l .below;
           clean = l .clean;
           content = λ p u. let x = l .content p u in record { tape = x .tape; seen = x .seen; stored = x .stored };
+          trailing =
+              let x = l .trailing in
+              record {
+                from = x .from;
+                marked = x .marked;
+                trail = x .trail;
+                written = x .written;
+                behind = λ el j a low high _. let y = begins el .0 in absurd (omega arith);
+                queue = λ el. none-held (begins el);
+                sent = λ _ _ _ z. none-sent z;
+                tape = x .tape;
+              };
         }
 
   -- ---- the opening headers
@@ -146,7 +171,7 @@ module _ {last pass : ℕ} {on-newest none-bears : Type 0} (w : World) (r : Repl
     nothing-queued (stopped e) free = clash e free
     nothing-queued (empty e) free = subst (Queue last pass (w .notes .accepted) (l .k)) (sym e) tt
 
-    opened-live : AtRest (w .drive) → Live last pass on-newest none-bears (repliedWorld w opened)
+    opened-live : AtRest (w .drive) → Live last pass on-newest none-bears prior (repliedWorld w opened)
     opened-live rests =
         let target = t .target-is in
         staged-live S.Elements (ap spareOf q)
@@ -159,7 +184,7 @@ module _ {last pass : ℕ} {on-newest none-bears : Type 0} (w : World) (r : Repl
           spread = omega (arith, t .spread);
           edge-is = sym (t .target-is);
         })))
-        (λ e. never (let z = l .reported e in cc)) (λ _ free. nothing-queued rests free) (λ _ b. clash b v) (λ z. ⊎-elim (λ y. never (cc)) (λ y. never (cc)) z)
+        (λ e. never (let z = l .reported e in cc)) (λ _ free. nothing-queued rests free) (λ _ b. clash b v) (λ z. ⊎-elim (λ y. never (cc)) (λ y. never (cc)) z) (λ _. (t .first-is, t .relocates, rests))
 
     opening-next : {s : copying.ProgressSaid} → Next (w .session .copies .header) (w .drive) s → Safe last (w .drive) → After (headerReplyBy s (w .session))
     opening-next (next.at-place c e n p x) safe =
@@ -167,8 +192,8 @@ module _ {last pass : ℕ} {on-newest none-bears : Type 0} (w : World) (r : Repl
     opening-next (next.to-seek c e n p x) safe =
         live wr (more-live (inl q) again asked (withCopies (repliedOf (w .session)) c) (l .going) refl refl refl e (inv.opening q v t (record { counts = n; placed = p; copying = copies.to-seek refl again x })))
     opening-next (next.through rests copy) safe =
-        subst (λ (x : Stage). Inv last pass on-newest none-bears (repliedWorld w (settledOf (withStage (repliedOf (w .session)) (followingOf x))))) (sym q)
-        (settled-cases opened (λ (v : State). Inv last pass on-newest none-bears (repliedWorld w v)) (λ _. live wr (opened-live rests)) (λ a b c z. live wr (eod-live (repliedWorld w opened) (opened-live rests) a b c z)) (λ _ b _. clash b v))
+        subst (λ (x : Stage). Inv last pass on-newest none-bears prior (repliedWorld w (settledOf (withStage (repliedOf (w .session)) (followingOf x))))) (sym q)
+        (settled-cases opened (λ (v : State). Inv last pass on-newest none-bears prior (repliedWorld w v)) (λ _. live wr (opened-live rests)) (λ a b c z. live wr (eod-live (repliedWorld w opened) (opened-live rests) a b c z)) (λ _ b _. clash b v))
     opening-next (next.ends n) safe = ends-so (w .session) n (λ z. never (cc)) safe
 
   -- ---- the closing headers
@@ -177,9 +202,9 @@ module _ {last pass : ℕ} {on-newest none-bears : Type 0} (w : World) (r : Repl
     abbrev done : State
     done = withStage (repliedOf (w .session)) S.Done
 
-    done-live : AtRest (w .drive) → Copy (w .session .copies .header) (w .drive .tape) 2995 → Live last pass on-newest none-bears (repliedWorld w done)
+    done-live : AtRest (w .drive) → Copy (w .session .copies .header) (w .drive .tape) 2995 → Live last pass on-newest none-bears prior (repliedWorld w done)
     done-live rests copy =
-        staged-live S.Done (ap spareOf q) (inv.finished refl v closed k0 e0 refl refl again rests (copy-higher (omega (arith, set .large)) copy)) (λ _. refl) (λ el _. never (cc)) (λ el _. never (cc)) (λ _. q)
+        staged-live S.Done (ap spareOf q) (inv.finished refl v closed k0 e0 refl refl again rests (copy-higher (omega (arith, set .large)) copy)) (λ _. refl) (λ el _. never (cc)) (λ el _. never (cc)) (λ _. q) (λ el. never (cc))
 
     closing-next : {s : copying.ProgressSaid} → Next (w .session .copies .header) (w .drive) s → Safe last (w .drive) → After (headerReplyBy s (w .session))
     closing-next (next.at-place c e n p x) safe =
@@ -187,8 +212,8 @@ module _ {last pass : ℕ} {on-newest none-bears : Type 0} (w : World) (r : Repl
     closing-next (next.to-seek c e n p x) safe =
         live wr (more-live (inr q) again asked (withCopies (repliedOf (w .session)) c) (l .going) refl refl refl e (inv.closing q v closed k0 e0 (record { counts = n; placed = p; copying = copies.to-seek refl again x })))
     closing-next (next.through rests copy) safe =
-        subst (λ (x : Stage). Inv last pass on-newest none-bears (repliedWorld w (settledOf (withStage (repliedOf (w .session)) (followingOf x))))) (sym q)
-        (settled-cases done (λ (v : State). Inv last pass on-newest none-bears (repliedWorld w v)) (λ _. live wr (done-live rests copy)) (λ a _ _ _. never (cc)) (λ a _ _. never (cc)))
+        subst (λ (x : Stage). Inv last pass on-newest none-bears prior (repliedWorld w (settledOf (withStage (repliedOf (w .session)) (followingOf x))))) (sym q)
+        (settled-cases done (λ (v : State). Inv last pass on-newest none-bears prior (repliedWorld w v)) (λ _. live wr (done-live rests copy)) (λ a _ _ _. never (cc)) (λ a _ _. never (cc)))
     closing-next (next.ends n) safe = ends-so (w .session) n (λ z. never (cc)) safe
 
   -- ---- by what the drive gave

@@ -23,8 +23,10 @@ use Rattle.recording_state.proofs.Stages.{ElementStage}
 use Rattle.archive.specs.Recordings as recordings
 use Rattle.archive.specs.Recordings.{World}
 use Rattle.archive.specs.Demand.{Within}
+use Rattle.archive.specs.Trails.{itemAt}
 use Rattle.archive.proofs.tape.Seen.{Seen, Clean}
-use Rattle.archive.proofs.tape.Stands.{itemAt, Stands, Queue, StoredAs}
+use Rattle.archive.proofs.tape.Stands.{Stands, Queue, StoredAs}
+use Rattle.archive.proofs.recording.Trailing.{Prior, Trailing}
 use Rattle.archive.proofs.recording.HeaderCopies.{Carried, Copy, Below}
 use Rattle.archive.proofs.recording.CopiesLink.{CopiesAgree}
 use Rattle.archive.proofs.recording.ElementsLink.{Writing}
@@ -111,7 +113,7 @@ pub record Content (last pass : ℕ) (w : World) (k edge : ℕ) : Type 0 where
 -- ---- the whole, with what may be assumed of the opening: that it was on the newest header or rightly on none, and that no user frame bore the pass,
 -- or none above the old end
 
-pub record Live (last pass : ℕ) (on-newest none-bears : Type 0) (w : World) : Type 0 where
+pub record Live (last pass : ℕ) (on-newest none-bears : Type 0) (prior : Prior) (w : World) : Type 0 where
   pub k : ℕ
   pub edge : ℕ
   pub going : w .session .ended ≡ false
@@ -124,6 +126,7 @@ pub record Live (last pass : ℕ) (on-newest none-bears : Type 0) (w : World) : 
   pub below : on-newest → Below last (w .session .copies .header) (w .drive .tape)
   pub clean : none-bears → Clean last pass edge (w .drive .tape)
   pub content : none-bears → w .notes .unaltered ≡ true → Content last pass w k edge
+  pub trailing : Trailing last pass prior (w .notes .accepted) (w .session .stage) (w .session .elements) (w .drive) (w .flight) k edge
 
 -- all that the drive may still write goes to addresses that are allowed
 pub data Safe (last : ℕ) (d : Drive) : Type 0 where
@@ -148,7 +151,7 @@ pub record Over (last : ℕ) (w : World) : Type 0 where
   pub safe : Safe last (w .drive)
   pub unreported : w .notes .reported ≡ false
 
-pub data Inv (last pass : ℕ) (on-newest none-bears : Type 0) (w : World) : Type 0 where
-  live : Within last (w .drive .written) → Live last pass on-newest none-bears w → Inv last pass on-newest none-bears w
-  rejecting : Within last (w .drive .written) → Rejecting last w → Inv last pass on-newest none-bears w
-  over : Within last (w .drive .written) → Over last w → Inv last pass on-newest none-bears w
+pub data Inv (last pass : ℕ) (on-newest none-bears : Type 0) (prior : Prior) (w : World) : Type 0 where
+  live : Within last (w .drive .written) → Live last pass on-newest none-bears prior w → Inv last pass on-newest none-bears prior w
+  rejecting : Within last (w .drive .written) → Rejecting last w → Inv last pass on-newest none-bears prior w
+  over : Within last (w .drive .written) → Over last w → Inv last pass on-newest none-bears prior w

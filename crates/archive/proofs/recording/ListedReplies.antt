@@ -8,20 +8,22 @@ use mathlib.Core.Logic.{_⊎_, inl, inr}
 use Rattle.geometry.specs.Cartridge.{isHeader}
 use Rattle.geometry.specs.declared.address.Address.{Address}
 use Rattle.geometry.proofs.Impossible.{never}
-use Rattle.drive.specs.Listed.{Listed}
 use Rattle.archive.specs.Conduct.{Drive}
-use Rattle.drive.specs.Senses.{meaningOf}
 use Rattle.drive.specs.declared.command.Command.{Command}
 use Rattle.drive.specs.declared.command.Command.the-variants.{Read, Write}
 use Rattle.drive.specs.declared.reply.Reply.{Reply}
 use Rattle.copies.specs.declared.copies.Copies.{Copies}
+use Rattle.recording_state.specs.Lawful.{Lawful}
 use Rattle.recording_state.specs.declared.state.State.{State}
 use Rattle.recording_state.proofs.Kept.{Held, heldOf}
-use Rattle.recording_state.proofs.ListedReplies.{OffHeaders, OnHeaders, Lawful, unlisted-refused, listed-taken}
+use Rattle.recording_state.proofs.ListedReplies.{OffHeaders, OnHeaders, unlisted-refused, listed-taken}
+use Rattle.recording_state.proofs.LawfulReplies.{unlawful-refused}
 use Rattle.recording_state.proofs.Stages.{HeaderStage, ElementStage, header-not-element}
 use Rattle.archive.specs.Recordings as recordings
 use Rattle.archive.specs.Recordings.{World, refusal}
+use Rattle.archive.specs.Exchanges.{ListedFor}
 use Rattle.archive.proofs.tape.Basics.{none-sent, answered-sent}
+use Rattle.archive.proofs.recording.Trailing.{Prior}
 use Rattle.archive.proofs.recording.CopiesLink as copies
 use Rattle.archive.proofs.recording.CopiesLink.{CopyAsks, Copying}
 use Rattle.archive.proofs.recording.CopiesMoves.{next-header}
@@ -79,29 +81,29 @@ module _ (w : World) (c : Command) (f : List ℕ) where
     off-headers = λ _ a e. asks-off-header (subst (λ (x : Command). Asks last (heldOf (w .session)) (w .session .elements .pending) (w .drive) k edge x) (sym is ∙ e) asked);
   }
 
-module _ {last pass : ℕ} {on-newest none-bears : Type 0} (w : World) (c : Command) (f : List ℕ) (q : w .flight ≡ recordings.sent c f) where
-  live-issued : (l : Live last pass on-newest none-bears w) → Course last w (l .k) (l .edge) → Issued (w .session) c
+module _ {last pass : ℕ} {on-newest none-bears : Type 0} {prior : Prior} (w : World) (c : Command) (f : List ℕ) (q : w .flight ≡ recordings.sent c f) where
+  live-issued : (l : Live last pass on-newest none-bears prior w) → Course last w (l .k) (l .edge) → Issued (w .session) c
   live-issued l (invariant.opening st _ _ agree) = header-issued w c f (l .going) (inl st) (subst (Copying (w .session) (w .drive)) q (agree .copying))
   live-issued l (invariant.writing st _ a) = element-issued w c f (l .going) st (subst (Writing last (w .session) (w .drive) (l .k) (l .edge)) q a)
   live-issued l (invariant.closing st _ _ _ _ agree) = header-issued w c f (l .going) (inr st) (subst (Copying (w .session) (w .drive)) q (agree .copying))
   live-issued l (invariant.finished _ _ _ _ _ none _ _ _ _) = none-sent (sym none ∙ q)
 
-  issued : Inv last pass on-newest none-bears w → Issued (w .session) c
+  issued : Inv last pass on-newest none-bears prior w → Issued (w .session) c
   issued (live _ l) = live-issued l (l .course)
   issued (rejecting _ d) = answered-sent (sym (d .replied) ∙ q)
   issued (over _ o) = none-sent (sym (o .none) ∙ q)
 
-  module _ (i : Inv last pass on-newest none-bears w) (r : Reply) where
-    abbrev Meant : Type 0
-    Meant = Listed c (meaningOf (r .key) (r .asc) (r .ascq))
-
-    pub unlisted-8 : (Meant → ⊥) → refusal (w .session) (recordings.reply r) ≡ 8
+  module _ (i : Inv last pass on-newest none-bears prior w) (r : Reply) where
+    pub unlisted-8 : (ListedFor c r → ⊥) → refusal (w .session) (recordings.reply r) ≡ 8
     unlisted-8 h =
         let x = issued i in
-        unlisted-refused (w .session) r (x .going) (x .awaits) (x .off-headers) (λ y. h (subst (λ (k : Command). Listed k (meaningOf (r .key) (r .asc) (r .ascq))) (x .is) y))
+        unlisted-refused (w .session) r (x .going) (x .awaits) (x .off-headers) (λ y. h (subst (λ (k : Command). ListedFor k r) (x .is) y))
 
-    pub listed-not-8 : Lawful (w .session) r → Meant → refusal (w .session) (recordings.reply r) ≡ 8 → ⊥
+    pub unlawful-8 : (Lawful (w .session) c r → ⊥) → refusal (w .session) (recordings.reply r) ≡ 8
+    unlawful-8 h = let x = issued i in unlawful-refused (w .session) r (x .going) (x .awaits) (λ y. h (subst (λ (k : Command). Lawful (w .session) k r) (x .is) y))
+
+    pub listed-not-8 : Lawful (w .session) c r → ListedFor c r → refusal (w .session) (recordings.reply r) ≡ 8 → ⊥
     listed-not-8 p h =
         let x = issued i in
-        listed-taken (w .session) r (x .stage) (x .no-read) (x .on-headers) p
-        (subst (λ (k : Command). Listed k (meaningOf (r .key) (r .asc) (r .ascq))) (sym (x .is)) h)
+        listed-taken (w .session) r (x .stage) (x .no-read) (x .on-headers) (subst (λ (k : Command). Lawful (w .session) k r) (sym (x .is)) p)
+        (subst (λ (k : Command). ListedFor k r) (sym (x .is)) h)

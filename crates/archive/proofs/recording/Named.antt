@@ -29,6 +29,7 @@ use Rattle.archive.specs.Recordings as recordings
 use Rattle.archive.specs.EndNamed.{EndsAt}
 use Rattle.archive.proofs.tape.Basics.{reads-itself}
 use Rattle.archive.proofs.tape.StandsLaws.{eod-ends}
+use Rattle.archive.proofs.recording.Trailing.{Prior}
 use Rattle.archive.proofs.recording.Setting.{Setting, EodAt}
 use Rattle.archive.proofs.recording.Invariant.{Inv, live, rejecting, over}
 use Rattle.archive.proofs.recording.Completion.{copy-fields, ends-named, user-some, closes}
@@ -67,7 +68,7 @@ module _ (s : State) (lent frame : List ℕ) (a : ℕ) (closing : s .stage ≡ S
   given-so (view.stopping _ _ _ _ _) e = never (cc)
   given-so (view.finished _ _ _) e = never (cc)
 
-given-end : {last pass : ℕ} {on-newest none-bears : Type 0} (w : recordings.World) (frame : List ℕ) → Setting last pass → Inv last pass on-newest none-bears w → w .session .stage ≡ S.ClosingHeaders → Given (w .session) frame
+given-end : {last pass : ℕ} {on-newest none-bears : Type 0} {prior : Prior} (w : recordings.World) (frame : List ℕ) → Setting last pass → Inv last pass on-newest none-bears prior w → w .session .stage ≡ S.ClosingHeaders → Given (w .session) frame
     → EndsAt (headerOf frame) (length (w .notes .accepted)) (w .drive .tape)
 given-end w frame set (live _ l) closing x =
     let h = w .session .copies .header in
@@ -78,7 +79,7 @@ given-end w frame set (over _ o) closing x = clash (o .ended) (x .going)
 
 -- ---- by the invariant
 
-module _ {last pass : ℕ} {on-newest none-bears : Type 0} (w : recordings.World) (set : Setting last pass) (i : Inv last pass on-newest none-bears w) where
+module _ {last pass : ℕ} {on-newest none-bears : Type 0} {prior : Prior} (w : recordings.World) (set : Setting last pass) (i : Inv last pass on-newest none-bears prior w) where
   pub given-named : (lent frame : List ℕ) (a : ℕ) → w .session .stage ≡ S.ClosingHeaders → fetchOf (w .session) lent frame .said ≡ command 0x0A a
       → EndsAt (headerOf (fetchOf (w .session) lent frame .frame)) (length (w .notes .accepted)) (w .drive .tape)
   given-named lent frame a closing said = given-end w (fetchOf (w .session) lent frame .frame) set i closing (given-so (w .session) lent frame a closing (fetch-view (w .session) lent frame) said)

@@ -10,8 +10,9 @@ use Rattle.header.specs.Valid.{headerOf}
 use Rattle.archive.specs.Tape.{Tape, Cartridge}
 use Rattle.archive.specs.Headers.{Newest}
 use Rattle.archive.specs.Recordings.{Element}
+use Rattle.archive.specs.Trails.{eod}
 use Rattle.archive.proofs.tape.Seen.{NoneFrom, Recorded}
-use Rattle.archive.proofs.tape.Stands.{eod, Stands}
+use Rattle.archive.proofs.tape.Stands.{Stands}
 
 -- the numbers that the geometry and the opening fix
 pub record Setting (last pass : ℕ) : Type 0 where

@@ -42,9 +42,11 @@ use Rattle.archive.specs.Recordings.{Element}
 use Rattle.archive.specs.Demand as demand
 use Rattle.archive.specs.Demand.{newPass, Opening, on-header, on-none, opened, OnNewest, NoneBears}
 use Rattle.archive.specs.Fold.{foldOf}
+use Rattle.archive.specs.Trails.{filemarksAmong, latestAmong}
 use Rattle.archive.proofs.tape.Stands.{unending}
 use Rattle.archive.proofs.tape.Seen.{has, Seen, Clean}
 use Rattle.archive.proofs.tape.FoldLaws.{fold-none}
+use Rattle.archive.proofs.recording.Trailing.{Marked, Traces, TapeTrails, priorOf}
 use Rattle.archive.proofs.recording.HeaderCopies.{Carried, Below}
 use Rattle.archive.proofs.recording.CopiesLink.{to-seek}
 use Rattle.archive.proofs.recording.Noted.{noted}
@@ -166,6 +168,11 @@ module _ (g : Geometry) (last depth blocks : ℕ) (s : State) (e : lastOf g ≡ 
       sym (ap (λ (r : State). r .copies .header .pass) (o .with .0)) ∙ small
   pass-is on-none q = sym (ap (λ (r : State). r .copies .header .pass) (blank-with q .0))
 
+  -- it starts with no filemark
+  pub trail-none : (o : Opening) → opened g depth blocks o ≡ accepting s → s .elements .trail ≡ noTrail
+  trail-none (on-header h) q = sym (ap (λ (r : State). r .elements .trail) (on-header-view h q .with .0))
+  trail-none on-none q = sym (ap (λ (r : State). r .elements .trail) (blank-with q .0))
+
   -- every valid header that the cartridge holds counts less
   pub starts-below : (t : Tape) (o : Opening) → opened g depth blocks o ≡ accepting s → OnNewest last t o → Below last (s .copies .header) t
   starts-below t (on-header h) q n a f at =
@@ -208,12 +215,18 @@ nothing-seen last pass t cart none = record {
 pub nothing-borne : (last pass : ℕ) (t : Tape) → NoneBears last t pass → Clean last pass 10 t
 nothing-borne last pass t none = record { old = 9; old-low = omega arith; none = λ a f o l u q. none a f u q }
 
+-- before the first element of all there is no filemark
+pub nothing-traced : (P : ℕ → ℕ → Type 0) (trail : Trail) → trail ≡ noTrail → Traces [] P 0 trail
+unfolding filemarksAmong latestAmong
+nothing-traced P trail e = record { counts = ap (λ (x : Trail). x .filemarks) e; names = ap (λ (x : Trail). x .marker .0) e }
+
 -- ---- the start
 
-pub begins : (last : ℕ) (d : Drive) (window : List ℕ) (earlier : List Element) (kept : Bool) (at : ℕ) (s : State) (x : Started last earlier at s) (on-newest none-bears : Type 0) → Setting last (s .copies .header .pass) → d .written ≡ [] → AtRest d
+pub begins : (last : ℕ) (d : Drive) (window : List ℕ) (earlier : List Element) (kept : Bool) (at : ℕ) (s : State) (x : Started last earlier at s) (on-newest none-bears same : Type 0) → Setting last (s .copies .header .pass) → d .written ≡ [] → AtRest d
     → Cartridge last (d .tape) → (on-newest → Below last (s .copies .header) (d .tape)) → (none-bears → kept ≡ true → Seen last (s .copies .header .pass) earlier (length earlier) at (d .tape)) → (none-bears → Clean last (s .copies .header .pass) at (d .tape))
-    → Inv last (s .copies .header .pass) on-newest none-bears (noted earlier kept (recordings.started s window d))
-begins last d window earlier kept at s x on-newest none-bears set unwritten rest cart below seen clean =
+    → Traces earlier (Marked (priorOf last (s .copies .header .pass) earlier at (d .tape) same) last (s .copies .header .pass) at (d .tape)) (length earlier) (s .elements .trail)
+    → Inv last (s .copies .header .pass) on-newest none-bears (priorOf last (s .copies .header .pass) earlier at (d .tape) same) (noted earlier kept (recordings.started s window d))
+begins last d window earlier kept at s x on-newest none-bears same set unwritten rest cart below seen clean traced =
     live (subst (demand.Within last) (sym unwritten) demand.nothing-written) (record {
       k = length earlier;
       edge = at;
@@ -250,6 +263,18 @@ begins last d window earlier kept at s x on-newest none-bears set unwritten rest
             seen = subst (λ (xs : List Element). Seen last (s .copies .header .pass) xs (length earlier) (at) (d .tape)) (sym (append-nil earlier)) (seen p (and-true kept true u .0));
             stored = λ i h. absurd (none-pending i h);
           };
+      trailing = record {
+        from = omega (arith, first-is);
+        marked = λ i h. absurd (none-pending i h);
+        trail =
+            subst (λ (n : ℕ). Traces (earlier ++ []) (Marked (priorOf last (s .copies .header .pass) earlier at (d .tape) same) last (s .copies .header .pass) at (d .tape)) n (s .elements .trail)) (sym first-is)
+            (subst (λ (xs : List Element). Traces xs (Marked (priorOf last (s .copies .header .pass) earlier at (d .tape) same) last (s .copies .header .pass) at (d .tape)) (length earlier) (s .elements .trail)) (sym (append-nil earlier)) traced);
+        written = λ j l h. absurd (omega arith);
+        behind = λ st. absurd (opening-stage st);
+        queue = λ st. absurd (opening-stage st);
+        sent = λ _ _ st. absurd (opening-stage st);
+        tape = λ _ t. subst (λ (xs : List Element). TapeTrails last (s .copies .header .pass) xs at (d .tape)) (sym (append-nil earlier)) t;
+      };
     })
   where
     room : (x .header .last .0 + 1) % 2 ^ 32 ≤ last + 1
@@ -257,6 +282,9 @@ begins last d window earlier kept at s x on-newest none-bears set unwritten rest
 
     none-pending : (i : ℕ) → i < s .elements .pending → ⊥
     none-pending i h = let e : 0 ≡ s .elements .pending = ap (λ (r : State). r .elements .pending) (x .is) in omega arith
+
+    first-is : s .elements .first .0 ≡ length earlier
+    first-is = sym (ap (λ (r : State). r .elements .first .0) (x .is)) ∙ x .number-is
 
     stage-is : S.OpeningHeaders ≡ s .stage
     stage-is = ap (λ (r : State). r .stage) (x .is)

@@ -54,7 +54,7 @@ module _ (b : List ℕ) where
   abbrev pub left : Tape
   left = addedLeft b .tape
 
-  added-reads : left 80 ≡ some (elementFrame addedFilemark blank)
+  pub added-reads : left 80 ≡ some (elementFrame addedFilemark blank)
   unfolding put
   added-reads = refl
 
@@ -63,7 +63,7 @@ module _ (b : List ℕ) where
   end-reads = refl
 
   -- as the first recording left it, but for what was written
-  as-left : (a : ℕ) → 10 ≤ a → a < 80 → left a ≡ addedStart b .tape a
+  pub as-left : (a : ℕ) → 10 ≤ a → a < 80 → left a ≡ addedStart b .tape a
   as-left a low high =
       let t : Tape = addedOpened b .tape in
       headers-elsewhere addedClosing (addedWritten b) a (inl (low, omega arith))

@@ -37,7 +37,7 @@ pub record Step (s : State) (c : Command) (r : Reply) (next : State) : Type 0 wh
   pub replied : replyOf (awaits s c) r ≡ accepting next
 
 module _ (window : List ℕ) (accepted : List Element) where
-  abbrev world : State → Drive → Flight → World
+  abbrev pub world : State → Drive → Flight → World
   world s d f = record { session = s; window = window; drive = d; flight = f; notes = record { accepted = accepted; unaltered = true; reported = false } }
 
   -- between two commands
@@ -77,14 +77,27 @@ module _ (window : List ℕ) (accepted : List Element) (s : State) (d : Drive) {
   pub acting : {e : Drive} → Acts d e → Runs (between window accepted s e) cs u → Runs (between window accepted s d) cs u
   acting a rest = drive (acts _ a) rest
 
-  pub exchange : {next : State} {e : Drive} {c : Command} {r : Reply} → length window ≡ 32768 → Step s c r next → Answers d (frameFor c s window frame) c r e
-      → Runs (between window accepted next e) cs u → Runs (between window accepted s d) (fetch window frame ∷ reply r ∷ cs) u
+  -- a fetch that gives a command
+  pub given : {next : State} {c : Command} {r : Reply} → length window ≡ 32768 → Step s c r next → Runs (world window accepted (awaits s c) d (sent c (frameFor c s window frame))) cs u
+      → Runs (between window accepted s d) (fetch window frame ∷ cs) u
   unfolding sending
-  exchange {next} {e} {c} {r} long step answer rest =
+  given {next} {c} {r} long step rest =
+      let p = ap (λ (x : Command). world window accepted (awaits s c) d (sent x (frameFor c s window frame))) (command-by c) in
+      call (subst (λ v. Calls (between window accepted s d) (fetch window frame) v) p (fetched window accepted s d _ (fetch-sends s window frame (step .free) (long ∙ sym (step .sized)) framed c (step .decided)) refl)) rest
+
+  -- the drive's answer to it, and its reply
+  taken-in : {next : State} {e : Drive} {c : Command} {r : Reply} → Step s c r next → Answers d (frameFor c s window frame) c r e → Runs (between window accepted next e) cs u
+      → Runs (world window accepted (awaits s c) d (sent c (frameFor c s window frame))) (reply r ∷ cs) u
+  taken-in {next} {e} {c} {r} step answer rest =
       let w : World = world window accepted (awaits s c) e (answered r) in
       let p : between window accepted (replyOf (awaits s c) r .session) e ≡ between window accepted next e = ap (λ (x : OutcomeSaid). between window accepted (x .session) e) (step .replied) in
       let t : Calls w (reply r) (between window accepted next e) = subst (λ v. Calls w (reply r) v) p (replies r refl (inl (ap (λ (x : OutcomeSaid). x .number) (step .replied)))) in
-      call (fetched window accepted s d _ (fetch-sends s window frame (step .free) (long ∙ sym (step .sized)) framed c (step .decided)) refl) (drive (answers c (frameFor c s window frame) r e (ap (λ (x : Command). sent x (frameFor c s window frame)) (command-by c)) answer) (call t rest))
+      drive (answers c (frameFor c s window frame) r e refl answer) (call t rest)
+
+module _ (window : List ℕ) (accepted : List Element) (s : State) (d : Drive) {cs : List Call} {u : World} where
+  pub exchange : {next : State} {e : Drive} {c : Command} {r : Reply} → length window ≡ 32768 → Step s c r next → Answers d (frameFor c s window frame) c r e
+      → Runs (between window accepted next e) cs u → Runs (between window accepted s d) (fetch window frame ∷ reply r ∷ cs) u
+  exchange long step answer rest = given window accepted s d long step (taken-in window accepted s d step answer rest)
 
   pub filemark-accepted : {next : State} → filemarkOf s ≡ accepting next → Runs (between window (accepted ++ filemark ∷ []) next d) cs u → Runs (between window accepted s d) (accept-filemark ∷ cs) u
   filemark-accepted {next} e rest =

@@ -69,7 +69,7 @@ module _ (b : List ℕ) where
   unfolding put
   block-reads = refl
 
-  filemark-reads : left 45 ≡ some (elementFrame firstFilemark blank)
+  pub filemark-reads : left 45 ≡ some (elementFrame firstFilemark blank)
   unfolding put
   filemark-reads = refl
 

@@ -47,16 +47,16 @@ module _ (b : List ℕ) where
   abbrev pub left : Tape
   left = thirdLeft b .tape
 
-  third-reads : left 81 ≡ some (elementFrame thirdFilemark blank)
+  pub third-reads : left 81 ≡ some (elementFrame thirdFilemark blank)
   unfolding put
   third-reads = refl
 
-  end-reads : left 82 ≡ some (elementFrame thirdEod blank)
+  pub end-reads : left 82 ≡ some (elementFrame thirdEod blank)
   unfolding put
   end-reads = refl
 
   -- as the two left it, but for what was written
-  as-left : (a : ℕ) → 10 ≤ a → a < 81 → left a ≡ thirdStart b .tape a
+  pub as-left : (a : ℕ) → 10 ≤ a → a < 81 → left a ≡ thirdStart b .tape a
   as-left a low high =
       let t : Tape = thirdOpened b .tape in
       headers-elsewhere thirdClosing (thirdWritten b) a (inl (low, omega arith))

@@ -41,7 +41,7 @@ use Rattle.archive.proofs.Chain.{chains}
 
 -- ---- the opening
 
-abbrev thirdState : State
+abbrev pub thirdState : State
 thirdState = startedAt depth 0 thirdOpening (asAddress 81) (record { 0 = 3 }) addedTrail
 
 pub third-opened : (b : List ℕ) → openAtEndOf (addedRead b .session) depth blocks ≡ accepting thirdState
@@ -50,7 +50,7 @@ third-opened b = refl
 
 -- ---- the elements: the filemark at 81, EOD behind it
 
-abbrev marks : List Bool
+abbrev pub marks : List Bool
 marks = located 81 3 addedTrail .marks
 
 abbrev eodWritten : Elements
@@ -83,7 +83,7 @@ thirdEnd b = reported window thirdElements (finished thirdClosing eodWritten) (t
 
 -- ---- the list
 
-filemark-frame : writtenFrame (writing thirdOpening (located 81 3 addedTrail) (Locate (asAddress 81))) window ≡ elementFrame thirdFilemark blank
+pub filemark-frame : writtenFrame (writing thirdOpening (located 81 3 addedTrail) (Locate (asAddress 81))) window ≡ elementFrame thirdFilemark blank
 unfolding writtenFrame writtenElement elementOf elementFrame trailOf
 filemark-frame = refl
 
@@ -105,7 +105,7 @@ third-runs b =
 -- ---- the chain of the three
 
 module _ (b : List ℕ) (full : length b ≡ 32768) where
-  added-read-at : chain.HasRead geometry 11999 (addedLeft b .tape) (headerFrame addedClosing) (addedRead b)
+  pub added-read-at : chain.HasRead geometry 11999 (addedLeft b .tape) (headerFrame addedClosing) (addedRead b)
   added-read-at = record {
     cartridge = added-cartridge b full;
     opens = ap (λ (x : reading.OpenedSaid). x .number) added-reading-opened;

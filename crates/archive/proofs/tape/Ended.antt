@@ -1,9 +1,10 @@
 -- Where a fold has ended, the tape reads as an EOD that ends reading. Assumes nothing.
 use Prim.Native.Nat.{ℕ, zero, suc, _≤_}
-use mathlib.Core.Path.{_≡_, refl, sym, ap, subst, _∙_}
+use mathlib.Core.Path.{_≡_, refl, ap, subst, _∙_}
 use mathlib.Core.Bool.{true}
 use mathlib.Core.List.{List}
 use mathlib.Core.Option.{Option, none, some}
+use borrow.Author.Tests.{ltb-false}
 use Rattle.geometry.specs.Cartridge.{isUser}
 use Rattle.geometry.proofs.PickLaws.{pick-by}
 use Rattle.geometry.proofs.Impossible.{never}
@@ -13,7 +14,7 @@ use Rattle.judgement.specs.Judgement as judgement
 use Rattle.judgement.specs.Judgement.{JudgementSaid, endsFrom, judgeFrame}
 use Rattle.judgement.specs.declared.told.Told.{Told}
 use Rattle.judgement.proofs.Facts.{FoundAs}
-use Rattle.judgement.proofs.JudgeView.{JudgeView, judge-view, end-known}
+use Rattle.judgement.proofs.JudgeView.{JudgeView, judge-view, found-known}
 use Rattle.archive.specs.Tape.{Tape}
 use Rattle.archive.specs.Recordings.{Element}
 use Rattle.archive.specs.Fold.{Reader, going, finished, stopped, advance, look, foldOf}
@@ -54,4 +55,6 @@ module _ (told : Told) (t : Tape) (got : List Element) (e : ℕ) where
 
 -- the EOD that ends it, from where EODs end reading on
 pub ends-known : {told : Told} {t : Tape} {got : List Element} {e : ℕ} (x : EndsHere told t got e) → FoundAs told (record { 0 = x .number }) Eod (x .frame) × (endsFrom told ≤ e)
-ends-known {told} {e = e} x = end-known (subst (JudgeView told (record { 0 = e }) (record { 0 = x .number }) (x .frame)) (x .judged) (judge-view told (record { 0 = e }) (record { 0 = x .number }) (x .frame)))
+ends-known {told} {e = e} x =
+    let y = found-known Eod (subst (JudgeView told (record { 0 = e }) (record { 0 = x .number }) (x .frame)) (x .judged) (judge-view told (record { 0 = e }) (record { 0 = x .number }) (x .frame))) in
+    (y .0, ltb-false e (endsFrom told) (y .1))

@@ -2,13 +2,13 @@
 use Prim.Native.Nat.{ℕ, zero, suc, _+_, _-_, _≤_, _<_}
 use mathlib.Core.Path.{_≡_, refl, sym, ap, subst, _∙_}
 use mathlib.Core.Bool.{Bool, true, false, true≢false}
-use mathlib.Core.List.{List, [], _∷_, _++_}
+use mathlib.Core.List.{List}
 use mathlib.Core.Option.{Option, none, some}
 use native.Mathlib.Nat.{le-refl}
 use native.Mathlib.Numerals.{add-one}
 use native.Mathlib.Omega.{arith}
-use borrow.Author.Tests.{eq-eqb, ne-eqb, eqb-true, eqb-false}
-use lib.Dec.{eqb, ltb}
+use borrow.Author.Tests.{eq-eqb, ne-eqb}
+use lib.Dec.{ltb}
 use lib.ListN.{length, take, getD}
 use lib.Seq.{take-suc}
 use Rattle.geometry.specs.Pick.{pick}
@@ -21,9 +21,10 @@ use Rattle.judgement.specs.declared.told.Told.{Told}
 use Rattle.archive.specs.Tape.{Tape, SameFrames, put}
 use Rattle.archive.specs.Recordings.{Element, filemark}
 use Rattle.archive.specs.Fold.{Reader, going, finished, stopped, advance, look, foldOf}
+use Rattle.archive.specs.Trails.{Item, element, eod, itemAt}
 use Rattle.archive.proofs.tape.Basics.{none-some, some-same}
 use Rattle.archive.proofs.tape.Seen.{Has, has}
-use Rattle.archive.proofs.tape.Stands.{Item, element, eod, itemAt, Stands}
+use Rattle.archive.proofs.tape.Stands.{Stands}
 use Rattle.archive.proofs.tape.StandsLaws.{item-in, item-past, stands-below, stands-found, eod-passed, element-late, trailBehind, advance-found}
 
 -- ---- a tape with one address changed

@@ -10,18 +10,19 @@ use native.Mathlib.Nat.{le-refl, eq-or-lt-of-le}
 use native.Mathlib.Omega.{arith}
 use borrow.Author.Tests.{leb-true, leb-false}
 use lib.Dec.{leb}
-use lib.ListN.{length, take, length-append}
+use lib.ListN.{length, length-append}
 use lib.Seq.{take-append-le}
 use Rattle.geometry.specs.Cartridge.{isUser}
 use Rattle.geometry.proofs.UserFrames.{user-ranges}
 use Rattle.judgement.specs.Judgement.{skipped, endsFrom, judgeFrame}
 use Rattle.archive.specs.Conduct.{Left, as-before, as-new, not-at-all, reads}
-use Rattle.archive.specs.Tape.{Tape, Cartridge, put, Bears}
+use Rattle.archive.specs.Tape.{Tape, Cartridge, put}
 use Rattle.archive.specs.Fold.{Reader, going, look, foldOf}
 use Rattle.archive.specs.Recordings.{Element}
+use Rattle.archive.specs.Trails.{itemAt}
 use Rattle.archive.proofs.tape.Basics.{none-some}
 use Rattle.archive.proofs.tape.Seen.{Has, has, Seen, Quiet, Clean, NoneFrom}
-use Rattle.archive.proofs.tape.Stands.{itemAt, unending, Stands}
+use Rattle.archive.proofs.tape.Stands.{unending, Stands}
 use Rattle.archive.proofs.tape.StandsLaws.{stands-read, ends-telling}
 use Rattle.archive.proofs.tape.FoldLaws.{put-same, put-other, look-quiet, look-next, look-again, look-eod, fold-put-other, fold-put-at, fold-quiet}
 

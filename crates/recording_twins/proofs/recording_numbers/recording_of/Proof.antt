@@ -1,6 +1,7 @@
--- `recording_twins::recording_numbers::recording_of` meets its contract: by what its parts' conversions promise. Assumes nothing.
+-- `recording_twins::recording_numbers::recording_of` meets its contract: by what its parts' conversions promise, and the laws of Inverse. Assumes nothing.
 use borrow.Author.Needs.{needs}
 use Rattle.recording_twins.specs.Recording.{recordingOf}
+use Rattle.recording_twins.proofs.Inverse.{recording-comes-back}
 use Rattle.recording_twins.proofs.recording_numbers.recording_of.Statement.{statement}
 use Rattle.recording_twins.proofs.recording_numbers.recording_of.Tie as tie
 
@@ -18,7 +19,7 @@ elements-of-requires c κs = search needs
 
 returns : tie.Need-returns
 unfolding recordingOf
-returns c = rw (c .elements-of .ensures, c .before .copies-of .ensures, c .before .before .before .before .exchange-of .ensures, c .before .before .before .before .before .stage-of .ensures)
+returns c = (rw (c .elements-of .ensures, c .before .copies-of .ensures, c .before .before .before .before .exchange-of .ensures, c .before .before .before .before .before .stage-of .ensures), recording-comes-back)
 
 pub recording-of-spec : {M : Type 1} → statement M
 recording-of-spec =

@@ -1,0 +1,30 @@
+-- The statements over whole lists of calls, over all calls, and over what is built.
+use Rattle.frame.specs.ReadBack.{ReadBack}
+use Rattle.header.specs.ReadBack.{HeaderReadBack}
+use Rattle.archive.specs.Demand.{Demand3}
+use Rattle.archive.specs.EndNamed.{EndNamed}
+use Rattle.archive.specs.Fold.{ReadingIsFold, FoldOfUserFrames}
+use Rattle.archive.specs.Chain.{Adds, Chains}
+use Rattle.archive.specs.Trails.{WritesNameMarkers, ChainsNameMarkers}
+use Rattle.archive.specs.Exchanges.{CommandsSent, RepliesRefused}
+use Rattle.archive.specs.Refusals.{RefusedCalls}
+
+pub record Promises : Type 0 where
+  -- 00, demand 1: what a refused call leaves; 01, "Replies": which replies are refused with 8
+  pub refused-calls : RefusedCalls
+  pub replies-refused : RepliesRefused
+  -- 00, demand 2: fields written read back; the command answered is the command sent
+  pub read-back : ReadBack
+  pub header-read-back : HeaderReadBack
+  pub commands-sent : CommandsSent
+  -- 00, demand 3, and what a reading of any cartridge gives
+  pub demand-3 : Demand3
+  pub end-named : EndNamed
+  pub reading-is-fold : ReadingIsFold
+  pub fold-of-user-frames : FoldOfUserFrames
+  -- 02, Card 1: the same where a session adds, and over a chain
+  pub adds : Adds
+  pub chains : Chains
+  -- 01, "AUX bytes": where frames go, and which filemarks they name
+  pub writes-name-markers : WritesNameMarkers
+  pub chains-name-markers : ChainsNameMarkers
