@@ -27,3 +27,4 @@ pub mod Calls
 pub mod Completion
 pub mod Named
 pub mod ListedReplies
+pub mod InFlight
