@@ -69,9 +69,11 @@ static void same_recording(struct adr_recording a, struct adr_recording b)
 {
     SAME(a, b, setup.depth);
     SAME(a, b, setup.highest);
+    SAME(a, b, setup.tail);
     SAME(a, b, stage);
     SAME(a, b, closed);
     SAME(a, b, ended);
+    SAME(a, b, spent);
     same_exchange(a.exchange, b.exchange);
     same_copies(a.copies, b.copies);
     same_elements(a.elements, b.elements);
@@ -134,8 +136,9 @@ static struct adr_recording recording(void)
     fill(&s, sizeof s);
     s.setup.depth = 9;
     s.setup.highest = 20;
+    s.setup.tail = 30;
     s.stage = 1;
-    s.closed = s.ended = 0;
+    s.closed = s.ended = s.spent = 0;
     s.exchange.command.code = ADR_WRITE;
     s.exchange.command.address = 2000;
     s.exchange.awaiting = 1;
@@ -228,6 +231,49 @@ static void elements(void)
     replied("write error behind a filemark", s, error, expected);
     error.position = 2000;
     expect("a frame not outstanding", adr_record_reply(s, error).number == ADR_BAD_REPLY);
+}
+
+/* A write error's target is in the tail: 9. Close gives up from the failed
+   element on, and EOD goes to the target. */
+static void giving_up(void)
+{
+    static uint8_t window[21 * ADR_BLOCK_LENGTH], frame[ADR_FRAME_LENGTH];
+    struct adr_recording s = recording(), expected;
+    struct adr_reply error = sense(0x03, 0x0C, 0x00);
+    error.position = 1999;
+    error.skip = 7;
+    s.elements.limit = 2030; /* elements up to 1999 */
+    expected = s;
+    expected.elements.first = 1002;
+    expected.elements.pending = 3;
+    expected.elements.outstanding = 0;
+    expected.elements.trail.filemarks++;
+    expected.elements.trail.marker = 1998;
+    expected.elements.locate = 1;
+    expected.elements.target = 2006;
+    expected.ended = expected.spent = 1;
+    struct adr_record_outcome o = adr_record_reply(s, error);
+    expect("a target in the tail", o.number == ADR_TAPE_FULL);
+    same_recording(o.session, expected);
+
+    struct adr_recording unknown = o.session;
+    unknown.spent = 2;
+    expect("no session's", adr_record_close(unknown).number == ADR_WRONG_PHASE);
+    expect("a filemark after 9", adr_record_filemark(o.session).number == ADR_WRONG_PHASE);
+    o = adr_record_close(o.session);
+    expected.elements.pending = expected.elements.eod = expected.closed = 1;
+    expected.ended = expected.spent = 0;
+    expected.exchange.command.code = ADR_READ_POSITION;
+    expected.exchange.command.address = 0;
+    expected.exchange.awaiting = 0;
+    expect("giving up", o.number == 0);
+    same_recording(o.session, expected);
+    expect("closing again", adr_record_close(o.session).number == ADR_WRONG_PHASE);
+
+    struct adr_record_fetched f =
+        adr_record_fetch(o.session, window, sizeof window, frame, sizeof frame);
+    expect("EOD's place", f.answer == ADR_COMMAND && f.command.code == ADR_LOCATE &&
+                              f.command.address == 2006);
 }
 
 static void header_copies(void)
@@ -428,25 +474,26 @@ static struct adr_reading at_end(void)
 static void adding(void)
 {
     struct adr_reading s = at_end();
-    struct adr_recording expected = adr_record_open_blank(cartridge, 9, 21).session;
+    struct adr_recording expected = adr_record_open_blank(cartridge, 9, 21, 30).session;
     expected.copies.header.old = 500;
     expected.copies.header.update = s.told.update + 1;
     expected.copies.header.pass = 77;
     expected.elements.first = 1000;
     expected.elements.next = expected.elements.target = 500;
     expected.elements.trail = s.trail;
-    struct adr_record_outcome o = adr_record_open_at_end(s, 9, 21);
+    struct adr_record_outcome o = adr_record_open_at_end(s, 9, 21, 30);
     expect("adding", o.number == 0);
     same_recording(o.session, expected);
 }
 
 /* Adding is refused with this number and gives what every refused opening does. */
-static void not_added(struct adr_reading s, uint32_t depth, uint32_t blocks, uint8_t number)
+static void not_added(struct adr_reading s, uint32_t depth, uint32_t blocks, uint32_t tail,
+                      uint8_t number)
 {
     static const struct adr_geometry none;
-    struct adr_record_outcome o = adr_record_open_at_end(s, depth, blocks);
+    struct adr_record_outcome o = adr_record_open_at_end(s, depth, blocks, tail);
     expect("adding refused", o.number == number);
-    same_recording(o.session, adr_record_open_blank(none, 9, 21).session);
+    same_recording(o.session, adr_record_open_blank(none, 9, 21, 30).session);
 }
 
 /* Each reason is added to those before it and goes before them. */
@@ -454,13 +501,14 @@ static void refusing(void)
 {
     struct adr_reading s = at_end();
     s.told.eod = 499;
-    not_added(s, 9, 21, ADR_END_ELSEWHERE);
+    not_added(s, 9, 21, 30, ADR_END_ELSEWHERE);
     s.told.eod = 0;
-    not_added(s, 9, 21, ADR_END_ELSEWHERE);
+    not_added(s, 9, 21, 30, ADR_END_ELSEWHERE);
     s.told.update = 4294967294;
-    not_added(s, 9, 21, ADR_EXHAUSTED);
-    not_added(s, 256, 21, ADR_BAD_SIZE);
-    not_added(s, 9, 256 + 21, ADR_BAD_SIZE);
+    not_added(s, 9, 21, 30, ADR_EXHAUSTED);
+    not_added(s, 256, 21, 30, ADR_BAD_SIZE);
+    not_added(s, 9, 256 + 21, 30, ADR_BAD_SIZE);
+    not_added(s, 9, 21, 256, ADR_BAD_SIZE);
     struct adr_reading unfit[] = { s, s, s, s, s };
     unfit[0].finished = 0;
     unfit[1].ended = 1;
@@ -468,7 +516,7 @@ static void refusing(void)
     unfit[3].exchange.again = 1;
     unfit[4].position.locate = 2; /* no session's */
     for (size_t i = 0; i < sizeof unfit / sizeof *unfit; i++)
-        not_added(unfit[i], 256, 21, ADR_WRONG_PHASE);
+        not_added(unfit[i], 256, 21, 256, ADR_WRONG_PHASE);
 }
 
 static void small_structs(void)
@@ -484,10 +532,12 @@ static void small_structs(void)
     expect("copies", adr_header_address(1, 3) == 2993 && adr_header_address(2, 9) == 9);
     struct adr_choice none = adr_choose(g, blank, sizeof blank, blank, sizeof blank);
     expect("choice", none.which == 0 && none.number == ADR_BAD_HEADER);
-    expect("depth", adr_record_open_blank(g, 256, 1).number == ADR_BAD_SIZE);
-    expect("window", adr_record_open_blank(g, 1, 256 + 64).number == ADR_BAD_SIZE);
-    struct adr_recording s = adr_record_open_blank(g, 255, 64).session;
-    expect("setup", s.setup.depth == 255 && s.setup.highest == 63);
+    expect("depth", adr_record_open_blank(g, 256, 1, 0).number == ADR_BAD_SIZE);
+    expect("window", adr_record_open_blank(g, 1, 256 + 64, 0).number == ADR_BAD_SIZE);
+    expect("tail", adr_record_open_blank(g, 1, 64, 256).number == ADR_BAD_SIZE);
+    expect("no cartridge first", adr_record_open_blank(third, 1, 64, 256).number == ADR_NO_CARTRIDGE);
+    struct adr_recording s = adr_record_open_blank(g, 255, 64, 254).session;
+    expect("setup", s.setup.depth == 255 && s.setup.highest == 63 && s.setup.tail == 254);
     expect("header", s.copies.header.last == 10811 && s.copies.header.pass == 1);
 }
 
@@ -496,6 +546,7 @@ int main(void)
     no_session();
     accepting();
     elements();
+    giving_up();
     header_copies();
     closing();
     told();

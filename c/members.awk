@@ -1,6 +1,6 @@
 # Writes the structs of a C header, of crates or of a Rust file, each on a line with its members' names and widths in their order, in the same words:
 #   adr_trail: filemarks u32, marker u32
-# A line of a struct that is not understood is written as it is, so that it agrees with no other.
+# A line of a struct that is not understood is written as it is, so that it agrees with no other. A crate's struct crosses to C if it is marked so; any other is passed over.
 
 # AdrReadTaken and ReadTaken as adr_read_taken.
 function c_name(name) {
@@ -65,9 +65,15 @@ function bare(line,    kept, place) {
     $0 = bare($0)
 }
 
+/^#\[repr\(C\)\]$/ {
+    marked = 1
+    next
+}
+
 /^(pub )?struct [A-Za-z_]+ \{$/ {
-    name = $(NF - 1)
+    name = marked || FILENAME !~ /\.rt$/ ? $(NF - 1) : ""
     members = ""
+    marked = 0
     next
 }
 

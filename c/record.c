@@ -1,24 +1,31 @@
 /* Records blocks and filemarks on a small drive in memory that has a bad spot
    and is often busy, reads them back and compares; then does so once more on
    the same cartridge, of whose header copies only one is left. Then it meets
-   header copies that differ, and a cartridge without any. At last it records on
+   header copies that differ, and a cartridge without any. Then it records on
    another cartridge, tries to add to it where that is refused, adds twice, once
-   with the old end gone bad, and reads back all of it. The commands are
-   printed, each LOCATE on a line of its own with what follows it: W a WRITE, R
-   a READ, C a READ with a correction, P a READ POSITION with the frames still
-   buffered, B a busy reply, ! a write error with the address that failed. */
+   with the old end gone bad, and reads back all of it. At last it fills a
+   cartridge, of which little can be written, up to the tail, closes it, records
+   the rest on one more cartridge and reads back both. The commands are printed,
+   each LOCATE on a line of its own with what follows it: W a WRITE, R a READ, C
+   a READ with a correction, P a READ POSITION with the frames still buffered, B
+   a busy reply, ! a write error with the address that failed. */
 #include "adr.h"
 
 #include <stdio.h>
 #include <stdlib.h>
 #include <string.h>
 
-enum { FRAMES = 3001, DEPTH = 3, WINDOW = 4, BAD_SPOT = 12, SKIP = 3 };
+enum { FRAMES = 3001, DEPTH = 3, WINDOW = 4, BAD_SPOT = 12, SKIP = 3, MOST = 255 };
 enum { HARD_TO_READ = 7, BUSY_TURN = 7 };
 
 /* The elements of the cartridge that is added to, after each recording, and
    where the first one ended. */
 enum { FIRST = 4, SECOND = 9, THIRD = 11, OLD_END = 14 };
+
+/* What can't be written of the cartridge that is filled, the frames that are
+   kept for EOD there, the elements that are to be recorded, and how many of
+   them find room: six below the bad stretch and nine behind it. */
+enum { STRETCH = 16, GOOD_AGAIN = 2980, TAIL = 12, MANY = 19, FITTING = 15, NO_TAIL = 0 };
 
 /* Where a header frame has its EOD address and its update count, and the
    highest count that is added to. */
@@ -35,6 +42,8 @@ struct drive {
     uint32_t buffered;
     uint32_t front;    /* where the oldest buffered frame goes, or the next to be read */
     uint32_t bad_spot; /* can't be written, and reads as before */
+    uint32_t good;     /* where it can be written again, if not behind the bad spot */
+    int quiet;         /* prints nothing */
     int stopped;       /* at a bad spot, until LOCATE */
     unsigned sent;     /* every BUSY_TURN-th command is answered busy */
 };
@@ -45,12 +54,31 @@ static struct adr_reply sense(uint8_t key, uint8_t asc, uint8_t ascq)
     return reply;
 }
 
+#define SAY(drive, ...)           \
+    do {                          \
+        if (!(drive)->quiet)      \
+            printf(__VA_ARGS__);  \
+    } while (0)
+
+static int is_bad(const struct drive *drive, uint32_t address)
+{
+    return address == drive->bad_spot || (address > drive->bad_spot && address < drive->good);
+}
+
+/* The skip that is advised: past the bad stretch, as far as a skip can go. */
+static uint32_t skip_at(const struct drive *drive, uint32_t address)
+{
+    if (address >= drive->good)
+        return SKIP;
+    return drive->good - address < MOST ? drive->good - address : MOST;
+}
+
 static struct adr_reply write_error(const struct drive *drive)
 {
     struct adr_reply reply = sense(0x03, 0x0C, 0x00);
     reply.position = drive->front;
-    reply.skip = SKIP;
-    printf(" !%u", (unsigned)drive->front);
+    reply.skip = skip_at(drive, drive->front);
+    SAY(drive, " !%u", (unsigned)drive->front);
     return reply;
 }
 
@@ -59,7 +87,7 @@ static void write_oldest(struct drive *drive)
 {
     if (drive->stopped || drive->buffered == 0)
         return;
-    if (drive->front == drive->bad_spot) {
+    if (is_bad(drive, drive->front)) {
         drive->stopped = 1;
         return;
     }
@@ -93,9 +121,9 @@ static struct adr_reply send(struct drive *drive, struct adr_command command, ui
 {
     struct adr_reply reply = sense(0, 0, 0);
     if (command.code == ADR_LOCATE)
-        printf("\nLOCATE %u:", (unsigned)command.address);
+        SAY(drive, "\nLOCATE %u:", (unsigned)command.address);
     if (++drive->sent % BUSY_TURN == 0) {
-        printf(" B");
+        SAY(drive, " B");
         return sense(0x02, 0x04, drive->sent % 2 ? 0x01 : 0x08);
     }
     switch (command.code) {
@@ -105,23 +133,23 @@ static struct adr_reply send(struct drive *drive, struct adr_command command, ui
         drive->stopped = 0;
         return reply;
     case ADR_WRITE:
-        printf(" W");
+        SAY(drive, " W");
         if (drive->stopped)
             return write_error(drive);
         memcpy(drive->buffer[drive->buffered++], frame, ADR_FRAME_LENGTH);
         return reply;
     case ADR_READ_POSITION:
-        printf(" P");
+        SAY(drive, " P");
         write_oldest(drive);
         write_oldest(drive);
         if (drive->stopped)
             return write_error(drive);
         reply.buffered = drive->buffered;
-        printf("%u", (unsigned)drive->buffered);
+        SAY(drive, "%u", (unsigned)drive->buffered);
         return reply;
     default: /* READ */
         reply = read_next(drive, frame);
-        printf(reply.key == 0x01 ? " C" : " R");
+        SAY(drive, reply.key == 0x01 ? " C" : " R");
         return reply;
     }
 }
@@ -176,30 +204,63 @@ static struct adr_record_outcome accept(struct adr_recording session, uint8_t *w
     return outcome;
 }
 
+/* Brings a session to ADR_DONE; or the refusal, and the session that it left. */
+static struct adr_record_outcome carry_through(struct drive *drive, struct adr_recording session,
+                                               struct source *source)
+{
+    static uint8_t window[ADR_WINDOW_LENGTH(WINDOW)], frame[ADR_FRAME_LENGTH];
+    for (;;) {
+        struct adr_record_outcome outcome = accept(session, window, source);
+        if (outcome.number && outcome.number != ADR_WINDOW_FULL) {
+            failed("accepting", outcome.number);
+            return outcome;
+        }
+        struct adr_record_fetched fetched =
+            adr_record_fetch(outcome.session, window, sizeof window, frame, sizeof frame);
+        outcome.session = session = fetched.session;
+        outcome.number = fetched.number;
+        if (fetched.answer == ADR_REFUSED)
+            failed("a fetch", fetched.number);
+        if (fetched.answer == ADR_REFUSED || fetched.answer == ADR_DONE)
+            return outcome;
+        if (fetched.answer == ADR_COMMAND) {
+            struct adr_reply reply = send(drive, fetched.command, frame);
+            outcome = adr_record_reply(session, reply);
+            session = outcome.session;
+            if (outcome.number) {
+                failed("a reply", outcome.number);
+                return outcome;
+            }
+        }
+    }
+}
+
 /* Records in a session just opened; whether the recording became whole. */
 static int record(struct drive *drive, struct adr_record_outcome outcome, struct source source)
 {
-    static uint8_t window[ADR_WINDOW_LENGTH(WINDOW)], frame[ADR_FRAME_LENGTH];
     if (outcome.number)
         return failed("opening", outcome.number);
-    for (;;) {
-        outcome = accept(outcome.session, window, &source);
-        if (outcome.number && outcome.number != ADR_WINDOW_FULL)
-            return failed("accepting", outcome.number);
-        struct adr_record_fetched fetched =
-            adr_record_fetch(outcome.session, window, sizeof window, frame, sizeof frame);
-        outcome.session = fetched.session;
-        if (fetched.answer == ADR_REFUSED)
-            return failed("a fetch", fetched.number);
-        if (fetched.answer == ADR_DONE)
-            return 1;
-        if (fetched.answer == ADR_COMMAND) {
-            struct adr_reply reply = send(drive, fetched.command, frame);
-            outcome = adr_record_reply(fetched.session, reply);
-            if (outcome.number)
-                return failed("a reply", outcome.number);
-        }
-    }
+    return carry_through(drive, outcome.session, &source).number == 0;
+}
+
+/* Records up to the tail, gives the rest up and closes. Returns how many
+   elements are on tape, 0 if the tape did not become full or was not closed. */
+static unsigned record_what_fits(struct drive *drive, struct adr_record_outcome outcome,
+                                 struct source source)
+{
+    if (outcome.number)
+        return failed("opening", outcome.number);
+    outcome = carry_through(drive, outcome.session, &source);
+    if (outcome.number != ADR_TAPE_FULL)
+        return 0;
+    outcome = adr_record_close(outcome.session);
+    if (outcome.number)
+        return failed("closing once more", outcome.number);
+    unsigned on_tape = outcome.session.elements.first;
+    printf("closing with %u elements on tape", on_tape);
+    source.count = source.accepted;
+    source.closed = 1;
+    return carry_through(drive, outcome.session, &source).number == 0 ? on_tape : 0;
 }
 
 static int is_sense(struct adr_reply reply, uint8_t key, uint8_t asc, uint8_t ascq)
@@ -284,9 +345,10 @@ static int is_as_recorded(uint8_t answer, const uint8_t *frame, unsigned element
     return answer == ADR_BLOCK && memcmp(frame, block, sizeof block) == 0;
 }
 
-/* Brings a reading to its end; whether everything was delivered as recorded. */
-static int read_back(struct drive *drive, struct adr_reading *session, unsigned count,
-                     unsigned turn)
+/* Brings a reading to its end; whether so many elements were delivered as
+   recorded, the first of them with this number at the source. */
+static int read_back(struct drive *drive, struct adr_reading *session, unsigned first,
+                     unsigned count, unsigned turn)
 {
     static uint8_t frame[ADR_FRAME_LENGTH];
     unsigned delivered = 0;
@@ -304,8 +366,8 @@ static int read_back(struct drive *drive, struct adr_reading *session, unsigned 
             return failed("a reply", taken.number);
         if (taken.answer != ADR_BLOCK && taken.answer != ADR_FILEMARK)
             continue;
-        if (!is_as_recorded(taken.answer, frame, delivered, turn)) {
-            printf("\nelement %u is not as it was recorded\n", delivered);
+        if (!is_as_recorded(taken.answer, frame, first + delivered, turn)) {
+            printf("\nelement %u is not as it was recorded\n", first + delivered);
             return 0;
         }
         delivered++;
@@ -343,7 +405,7 @@ static int find_and_read_back(struct drive *drive, uint8_t *newest, struct adr_r
     if (newest_header(drive, newest) != FOUND)
         return 0;
     printf("\n\nreading back");
-    return open_reading(newest, reading) && read_back(drive, reading, count, turn);
+    return open_reading(newest, reading) && read_back(drive, reading, 0, count, turn);
 }
 
 /* Finds the newest header, records and reads back; whether all went well. */
@@ -357,8 +419,8 @@ static int record_and_read_back(struct drive *drive, uint8_t *newest, struct adr
     printf("\n\nrecording %u elements on a cartridge with%s a header", count,
            found == FOUND ? "" : "out");
     struct adr_record_outcome opened =
-        found == FOUND ? adr_record_open(geometry, DEPTH, WINDOW, newest, ADR_FRAME_LENGTH)
-                       : adr_record_open_blank(geometry, DEPTH, WINDOW);
+        found == FOUND ? adr_record_open(geometry, DEPTH, WINDOW, NO_TAIL, newest, ADR_FRAME_LENGTH)
+                       : adr_record_open_blank(geometry, DEPTH, WINDOW, NO_TAIL);
     struct source source = { count, turn, 0, 0 };
     return record(drive, opened, source) &&
            find_and_read_back(drive, newest, reading, count, turn);
@@ -402,7 +464,7 @@ static int open_altered(const uint8_t *newest, uint32_t update, uint32_t eod,
 /* Whether adding at the end of a reading is answered with this number. */
 static int is_answered(struct adr_reading reading, uint32_t depth, uint8_t number)
 {
-    uint8_t given = adr_record_open_at_end(reading, depth, WINDOW).number;
+    uint8_t given = adr_record_open_at_end(reading, depth, WINDOW, NO_TAIL).number;
     printf("\nadding: %u, %s\n", given, adr_refusal_text(given));
     return given == number;
 }
@@ -413,7 +475,7 @@ static int answers_end(struct drive *drive, const uint8_t *newest, uint32_t eod,
 {
     struct adr_reading reading;
     return open_altered(newest, highest_update, eod, &reading) &&
-           read_back(drive, &reading, FIRST, 0) && is_answered(reading, DEPTH, number);
+           read_back(drive, &reading, 0, FIRST, 0) && is_answered(reading, DEPTH, number);
 }
 
 /* Of four reasons to refuse, each shows when those before it are gone. */
@@ -422,7 +484,8 @@ static int refuses_to_add(struct drive *drive, const uint8_t *newest)
     struct adr_reading reading;
     printf("\nadding where that is refused");
     return open_altered(newest, highest_update + 1, 0, &reading) &&
-           is_answered(reading, 0, ADR_WRONG_PHASE) && read_back(drive, &reading, FIRST, 0) &&
+           is_answered(reading, 0, ADR_WRONG_PHASE) &&
+           read_back(drive, &reading, 0, FIRST, 0) &&
            is_answered(reading, 0, ADR_BAD_SIZE) && is_answered(reading, DEPTH, ADR_EXHAUSTED) &&
            answers_end(drive, newest, 0, ADR_END_ELSEWHERE) &&
            answers_end(drive, newest, OLD_END - 1, ADR_END_ELSEWHERE) &&
@@ -435,7 +498,7 @@ static int add_and_read_back(struct drive *drive, uint8_t *newest, struct adr_re
 {
     printf("\nadding %u elements to %u", count - earlier, earlier);
     struct source source = { count, 0, earlier, 0 };
-    return record(drive, adr_record_open_at_end(*reading, DEPTH, WINDOW), source) &&
+    return record(drive, adr_record_open_at_end(*reading, DEPTH, WINDOW, NO_TAIL), source) &&
            find_and_read_back(drive, newest, reading, count, 0);
 }
 
@@ -452,6 +515,34 @@ static int adds_twice(struct drive *drive, uint8_t *newest)
            add_and_read_back(drive, newest, &reading, SECOND, THIRD);
 }
 
+/* Finds the newest header of a cartridge and reads it back, without a word of
+   its commands. */
+static int reads_back(struct drive *drive, uint8_t *newest, unsigned first, unsigned count)
+{
+    struct adr_reading reading;
+    drive->quiet = 1;
+    return newest_header(drive, newest) == FOUND && open_reading(newest, &reading) &&
+           read_back(drive, &reading, first, count, 0);
+}
+
+/* Fills a cartridge up to its tail, and records the rest on another. This drive
+   reads nothing where a write failed; on others the element behind those on tape
+   may read there. */
+static int goes_on_elsewhere(struct drive *filled, struct drive *other, uint8_t *newest)
+{
+    struct source source = { MANY, 0, 0, 0 };
+    printf("\nrecording %u elements on a cartridge that has not room for all", MANY);
+    unsigned on_tape = record_what_fits(
+        filled, adr_record_open_blank(geometry, DEPTH, WINDOW, TAIL), source);
+    if (on_tape != FITTING)
+        return 0;
+    printf("\n\nrecording the other %u elsewhere", MANY - on_tape);
+    source.accepted = on_tape;
+    return record(other, adr_record_open_blank(geometry, DEPTH, WINDOW, TAIL), source) &&
+           reads_back(filled, newest, 0, on_tape) &&
+           reads_back(other, newest, on_tape, MANY - on_tape);
+}
+
 static void erase(struct drive *drive)
 {
     for (size_t address = 0; address < FRAMES; address++)
@@ -460,7 +551,8 @@ static void erase(struct drive *drive)
 
 int main(void)
 {
-    static struct drive drive = { .bad_spot = BAD_SPOT }, other;
+    static struct drive drive = { .bad_spot = BAD_SPOT }, other, last;
+    static struct drive filled = { .bad_spot = STRETCH, .good = GOOD_AGAIN };
     static uint8_t newest[ADR_FRAME_LENGTH];
     struct adr_reading reading;
     printf("LAST is %u\n", (unsigned)adr_last(geometry).address);
@@ -468,8 +560,10 @@ int main(void)
     lose_copies(&drive);
     whole = whole && record_and_read_back(&drive, newest, &reading, 5, 1) &&
             refuses_unlike_copies(&drive, newest) && finds_none_on_a_blank(newest) &&
-            adds_twice(&other, newest);
+            adds_twice(&other, newest) && goes_on_elsewhere(&filled, &last, newest);
     erase(&drive);
     erase(&other);
+    erase(&filled);
+    erase(&last);
     return !whole;
 }

@@ -11,7 +11,7 @@
 
 enum { STACK = 1 << 18, LIMIT = 4096, PATTERN = 0xA5 };
 enum { FRAMES = 3001, HEADER = 5, FIRST = 10, OLD_END = 13, SKIP = 1, KEPT = 17 };
-enum { DEPTH = 2, BLOCKS = 2 };
+enum { DEPTH = 2, BLOCKS = 2, TAIL = 0 };
 
 static const struct adr_geometry geometry = { FRAMES, 1, ADR_BEGINNING };
 static const struct adr_reply good;
@@ -80,11 +80,12 @@ static int ask(void)
 
 static void make_calls(void)
 {
-    made = record(adr_record_open_blank(geometry, DEPTH, BLOCKS), FIRST) && ask()
-           && record(adr_record_open(geometry, DEPTH, BLOCKS, tape[HEADER], sizeof tape[HEADER]),
+    made = record(adr_record_open_blank(geometry, DEPTH, BLOCKS, TAIL), FIRST) && ask()
+           && record(adr_record_open(geometry, DEPTH, BLOCKS, TAIL, tape[HEADER],
+                                     sizeof tape[HEADER]),
                      FIRST)
            && read_back(1)
-           && record(adr_record_open_at_end(reading, DEPTH, BLOCKS), OLD_END) && read_back(2);
+           && record(adr_record_open_at_end(reading, DEPTH, BLOCKS, TAIL), OLD_END) && read_back(2);
 }
 
 /* The stack grows towards its first byte. */

@@ -9,8 +9,8 @@
 
        cc -Iinclude program.c target/staticlib/libadr.a
 
-   Of the C library it calls memcpy, memmove and memset, and no call takes more
-   than 4 KiB of stack.
+   Of the C library it calls nothing but memcpy, memmove and memset, and no call
+   takes more than 4 KiB of stack.
 
    SESSIONS. A session is a struct that the host keeps. Each call takes it by
    value and hands it back, changed, in its result: keep the new one, give it
@@ -31,14 +31,14 @@
    REFUSALS. No call has a precondition on its numbers or lengths: what it
    can't serve it refuses with a number. A refused call writes to no buffer. 1
    to 7 leave the session as it was, and the call counts for nothing; 8 and more
-   end it, and every later call is refused with 7. An opening that is refused,
-   by whatever number, gives a session that has ended; 13 comes from openings
-   alone.
+   end it, and every later call is refused with 7, but for one close after a 9
+   (see THE TAIL). An opening that is refused, by whatever number, gives a
+   session that has ended; 13 comes from openings alone.
 
    A RECORDING, in short. 'send' sends a command to the drive and returns its
    reply; it sends the frame with a WRITE, and fills it with what a READ brings:
 
-       struct adr_record_outcome o = adr_record_open_blank(g, depth, 64);
+       struct adr_record_outcome o = adr_record_open_blank(g, depth, 64, tail);
        while (!o.number) {
            while (have_block && !o.number) {
                o = adr_record_block(o.session, block, sizeof block, window, sizeof window);
@@ -62,6 +62,44 @@
        }
 
    After it o.number is 0 if the recording is whole, else the refusal.
+
+   THE TAIL. A recording that fills the tape to its last frame has no room for
+   EOD behind it: after its close a fetch is refused with 9, and no reading of it
+   comes to an end. So an opening takes T, the tail: elements don't go to the
+   last T addresses of the tape, and EOD may. (2,990 to 2,999 count, too, though
+   nothing is recorded there.) At a write error EOD moves on by the skip that the
+   drive advises, so let T be a few of its skips; each frame of it is 32 KiB that
+   elements lack. With T 0 there is no tail, and 9 ends the session for good. Nor
+   does a tail help, as a rule, where the drive meets the tape's end before the
+   last address (0D/00/02): elements have then gone up to there.
+
+   Where T is above 0 and an element finds no room, 9 leaves one call, close,
+   also if the session was closed before. It gives up the elements that are not
+   known to be on tape, at most W, and EOD takes their place. Behind the loop
+   above:
+
+       uint32_t on_tape = 0;
+       if (o.number == ADR_TAPE_FULL) {
+           o = adr_record_close(o.session);
+           on_tape = o.session.elements.first;
+       }
+       while (!o.number) {
+           ... fetch and reply as above
+       }
+
+   The close is refused with 7 where T is 0, or where it was EOD that found no
+   room. After the second loop o.number is 0 if the recording is closed; 9 is for
+   good now. The elements numbered below on_tape are then recorded: a reading
+   delivers them and comes to its end. Before its end it may deliver one more,
+   the one with that number, where that reads at the spot at which it failed. (A
+   program that knows of no tails may then miss the end.) So the host records
+   what has the number on_tape and above on another cartridge. Numbers count from
+   0 or, in an addition, from the first on the cartridge. Blocks that were given
+   up still stand in the window, element i at block i modulo W; which of the
+   elements were filemarks the host has to know. on_tape is taken from what the
+   close returns, since EOD is counted too once it is on tape. The end of such a
+   cartridge lies, as a rule, in its tail: an addition with the same T finds no
+   room for its first element either.
 
    A READING. The replies deliver the elements, and there is nothing to close:
 
@@ -96,7 +134,8 @@
                t = adr_read_reply(f.session, reply, frame, sizeof frame);
            }
        }
-       struct adr_record_outcome o = adr_record_open_at_end(t.session, depth, 64);
+       struct adr_record_outcome o =
+           adr_record_open_at_end(t.session, depth, 64, tail);
        while (!o.number) {
            ... as in a recording
        }
@@ -105,7 +144,8 @@
    7. What else has to hold, and what of it no call can tell, stands at
    adr_record_open_at_end.
 
-   c/record.c is a whole program; it also finds the newest header, and adds.
+   c/record.c is a whole program; it also finds the newest header, adds, and goes
+   on with a second cartridge where the first is full.
 
    THE DRIVE'S NUMBERS come from these commands of the standard, 'ADR Commands
    and Logical Tape Format 1.3'. Page codes are hexadecimal; the bytes of a mode
@@ -210,12 +250,12 @@ extern "C" {
 #define ADR_WRONG_LENGTH 1   /* a lent length is wrong */
 #define ADR_NO_CARTRIDGE 2   /* a geometry with fewer than 3,001 frames, or no geometry */
 #define ADR_BAD_HEADER 3     /* a header is not valid, or two of equal count differ */
-#define ADR_BAD_SIZE 4       /* D is not 1 to 255, or W is not 1 to 64 */
+#define ADR_BAD_SIZE 4       /* D is not 1 to 255, W not 1 to 64, or T not 0 to 255 */
 #define ADR_EXHAUSTED 5      /* the cartridge's passes or update counts are used up */
 #define ADR_WINDOW_FULL 6    /* W elements are not yet on tape: fetch and reply first */
 #define ADR_WRONG_PHASE 7    /* the call does not fit here, or no session was given */
 #define ADR_BAD_REPLY 8      /* the drive's reply is unlawful for its command */
-#define ADR_TAPE_FULL 9      /* no room is left on tape */
+#define ADR_TAPE_FULL 9      /* no room is left on tape; close may be (see THE TAIL) */
 #define ADR_MISSING 10       /* an element is missing on tape */
 #define ADR_FOREIGN 11       /* a frame was not written in this format */
 #define ADR_NOT_FOUND 12     /* no header copy could be written; no end was found */
@@ -225,7 +265,7 @@ extern "C" {
 #define ADR_REFUSED 0  /* 'number' says why */
 #define ADR_COMMAND 1  /* send 'command' to the drive and bring its reply */
 #define ADR_IDLE 2     /* nothing to do: accept an element, or close */
-#define ADR_DONE 3     /* the recording is whole and closed */
+#define ADR_DONE 3     /* the recording is closed, and whole but for what was given up */
 #define ADR_END 4      /* everything was read */
 #define ADR_NOTHING 5  /* the reply delivers nothing */
 #define ADR_BLOCK 6    /* the first 32,768 bytes of the lent frame are the next block */
@@ -299,8 +339,9 @@ struct adr_command {
 };
 
 /* The structs from here to adr_reading are what sessions consist of. Their
-   members are named for debuggers; a host neither sets nor needs them. Flags
-   are 0 or 1. */
+   members are named for debuggers; a host sets none of them, and needs
+   elements.first of a recording alone, where elements were given up (see THE
+   TAIL above). Flags are 0 or 1. */
 struct adr_exchange {
     struct adr_command command; /* the command last given; nothing before the first */
     uint8_t awaiting;           /* its reply is awaited */
@@ -310,6 +351,7 @@ struct adr_exchange {
 struct adr_setup {
     uint8_t depth;   /* D */
     uint8_t highest; /* W - 1 */
+    uint8_t tail;    /* T */
 };
 
 struct adr_header {
@@ -339,7 +381,7 @@ struct adr_trail {
 struct adr_elements {
     uint32_t first;  /* number of the oldest element not known on tape */
     uint32_t next;   /* where the next frame goes, unless a LOCATE comes first */
-    uint32_t limit;  /* one past the highest address that may be written */
+    uint32_t limit;  /* one past the highest address that EOD may have */
     uint32_t target; /* the address of the LOCATE that 'locate' asks for */
     struct adr_trail trail;
     uint16_t pending;     /* accepted, or EOD, and not known on tape */
@@ -355,6 +397,7 @@ struct adr_recording {
     uint8_t stage;  /* 0 opening headers, 1 elements, 2 closing headers, 3 done */
     uint8_t closed; /* adr_record_close was called */
     uint8_t ended;  /* by a refusal of 8 or more, or by a refused opening */
+    uint8_t spent;  /* and that was 9 for an element, with a tail: close is left */
     struct adr_exchange exchange;
     struct adr_copies copies;
     struct adr_elements elements;
@@ -456,28 +499,30 @@ struct adr_choice adr_choose(struct adr_geometry g,
 
 /* Opens a recording on a cartridge whose newest header is 'header',
    ADR_FRAME_LENGTH bytes. 'depth' is D, the frames that the drive buffers, 1
-   to 255; 'blocks' is W, the blocks of the window, 1 to 64. Refused with 1 to
-   5; the session returned is then an ended one. What was on the cartridge is
+   to 255; 'blocks' is W, the blocks of the window, 1 to 64; 'tail' is T, the
+   frames at the end that elements don't go to, 0 to 255. Refused with 1 to 5;
+   the session returned is then an ended one. What was on the cartridge is
    replaced: elements go to address 10 and on (adr_record_open_at_end adds to
    it). The write pass is the header's + 1; a recording reads back as accepted
    if no user frame on the cartridge bears that pass, so always give the newest
    header (and see WRITE PASSES above). */
 struct adr_record_outcome adr_record_open(struct adr_geometry g, uint32_t depth, uint32_t blocks,
-                                          const uint8_t *header, size_t header_length);
+                                          uint32_t tail, const uint8_t *header,
+                                          size_t header_length);
 
 /* The same on a cartridge without a valid header, with write pass 1. Refused
    with 2 or 4. */
 struct adr_record_outcome adr_record_open_blank(struct adr_geometry g, uint32_t depth,
-                                                uint32_t blocks);
+                                                uint32_t blocks, uint32_t tail);
 
 /* Opens a recording that adds to what a cartridge holds, at the end that
    'reading' found: a reading session that has answered ADR_END. It is taken by
-   value and not used up. 'depth' is D and 'blocks' is W, of this session alone.
-   Refused, in this order, with
+   value and not used up. 'depth' is D, 'blocks' is W and 'tail' is T, of this
+   session alone. Refused, in this order, with
      7   if the reading is not at its end: EOD was not read, or it was refused
          with 8 or more, or it awaits a reply or has a busy command to give
          again. So are numbers that stand for no session;
-     4   if D is not 1 to 255, or W is not 1 to 64;
+     4   if D is not 1 to 255, W is not 1 to 64, or T is not 0 to 255;
      5   if the update count is above 4,294,967,293. Any pass will do;
      13  unless the reading ended at the EOD address of its header, which is 0
          where a recording was not closed.
@@ -489,11 +534,13 @@ struct adr_record_outcome adr_record_open_blank(struct adr_geometry g, uint32_t 
    none, goes to the address of the old EOD. Numbers, filemarks before a frame
    and the latest marker's address go on from what the reading delivered; so
    element i, at block i modulo W of the window, counts from the first on the
-   cartridge. After ADR_DONE a reading delivers what was there, then what was
-   added. Where the old EOD could not be overwritten it may still read: a
-   reading passes over an EOD below the address that its header gives for EOD
-   or, where that is 0, for the old end. (A program that knows of no additions
-   may end there.)
+   cartridge. Where elements of the last session were given up, that is what was
+   read and not what was known on tape: the numbers go on behind the last
+   delivery. After ADR_DONE a reading delivers what was there, then what was
+   added, but for what was given up of it (see THE TAIL). Where the old EOD could
+   not be overwritten it may still read: a reading passes over an EOD below the
+   address that its header gives for EOD or, where that is 0, for the old end. (A
+   program that knows of no additions may end there.)
 
    This needs what no call can check:
      - The cartridge is the one that was read and has not changed since, and its
@@ -513,7 +560,7 @@ struct adr_record_outcome adr_record_open_blank(struct adr_geometry g, uint32_t 
    Filemarks alone tell jobs apart. Where the last element is a block, the next
    blocks added continue its job, so end each job with a filemark. */
 struct adr_record_outcome adr_record_open_at_end(struct adr_reading reading, uint32_t depth,
-                                                 uint32_t blocks);
+                                                 uint32_t blocks, uint32_t tail);
 
 /* Accepts a block, ADR_BLOCK_LENGTH bytes, which is copied to its place in the
    window, ADR_WINDOW_LENGTH(W) bytes. The window is lent to every
@@ -528,7 +575,9 @@ struct adr_record_outcome adr_record_block(struct adr_recording s,
 struct adr_record_outcome adr_record_filemark(struct adr_recording s);
 
 /* Asks for the recording to be ended. It is whole when adr_record_fetch
-   answers ADR_DONE, and not before. Refused with 7. */
+   answers ADR_DONE, and not before. After 9 for an element, where T is above 0,
+   it is accepted once more and gives up the elements that are not known to be
+   on tape (see THE TAIL above). Refused with 7. */
 struct adr_record_outcome adr_record_close(struct adr_recording s);
 
 /* The next command. The window is lent at every fetch, also before the first
@@ -679,9 +728,10 @@ ADR_OFFSET(adr_exchange, command, 0);
 ADR_OFFSET(adr_exchange, awaiting, 8);
 ADR_OFFSET(adr_exchange, again, 9);
 
-ADR_SIZE(adr_setup, 2);
+ADR_SIZE(adr_setup, 3);
 ADR_OFFSET(adr_setup, depth, 0);
 ADR_OFFSET(adr_setup, highest, 1);
+ADR_OFFSET(adr_setup, tail, 2);
 
 ADR_SIZE(adr_header, 20);
 ADR_OFFSET(adr_header, last, 0);
@@ -716,9 +766,10 @@ ADR_OFFSET(adr_elements, marks, 30);
 
 ADR_SIZE(adr_recording, 144);
 ADR_OFFSET(adr_recording, setup, 0);
-ADR_OFFSET(adr_recording, stage, 2);
-ADR_OFFSET(adr_recording, closed, 3);
-ADR_OFFSET(adr_recording, ended, 4);
+ADR_OFFSET(adr_recording, stage, 3);
+ADR_OFFSET(adr_recording, closed, 4);
+ADR_OFFSET(adr_recording, ended, 5);
+ADR_OFFSET(adr_recording, spent, 6);
 ADR_OFFSET(adr_recording, exchange, 8);
 ADR_OFFSET(adr_recording, copies, 20);
 ADR_OFFSET(adr_recording, elements, 48);

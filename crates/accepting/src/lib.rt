@@ -1,7 +1,7 @@
 // Accepting filemarks, and close; `storing` accepts blocks by the same tests. The public calls are the methods of `recording`.
 ghost use mathlib.Core.Path.{_≡_};
 ghost use Rattle.recording_state.specs.State.{outcomeSaid};
-ghost use Rattle.recording_state.specs.Accept.{isFull, acceptsNone, withElement, filemarkOf, closeOf};
+ghost use Rattle.recording_state.specs.Accept.{isFull, acceptsNone, withElement, filemarkOf, isSpent, closeOf};
 use geometry::Refusal;
 use recording_state::Outcome;
 use recording_state::State;
@@ -43,10 +43,20 @@ pub fn accept_filemark(s: State) -> Outcome
     with_element(s, true).accepted()
 }
 
-// No element is accepted any more; EOD and the closing headers follow.
+// Whether close may still be called though the session has ended.
+fn is_spent(s: State) -> bool
+    ensures { λ r. ⌜ r ≡ isSpent s ⌝ }
+{
+    s.ended & s.spent
+}
+
+// No element is accepted any more; EOD and the closing headers follow. A spent session gives up what is not on tape.
 pub fn close(mut s: State) -> Outcome
     ensures { λ r. ⌜ outcomeSaid r ≡ closeOf s ⌝ }
 {
+    if is_spent(s) {
+        return s.give_up().accepted();
+    }
     if accepts_none(s) {
         return s.refuse(Refusal::Phase);
     }

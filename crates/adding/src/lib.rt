@@ -8,12 +8,13 @@ use opening::refuse_opening;
 use reading::Reading;
 use recording::Outcome;
 
-// At the end of a reading, for a drive that buffers `depth` frames, with a window of `blocks` blocks. The reading is not used up.
-pub fn open_at_end(reading: Reading, depth: u8, blocks: u8) -> Outcome
-    ensures { λ r. ⌜ outcomeSaid r ≡ openAtEndOf (reading .state) depth blocks ⌝ }
+// At the end of a reading, for a drive that buffers `depth` frames, with a window of `blocks` blocks, the last `tail` frames kept for EOD. The reading is
+// not used up.
+pub fn open_at_end(reading: Reading, depth: u8, blocks: u8, tail: u8) -> Outcome
+    ensures { λ r. ⌜ outcomeSaid r ≡ openAtEndOf (reading .state) depth blocks tail ⌝ }
 {
     let s = reading.state;
-    Outcome::of(adding_opening::open_at_end(s, depth, blocks))
+    Outcome::of(adding_opening::open_at_end(s, depth, blocks, tail))
 }
 
 // Where there is no reading that could be at its end.

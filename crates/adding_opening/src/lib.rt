@@ -8,8 +8,10 @@ use geometry::Refusal;
 use opening::is_misfit;
 use opening::refuse_opening;
 use opening::session_at;
+use opening::setup_of;
 use reading_state;
 use recording_state::Outcome;
+use recording_state::Setup;
 use recording_state::State;
 
 // Whether the header names no EOD, or another than the reading ended at.
@@ -23,8 +25,8 @@ fn ends_elsewhere(reading: reading_state::State) -> bool
 }
 
 // The session that writes over that EOD and goes on behind it.
-fn added_session(depth: u8, highest: u8, reading: reading_state::State) -> State
-    ensures { λ r. ⌜ r ≡ addedSession depth highest reading ⌝ }
+fn added_session(setup: Setup, reading: reading_state::State) -> State
+    ensures { λ r. ⌜ r ≡ addedSession setup reading ⌝ }
 {
     let told = reading.told;
     let last = told.last;
@@ -32,8 +34,7 @@ fn added_session(depth: u8, highest: u8, reading: reading_state::State) -> State
     let number = reading.expected;
     let trail = reading.trail;
     session_at(
-        depth,
-        highest,
+        setup,
         add_to(last, told.pass, told.update, end),
         end,
         number,
@@ -41,9 +42,10 @@ fn added_session(depth: u8, highest: u8, reading: reading_state::State) -> State
     )
 }
 
-// At the end of a reading, for a drive that buffers `depth` frames, with a window of `blocks` blocks. The reading is not used up.
-pub fn open_at_end(reading: reading_state::State, depth: u8, blocks: u8) -> Outcome
-    ensures { λ r. ⌜ outcomeSaid r ≡ openAtEndOf reading depth blocks ⌝ }
+// At the end of a reading, for a drive that buffers `depth` frames, with a window of `blocks` blocks, the last `tail` frames kept for EOD. The reading is
+// not used up.
+pub fn open_at_end(reading: reading_state::State, depth: u8, blocks: u8, tail: u8) -> Outcome
+    ensures { λ r. ⌜ outcomeSaid r ≡ openAtEndOf reading depth blocks tail ⌝ }
 {
     if !reading.is_at_end() {
         return refuse_opening(Refusal::Phase);
@@ -57,5 +59,5 @@ pub fn open_at_end(reading: reading_state::State, depth: u8, blocks: u8) -> Outc
     if ends_elsewhere(reading) {
         return refuse_opening(Refusal::EndElsewhere);
     }
-    added_session(depth, blocks - 1, reading).accepted()
+    added_session(setup_of(depth, blocks, tail), reading).accepted()
 }

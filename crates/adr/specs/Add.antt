@@ -8,5 +8,5 @@ use Rattle.reading_twins.specs.Reading.{isReading, readingOf}
 use Rattle.recording_answers.specs.declared.recording_answers.AdrRecordOutcome.{AdrRecordOutcome}
 use Rattle.recording_answers.specs.Recording.{outcomeTwin}
 
-unfoldable pub atEndThrough : AdrReading → ℕ → ℕ → AdrRecordOutcome
-atEndThrough r depth blocks = outcomeTwin (pick (isReading r) (openAtEndOf (readingOf r) depth blocks) (openRefused 7))
+unfoldable pub atEndThrough : AdrReading → ℕ → ℕ → ℕ → AdrRecordOutcome
+atEndThrough r depth blocks tail = outcomeTwin (pick (isReading r) (openAtEndOf (readingOf r) depth blocks tail) (openRefused 7))

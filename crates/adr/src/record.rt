@@ -4,12 +4,12 @@ ghost use Rattle.recording_state.specs.Open.{openOf, openBlankOf};
 ghost use Rattle.recording_state.specs.Accept.{filemarkOf, closeOf};
 ghost use Rattle.recording_state.specs.Reply.{replyOf};
 ghost use Rattle.recording_twins.specs.Recording.{recordingOf};
-ghost use Rattle.numbers.specs.Arguments.{geometryOf, fittingOf, asReply};
+ghost use Rattle.numbers.specs.Arguments.{geometryOf, fittingOf, fittingDepth, asReply};
 ghost use Rattle.recording_answers.specs.Recording.{outcomeTwin};
 ghost use Rattle.adr.specs.Record.{through, stored, blockThrough, fetched, fetchThrough};
 use numbers::AdrGeometry;
 use numbers::AdrReply;
-use numbers::fitting;
+use numbers::Sizes;
 use recording::Recording;
 use recording_answers::AdrRecordFetched;
 use recording_answers::AdrRecordOutcome;
@@ -30,18 +30,26 @@ pub extern "C" fn adr_record_open(
     g: AdrGeometry,
     depth: u32,
     blocks: u32,
+    tail: u32,
     header: &[u8],
 ) -> AdrRecordOutcome
-    ensures { λ r. ⌜ r ≡ outcomeTwin (openOf (geometryOf g) (fittingOf depth) (fittingOf blocks) (now (header .entry))) ⌝ }
+    ensures { λ r. ⌜ r ≡ outcomeTwin (openOf (geometryOf g) (fittingDepth depth tail) (fittingOf blocks) (fittingOf tail) (now (header .entry))) ⌝ }
 {
-    AdrRecordOutcome::of(Recording::open(g.geometry(), fitting(depth), fitting(blocks), header))
+    let s = Sizes::of(depth, blocks, tail);
+    AdrRecordOutcome::of(Recording::open(g.geometry(), s.depth, s.blocks, s.tail, header))
 }
 
 #[no_mangle]
-pub extern "C" fn adr_record_open_blank(g: AdrGeometry, depth: u32, blocks: u32) -> AdrRecordOutcome
-    ensures { λ r. ⌜ r ≡ outcomeTwin (openBlankOf (geometryOf g) (fittingOf depth) (fittingOf blocks)) ⌝ }
+pub extern "C" fn adr_record_open_blank(
+    g: AdrGeometry,
+    depth: u32,
+    blocks: u32,
+    tail: u32,
+) -> AdrRecordOutcome
+    ensures { λ r. ⌜ r ≡ outcomeTwin (openBlankOf (geometryOf g) (fittingDepth depth tail) (fittingOf blocks) (fittingOf tail)) ⌝ }
 {
-    AdrRecordOutcome::of(Recording::open_blank(g.geometry(), fitting(depth), fitting(blocks)))
+    let s = Sizes::of(depth, blocks, tail);
+    AdrRecordOutcome::of(Recording::open_blank(g.geometry(), s.depth, s.blocks, s.tail))
 }
 
 #[no_mangle]

@@ -1,10 +1,12 @@
--- Demand 3 holds: the case of a fresh session of what holds however it was opened. Assumes nothing.
+-- Demand 3 holds: the case of a fresh session without a tail of what holds however it was opened. Assumes nothing.
 use Rattle.archive.specs.Demand.{Demand3}
 use Rattle.archive.specs.Chain.{fresh}
+use Rattle.archive.proofs.recording.Start.{opened-tail}
 use Rattle.archive.proofs.Continued.{continued}
 
 pub demand-3 : Demand3
 unfolding Demand3
 demand-3 g last depth blocks d o s window calls w seg trk e cart unwritten rest op r =
-    let c = continued g last d s (fresh depth blocks o op) window calls w seg trk e cart unwritten rest r in
-    record { written = c .written; alone = c .alone; readable = λ newest none unaltered reported. c .readable newest tt none unaltered reported .0 }
+    let c = continued g last d s (fresh depth blocks 0 o op) window calls w seg trk e cart unwritten rest r in
+    let untailed = c .untailed (opened-tail g last depth blocks 0 s e o op) in
+    record { written = c .written; alone = c .alone; readable = λ newest none unaltered reported. untailed .readable newest tt none unaltered reported .0 }

@@ -1,6 +1,7 @@
 -- All that is promised over whole lists and over all calls holds. Assumes nothing.
 use Rattle.frame.proofs.ReadBack.{read-back}
 use Rattle.header.proofs.ReadBack.{header-reads-back}
+use Rattle.elements.proofs.FormerLaws.{as-formerly}
 use Rattle.archive.specs.Promises.{Promises}
 use Rattle.archive.proofs.Demand.{demand-3}
 use Rattle.archive.proofs.EndNamed.{end-named}
@@ -24,6 +25,7 @@ promises = record {
   fold-of-user-frames = fold-of-user-frames;
   adds = adds;
   chains = chains;
+  as-formerly = as-formerly;
   writes-name-markers = writes-name-markers;
   chains-name-markers = chains-name-markers;
 }

@@ -1,9 +1,10 @@
 -- What a refused call leaves. Assumes nothing.
-use Prim.Native.Nat.{ℕ, _≤_}
+use Prim.Native.Nat.{ℕ, _≤_, _<_}
 use mathlib.Core.Path.{_≡_, refl, ap}
-use mathlib.Core.Bool.{Bool, true, false, _||_}
+use mathlib.Core.Bool.{Bool, true, false, _&&_, _||_}
 use mathlib.Core.List.{List}
 use native.Mathlib.Omega.{arith}
+use borrow.Author.Tests.{lt-ltb}
 use lib.Dec.{eqb, ltb}
 use Rattle.geometry.specs.Place as place
 use Rattle.geometry.specs.Place.{asAddress, PlaceSaid}
@@ -15,6 +16,9 @@ use Rattle.carried_headers.specs.Carried.{openingHeader, isCountedOut, isExhaus
 use Rattle.drive.specs.declared.reply.Reply.{Reply}
 use Rattle.recording_state.specs.Open.{isMisfit, openWith, openFor, openOf, openBlankFor, openBlankOf}
 use Rattle.recording_state.specs.State as session
+use Rattle.recording_state.specs.Accept.{isSpent, closeOf}
+use Rattle.geometry.proofs.TestLaws.{and-true}
+use Rattle.archive.proofs.recording.GivesUp.{spending-so}
 use Rattle.recording_state.specs.Answer as answer
 use Rattle.recording_state.specs.Fetch.{FetchedSaid, sending, fetchOf}
 use Rattle.recording_state.specs.declared.state.State.{State}
@@ -66,12 +70,27 @@ leaves s recordings.close h = refused-close s
 leaves s (recordings.fetch window frame) h = fetch-leaves s window frame (fetchOf s window frame .said) refl h
 leaves s (recordings.reply r) h = refused-reply s r
 
-refused-7 : (s : State) (c : recordings.Call) → s .ended ≡ true → recordings.refusal s c ≡ 7
-refused-7 s (recordings.accept-block b window) e = ap (λ x. x .result .number) (ended.ended-block s e b window)
-refused-7 s recordings.accept-filemark e = ap (λ (x : session.OutcomeSaid). x .number) (ended.ended-filemark s e)
-refused-7 s recordings.close e = ap (λ (x : session.OutcomeSaid). x .number) (ended.ended-close s e)
-refused-7 s (recordings.fetch window frame) e = ap (λ (x : FetchedSaid). recordings.fetchNumber (x .said)) (ended.ended-fetch s e window frame)
-refused-7 s (recordings.reply r) e = ap (λ (x : session.OutcomeSaid). x .number) (ended.ended-reply s e r)
+refused-7 : (s : State) (c : recordings.Call) → s .ended ≡ true → (s .spent ≡ true → c ≡ recordings.close → ⊥) → recordings.refusal s c ≡ 7
+refused-7 s (recordings.accept-block b window) e _ = ap (λ x. x .result .number) (ended.ended-block s e b window)
+refused-7 s recordings.accept-filemark e _ = ap (λ (x : session.OutcomeSaid). x .number) (ended.ended-filemark s e)
+refused-7 s recordings.close e h = ap (λ (x : session.OutcomeSaid). x .number) (ended.ended-close s e (unspent (s .spent) refl))
+  where
+    unspent : (b : Bool) → s .spent ≡ b → s .spent ≡ false
+    unspent true q = absurd (h q refl)
+    unspent false q = q
+refused-7 s (recordings.fetch window frame) e _ = ap (λ (x : FetchedSaid). recordings.fetchNumber (x .said)) (ended.ended-fetch s e window frame)
+refused-7 s (recordings.reply r) e _ = ap (λ (x : session.OutcomeSaid). x .number) (ended.ended-reply s e r)
+
+pub close-spent : (s : State) → isSpent s ≡ true → closeOf s ≡ session.accepting (session.givenUpOf s)
+close-spent s e = let both = and-true (s .ended) (s .spent) e in ended.spent-close s (both .0) (both .1)
+
+spends-so : (s : State) → 0 < s .setup .tail → s .elements .eod ≡ false → isSpent (session.endedOf s 9) ≡ true
+spends-so s tailed unended = rw (lt-ltb 0 (s .setup .tail) tailed, unended)
+
+-- EOD is due then, and close was called
+closed-once : (s : State) → closeOf (session.givenUpOf s) .number ≡ 7
+unfolding closeOf
+closed-once s = refl
 
 -- ---- a reading
 
@@ -98,40 +117,45 @@ read-refused-7 s (readings.replying r frame) e = ap (λ (x : reply.TakenSaid). r
 -- ---- openings
 
 abbrev Ended : session.OutcomeSaid → Type 0
-Ended r = 1 ≤ r .number → r .session .ended ≡ true
+Ended r = 1 ≤ r .number → (r .session .ended ≡ true) × (r .session .spent ≡ false)
 
-opened-with : (depth window : ℕ) (exhausted : Bool) (h : Header) → Ended (openWith depth window exhausted h)
+-- without a tail no session is spent
+blank-final : (b : Bool) → (b && false) ≡ false
+blank-final true = refl
+blank-final false = refl
+
+opened-with : (depth window tail : ℕ) (exhausted : Bool) (h : Header) → Ended (openWith depth window tail exhausted h)
 unfolding openWith
-opened-with depth window exhausted h =
-    pick-by Ended (eqb depth 0 || (eqb window 0 || ltb 64 window)) (λ _ _. refl)
-    (λ _. pick-by Ended exhausted (λ _ _. refl) (λ _ n. absurd (omega arith)))
+opened-with depth window tail exhausted h =
+    pick-by Ended (eqb depth 0 || (eqb window 0 || ltb 64 window)) (λ _ _. (refl, refl))
+    (λ _. pick-by Ended exhausted (λ _ _. (refl, refl)) (λ _ n. absurd (omega arith)))
 
-opened-for : (c : CheckedSaid) (depth window : ℕ) → Ended (openFor c depth window)
-opened-for (valid old) depth window = opened-with depth window (isExhausted old) (renewed old)
-opened-for (refused n) depth window = λ _. refl
+opened-for : (c : CheckedSaid) (depth window tail : ℕ) → Ended (openFor c depth window tail)
+opened-for (valid old) depth window tail = opened-with depth window tail (isExhausted old) (renewed old)
+opened-for (refused n) depth window tail = λ _. (refl, blank-final (eqb n 9))
 
-blank-for : (p : PlaceSaid) (depth window : ℕ) → Ended (openBlankFor p depth window)
-blank-for (place.address last) depth window = opened-with depth window false (openingHeader (asAddress last) 1 0)
-blank-for (place.refused n) depth window = λ _. refl
+blank-for : (p : PlaceSaid) (depth window tail : ℕ) → Ended (openBlankFor p depth window tail)
+blank-for (place.address last) depth window tail = opened-with depth window tail false (openingHeader (asAddress last) 1 0)
+blank-for (place.refused n) depth window tail = λ _. (refl, blank-final (eqb n 9))
 
 read-opened : (c : CheckedSaid) → 1 ≤ opening.openFor c .number → opening.openFor c .session .ended ≡ true
 read-opened (valid h) l = absurd (omega arith)
 read-opened (refused n) l = refl
 
-at-end-opened : (r : Reading) (depth window : ℕ) → Ended (openAtEndOf r depth window)
+at-end-opened : (r : Reading) (depth window tail : ℕ) → Ended (openAtEndOf r depth window tail)
 unfolding openAtEndOf
-at-end-opened r depth window =
+at-end-opened r depth window tail =
     pick-by Ended (isAtEnd r)
-    (λ _. pick-by Ended (isMisfit depth window) (λ _ _. refl)
-    (λ _. pick-by Ended (isCountedOut (r .told .update)) (λ _ _. refl)
-    (λ _. pick-by Ended (endsElsewhere r) (λ _ _. refl) (λ _ n. absurd (omega arith)))))
-    (λ _ _. refl)
+    (λ _. pick-by Ended (isMisfit depth window) (λ _ _. (refl, refl))
+    (λ _. pick-by Ended (isCountedOut (r .told .update)) (λ _ _. (refl, refl))
+    (λ _. pick-by Ended (endsElsewhere r) (λ _ _. (refl, refl)) (λ _ n. absurd (omega arith)))))
+    (λ _ _. (refl, refl))
 
 openings : OpeningsRefused
 unfolding openOf openBlankOf opening.openOf
 openings = record {
-  recording = λ g depth window h. opened-for (readHeader g h) depth window;
-  blank = λ g depth window. blank-for (lastOf g) depth window;
+  recording = λ g depth window tail h. opened-for (readHeader g h) depth window tail;
+  blank = λ g depth window tail. blank-for (lastOf g) depth window tail;
   reading = λ g h. read-opened (readHeader g h);
   at-end = at-end-opened;
 }
@@ -146,6 +170,13 @@ refused-calls = record {
     unchanged = λ l h. leaves s c l .unchanged l h;
     ended = λ h. leaves s c (omega arith) .ended h;
     only-7 = refused-7 s c;
+  };
+  spent = λ s. record {
+    only-9 = λ n e. let x = spending-so s n e in (x .number, x .tailed, x .unended);
+    spends = spends-so s;
+    allowed = λ e. ap (λ (x : session.OutcomeSaid). x .number) (close-spent s e);
+    gives-up = λ e. ap (λ (x : session.OutcomeSaid). x .session) (close-spent s e);
+    once = closed-once s;
   };
   reading = λ s c. record {
     unchanged = λ l h. read-leaves s c l .unchanged h;

@@ -15,6 +15,8 @@ pub mod ContentMoves
 pub mod TrailingMoves
 pub mod DriveMoves
 pub mod KeptAgreement
+pub mod GivesUp
+pub mod SetUp
 pub mod Accepts
 pub mod Closes
 pub mod SentFrames

@@ -14,3 +14,9 @@ pub mod AddedReading
 pub mod ThirdRecording
 pub mod ThirdReading
 pub mod ThirdTrails
+pub mod GivenUpNoted
+pub mod GivenUp
+pub mod GivenUpReading
+pub mod GivenUpAdded
+pub mod GivenUpAddedReading
+pub mod GivenUpRead

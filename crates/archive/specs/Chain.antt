@@ -1,16 +1,19 @@
--- 02, Card 1: a recording that adds to a cartridge, and a chain of closed sessions of one pass.
-use Prim.Native.Nat.{ℕ, _^_, _<_}
+-- 02, Card 1: a recording that adds to a cartridge, and sessions that add one after another. 02, Card 6: the same where elements were given up.
+use Prim.Native.Nat.{ℕ, _+_, _^_, _≤_, _<_}
 use mathlib.Core.Path.{_≡_}
 use mathlib.Core.Bool.{true, false}
-use mathlib.Core.List.{List, [], _++_}
+use mathlib.Core.List.{List, [], _∷_, _++_}
 use mathlib.Core.Option.{some}
+use lib.ListN.{length, take}
 use Rattle.geometry.specs.Place.{address}
 use Rattle.geometry.specs.Cartridge.{lastOf, isUser}
 use Rattle.geometry.specs.declared.cartridge.Geometry.{Geometry}
 use Rattle.header.specs.Valid.{headerOf}
-use lib.ListN.{length}
+use Rattle.elements.specs.Due.{dueOf}
+use Rattle.elements.specs.Former.{formerDue}
 use Rattle.recording_state.specs.State.{accepting}
 use Rattle.recording_state.specs.Answer.{command}
+use Rattle.recording_state.specs.Accept.{unspentClose, isSpent, closeOf}
 use Rattle.recording_state.specs.Fetch.{fetchOf}
 use Rattle.recording_state.specs.declared.state.Stage.the-variants as S
 use Rattle.recording_state.specs.declared.state.State.{State}
@@ -21,7 +24,7 @@ use Rattle.archive.specs.Tape.{Tape, Cartridge, SameFrames, Bears}
 use Rattle.archive.specs.Conduct.{Drive, AtRest}
 use Rattle.archive.specs.Headers.{Newest}
 use Rattle.archive.specs.Recordings as recordings
-use Rattle.archive.specs.Recordings.{Element}
+use Rattle.archive.specs.Recordings.{Element, keptOf, promised}
 use Rattle.archive.specs.Readings as readings
 use Rattle.archive.specs.Demand.{Opening, opened, OnNewest, newPass, NoneBears, Readable, Within}
 use Rattle.archive.specs.EndNamed.{EndsAt}
@@ -46,29 +49,29 @@ pub record HasRecorded (last : ℕ) (d : Drive) (s : State) (w : recordings.Worl
 
 -- how a session was opened: afresh, as demand 3 has it, or at the end that a reading found
 pub data Start (g : Geometry) (last : ℕ) (s : State) : Type 0 where
-  fresh : (depth blocks : ℕ) (o : Opening) → opened g depth blocks o ≡ accepting s → Start g last s
-  added : (depth blocks : ℕ) (u : Tape) (h : List ℕ) (r : readings.World) → HasRead g last u h r
-      → openAtEndOf (r .session) depth blocks ≡ accepting s → Start g last s
+  fresh : (depth blocks tail : ℕ) (o : Opening) → opened g depth blocks tail o ≡ accepting s → Start g last s
+  added : (depth blocks tail : ℕ) (u : Tape) (h : List ℕ) (r : readings.World) → HasRead g last u h r
+      → openAtEndOf (r .session) depth blocks tail ≡ accepting s → Start g last s
 
 -- the elements before its own: none, or what the reading delivered
 abbrev pub earlierOf : {g : Geometry} {last : ℕ} {s : State} → Start g last s → List Element
-earlierOf (fresh depth blocks o q) = []
-earlierOf (added depth blocks u h r read q) = r .notes .deliveries
+earlierOf (fresh depth blocks tail o q) = []
+earlierOf (added depth blocks tail u h r read q) = r .notes .deliveries
 
 -- the pass that its elements' frames bear
 abbrev pub passOf : {g : Geometry} {last : ℕ} {s : State} → Start g last s → ℕ
-passOf (fresh depth blocks o q) = newPass o
-passOf (added depth blocks u h r read q) = headerOf h .pass
+passOf (fresh depth blocks tail o q) = newPass o
+passOf (added depth blocks tail u h r read q) = headerOf h .pass
 
 -- opened on the newest header that the cartridge holds, or afresh on none where it holds none
 abbrev pub OnItsNewest : {g : Geometry} {last : ℕ} {s : State} → Start g last s → Tape → Type 0
-OnItsNewest {last = last} (fresh depth blocks o q) t = OnNewest last t o
-OnItsNewest {last = last} (added depth blocks u h r read q) t = Newest last t h
+OnItsNewest {last = last} (fresh depth blocks tail o q) t = OnNewest last t o
+OnItsNewest {last = last} (added depth blocks tail u h r read q) t = Newest last t h
 
 -- where it adds: the user frames that were read are those that the cartridge holds at the opening
 abbrev pub AsItStands : {g : Geometry} {last : ℕ} {s : State} → Start g last s → Tape → Type 0
-AsItStands (fresh depth blocks o q) t = Unit {0}
-AsItStands {last = last} (added depth blocks u h r read q) t = SameFrames last u t
+AsItStands (fresh depth blocks tail o q) t = Unit {0}
+AsItStands {last = last} (added depth blocks tail u h r read q) t = SameFrames last u t
 
 -- no user frame above the old end bears the pass
 abbrev pub NoneAbove : ℕ → Tape → ℕ → ℕ → Type 0
@@ -76,8 +79,43 @@ NoneAbove last t end pass = (a : ℕ) (f : List ℕ) → isUser last a ≡ true 
 
 -- no user frame bears the pass that is to be written or, where it adds, none above the old end does
 abbrev pub NoneInTheWay : {g : Geometry} {last : ℕ} {s : State} → Start g last s → Tape → Type 0
-NoneInTheWay {last = last} (fresh depth blocks o q) t = NoneBears last t (newPass o)
-NoneInTheWay {last = last} (added depth blocks u h r read q) t = NoneAbove last t (endOf (r .session) .0) (headerOf h .pass)
+NoneInTheWay {last = last} (fresh depth blocks tail o q) t = NoneBears last t (newPass o)
+NoneInTheWay {last = last} (added depth blocks tail u h r read q) t = NoneAbove last t (endOf (r .session) .0) (headerOf h .pass)
+
+-- ---- what a session promises
+
+-- 02, Card 6: so many of a session's elements are read: those that are promised, and at most one more, the first that was given up, which may
+-- read at its bad spot. Each is in its place among those accepted. Where nothing was given up it is all of them
+pub record Read (n : recordings.Notes) (m : ℕ) : Type 0 where
+  pub least : keptOf n ≤ m
+  pub most : m ≤ keptOf n + 1
+  pub within : m ≤ length (n .accepted)
+
+-- reading gives what was there before, and then so many of what was accepted
+pub record ReadsBack (g : Geometry) (last : ℕ) (earlier : List Element) (w : recordings.World) : Type 0 where
+  pub count : ℕ
+  pub read : Read (w .notes) count
+  pub readable : Readable g last (w .drive .tape) (earlier ++ take count (w .notes .accepted))
+
+-- with T = 0: what was promised before there was a tail
+pub record Untailed (g : Geometry) (last : ℕ) (t : Tape) (s : State) (b : Start g last s) (w : recordings.World) : Type 0 where
+  -- nothing is given up, the session is never spent, and so close does what it did
+  pub ungiven : w .notes .givenUp ≡ 0
+  pub unspent : w .session .spent ≡ false
+  pub close : closeOf (w .session) ≡ unspentClose (w .session)
+  -- wherever a fetch asks, what is due is what was due then
+  pub due : w .session .ended ≡ false → w .flight ≡ recordings.no-command
+      → dueOf (w .session .setup .depth) (w .session .setup .tail) (w .session .elements) ≡ formerDue (w .session .setup .depth) (w .session .elements)
+  -- where the session was opened as it should be, the window was lent back unaltered, and the close reported done:
+  -- reading gives what was there before, and then what was accepted; and the tape is a cartridge's as before
+  pub readable : OnItsNewest b t → AsItStands b t → NoneInTheWay b t → w .notes .unaltered ≡ true → w .notes .reported ≡ true
+      → Readable g last (w .drive .tape) (earlierOf b ++ w .notes .accepted) × Cartridge last (w .drive .tape)
+  -- at the EOD address of each closing header that a fetch gives the tape reads as EOD, numbered by how many elements there are then
+  pub given : (lent frame : List ℕ) (a : ℕ) → w .session .stage ≡ S.ClosingHeaders → fetchOf (w .session) lent frame .said ≡ command 0x0A a
+      → EndsAt (headerOf (fetchOf (w .session) lent frame .frame)) (length (earlierOf b ++ w .notes .accepted)) (w .drive .tape)
+  -- where the session was opened on the newest header and the close reported done, so it does at that of each newest header
+  pub newest : OnItsNewest b t → w .notes .reported ≡ true → (h : List ℕ) → Newest last (w .drive .tape) h
+      → EndsAt (headerOf h) (length (earlierOf b ++ w .notes .accepted)) (w .drive .tape)
 
 -- what holds after every list of a recording's calls, however the session was opened
 pub record Continued (g : Geometry) (last : ℕ) (t : Tape) (s : State) (b : Start g last s) (w : recordings.World) : Type 0 where
@@ -86,25 +124,36 @@ pub record Continued (g : Geometry) (last : ℕ) (t : Tape) (s : State) (b : Sta
   -- no second command before the reply
   pub alone : (lent frame : List ℕ) → (w .flight ≡ recordings.no-command → ⊥) → recordings.refusal (w .session) (recordings.fetch lent frame) ≡ 7
   -- where the session was opened as it should be, the window was lent back unaltered, and the close reported done:
-  -- reading gives what was there before, and then what was accepted; and the tape is a cartridge's as before
-  pub readable : OnItsNewest b t → AsItStands b t → NoneInTheWay b t → w .notes .unaltered ≡ true → w .notes .reported ≡ true
+  -- reading gives what was there before, and then what is promised and at most one more; and the tape is a cartridge's as before
+  pub reads-back : OnItsNewest b t → AsItStands b t → NoneInTheWay b t → w .notes .unaltered ≡ true → w .notes .reported ≡ true
+      → ReadsBack g last (earlierOf b) w × Cartridge last (w .drive .tape)
+  -- so where nothing was given up: all that was accepted
+  pub readable : w .notes .givenUp ≡ 0
+      → OnItsNewest b t → AsItStands b t → NoneInTheWay b t → w .notes .unaltered ≡ true → w .notes .reported ≡ true
       → Readable g last (w .drive .tape) (earlierOf b ++ w .notes .accepted) × Cartridge last (w .drive .tape)
   -- after a close that reported done the drive rests
   pub rests : w .notes .reported ≡ true → AtRest (w .drive)
-  -- at the EOD address of each closing header that a fetch gives the tape reads as EOD, numbered by how many elements there are then
+  -- at the EOD address of each closing header that a fetch gives the tape reads as EOD, numbered by how many elements there are then, those
+  -- aside that were given up
   pub given : (lent frame : List ℕ) (a : ℕ) → w .session .stage ≡ S.ClosingHeaders → fetchOf (w .session) lent frame .said ≡ command 0x0A a
-      → EndsAt (headerOf (fetchOf (w .session) lent frame .frame)) (length (earlierOf b ++ w .notes .accepted)) (w .drive .tape)
+      → EndsAt (headerOf (fetchOf (w .session) lent frame .frame)) (length (earlierOf b ++ promised (w .notes))) (w .drive .tape)
   -- where the session was opened on the newest header and the close reported done, so it does at that of each newest header
   pub newest : OnItsNewest b t → w .notes .reported ≡ true → (h : List ℕ) → Newest last (w .drive .tape) h
-      → EndsAt (headerOf h) (length (earlierOf b ++ w .notes .accepted)) (w .drive .tape)
+      → EndsAt (headerOf h) (length (earlierOf b ++ promised (w .notes))) (w .drive .tape)
   -- where moreover none was in the way, no user frame above that EOD bears the pass: whoever adds next finds none in the way
   pub clear : OnItsNewest b t → NoneInTheWay b t → w .notes .reported ≡ true → (h : List ℕ) → Newest last (w .drive .tape) h
       → NoneAbove last (w .drive .tape) (headerOf h .eod .0) (headerOf h .pass)
   -- and an opening at the end of a reading of the tape as left, on a newest header, is not refused with 13
   pub addable : OnItsNewest b t → NoneInTheWay b t → w .notes .reported ≡ true → (h : List ℕ) (r : readings.World) → Newest last (w .drive .tape) h
       → HasRead g last (w .drive .tape) h r → isAtEnd (r .session) ≡ true → endsElsewhere (r .session) ≡ false
+  -- 02, Card 6: the session that the close of a spent one returns has the number of the first element given up: so many, with those that there
+  -- were before, are on tape
+  pub tells : isSpent (w .session) ≡ true
+      → closeOf (w .session) .session .elements .first .0 ≡ length (earlierOf b ++ promised (recordings.afterClose w .notes))
+  -- with T = 0 all is as it was before there was a tail
+  pub untailed : s .setup .tail ≡ 0 → Untailed g last t s b w
 
--- of every cartridge, whoever wrote it. Demand 3 is the case of a fresh session
+-- of every cartridge, whoever wrote it, and of every tail. Demand 3 is the case of a fresh session without one
 unfoldable pub Adds : Type 0
 Adds =
     (g : Geometry) (last : ℕ) (d : Drive) (s : State) (b : Start g last s) (window : List ℕ) (calls : List recordings.Call) (w : recordings.World)
@@ -134,23 +183,53 @@ pub data Way : Type 0 where
   adding : Way
 
 abbrev pub wayOf : {g : Geometry} {last : ℕ} {s : State} → Start g last s → Way
-wayOf (fresh depth blocks o q) = afresh
-wayOf (added depth blocks u h r read q) = adding
+wayOf (fresh depth blocks tail o q) = afresh
+wayOf (added depth blocks tail u h r read q) = adding
 
--- a first session on any cartridge, and then sessions that add: the tape in the end, and all elements. A first session that adds finds what others
--- wrote, of which only what its reading delivered is known; so the two are told apart. Each later session finds the user frames as the one before
--- left them, and its header was newest when that one had closed and is newest at its own opening; other copies may have changed in between
-pub data Chain (g : Geometry) (last : ℕ) (begun : Way) : Tape → List Element → Type 0 where
+-- a first session on any cartridge, and then sessions that add: the tape in the end, what the first one found, and what was noted in each. A first
+-- session that adds finds what others wrote, of which only what its reading delivered is known; so the two are told apart. Each later session
+-- finds the user frames as the one before left them, and its header was newest when that one had closed and is newest at its own opening; other
+-- copies may have changed in between
+pub data Chain (g : Geometry) (last : ℕ) (begun : Way) : Tape → List Element → List recordings.Notes → Type 0 where
   first : (d : Drive) (s : State) (b : Start g last s) (w : recordings.World) → Cartridge last (d .tape) → wayOf b ≡ begun
-      → Closed g last d s b w → Chain g last begun (w .drive .tape) (earlierOf b ++ w .notes .accepted)
-  more : (t : Tape) (xs : List Element) → Chain g last begun t xs
+      → Closed g last d s b w → Chain g last begun (w .drive .tape) (earlierOf b) (w .notes ∷ [])
+  more : (t : Tape) (xs : List Element) (ns : List recordings.Notes) → Chain g last begun t xs ns
       → (d : Drive) (s : State) (b : Start g last s) (w : recordings.World) → Cartridge last (d .tape) → wayOf b ≡ adding
       → SameFrames last t (d .tape) → OnItsNewest b t
-      → Closed g last d s b w → Chain g last begun (w .drive .tape) (xs ++ w .notes .accepted)
+      → Closed g last d s b w → Chain g last begun (w .drive .tape) xs (ns ++ w .notes ∷ [])
 
--- the third wish over a chain: reading gives all their elements in order
+-- behind what there was, all their elements in order: of each session those that are promised, and at most one more
+pub data Together (xs : List Element) : List recordings.Notes → List Element → Type 0 where
+  none : Together xs [] xs
+  one-more : (ns : List recordings.Notes) (ys : List Element) (n : recordings.Notes) (m : ℕ) → Together xs ns ys → Read n m
+      → Together xs (ns ++ n ∷ []) (ys ++ take m (n .accepted))
+
+-- all that was accepted in them, and that nothing was given up in any
+unfoldable pub acceptedIn : List recordings.Notes → List Element
+acceptedIn [] = []
+acceptedIn (n ∷ ns) = n .accepted ++ acceptedIn ns
+
+unfoldable pub NoneGiven : List recordings.Notes → Type 0
+NoneGiven [] = Unit {0}
+NoneGiven (n ∷ ns) = (n .givenUp ≡ 0) × NoneGiven ns
+
+pub record ReadTogether (g : Geometry) (last : ℕ) (t : Tape) (xs : List Element) (ns : List recordings.Notes) : Type 0 where
+  pub elements : List Element
+  pub together : Together xs ns elements
+  -- where nothing was given up: all that was accepted
+  pub whole : NoneGiven ns → elements ≡ xs ++ acceptedIn ns
+  pub readable : Readable g last t elements
+
+-- no session of the chain kept a tail
+unfoldable pub WithoutTails : {g : Geometry} {last : ℕ} {begun : Way} {t : Tape} {xs : List Element} {ns : List recordings.Notes}
+    → Chain g last begun t xs ns → Type 0
+WithoutTails (first d s b w cartridge way closed) = s .setup .tail ≡ 0
+WithoutTails (more t xs ns before d s b w cartridge way same newest closed) = WithoutTails before × (s .setup .tail ≡ 0)
+
+-- 00, demand 3, over a chain: the elements of all sessions are read in turn. Where no session kept a tail nothing was given up, so these are all
+-- that were accepted
 unfoldable pub Chains : Type 0
 Chains =
-    (g : Geometry) (last : ℕ) (begun : Way) (t : Tape) (xs : List Element)
+    (g : Geometry) (last : ℕ) (begun : Way) (t : Tape) (xs : List Element) (ns : List recordings.Notes)
     → g .segtrk < 2 ^ 16 → g .trks < 2 ^ 16 → lastOf g ≡ address last
-    → Chain g last begun t xs → Readable g last t xs
+    → (c : Chain g last begun t xs ns) → ReadTogether g last t xs ns × (WithoutTails c → NoneGiven ns)

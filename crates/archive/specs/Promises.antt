@@ -1,6 +1,7 @@
 -- The statements over whole lists of calls, over all calls, and over what is built.
 use Rattle.frame.specs.ReadBack.{ReadBack}
 use Rattle.header.specs.ReadBack.{HeaderReadBack}
+use Rattle.elements.specs.Former.{AsFormerly}
 use Rattle.archive.specs.Demand.{Demand3}
 use Rattle.archive.specs.EndNamed.{EndNamed}
 use Rattle.archive.specs.Fold.{ReadingIsFold, FoldOfUserFrames}
@@ -22,9 +23,11 @@ pub record Promises : Type 0 where
   pub end-named : EndNamed
   pub reading-is-fold : ReadingIsFold
   pub fold-of-user-frames : FoldOfUserFrames
-  -- 02, Card 1: the same where a session adds, and over a chain
+  -- 02, Cards 1 and 6: the same where a session adds, and over a chain, with or without elements given up
   pub adds : Adds
   pub chains : Chains
+  -- 02, Card 6: with T = 0 what is due and what a write error changes are as they were before there was a tail
+  pub as-formerly : AsFormerly
   -- 01, "AUX bytes": where frames go, and which filemarks they name
   pub writes-name-markers : WritesNameMarkers
   pub chains-name-markers : ChainsNameMarkers

@@ -1,17 +1,18 @@
 -- 01, "The lists of demand 3": a recording's list of calls, with the drive acting between them.
-use Prim.Native.Nat.{ℕ, _≤_}
+use Prim.Native.Nat.{ℕ, _-_, _≤_}
 use mathlib.Core.Path.{_≡_}
 use mathlib.Core.Bool.{Bool, true, false, _&&_}
 use mathlib.Core.List.{List, [], _∷_, _++_}
 use mathlib.Core.Logic.{_⊎_}
 use lib.Dec.{eqb}
+use lib.ListN.{length, take}
 use Rattle.geometry.specs.Pick.{pick}
 use Rattle.buffer.specs.Bytes.{agree}
 use Rattle.archive.specs.Conduct.{Drive, Acts, Answers}
 use Rattle.drive.specs.Command.{commandBy}
 use Rattle.drive.specs.declared.command.Command.{Command}
 use Rattle.drive.specs.declared.reply.Reply.{Reply}
-use Rattle.recording_state.specs.Accept.{filemarkOf, blockOf, closeOf}
+use Rattle.recording_state.specs.Accept.{filemarkOf, blockOf, isSpent, closeOf}
 use Rattle.recording_state.specs.Answer.{AnswerSaid, command, idle, done, refused}
 use Rattle.recording_state.specs.Fetch.{fetchOf}
 use Rattle.recording_state.specs.Reply.{replyOf}
@@ -35,6 +36,8 @@ pub record Notes : Type 0 where
   pub unaltered : Bool
   -- a fetch has answered done
   pub reported : Bool
+  -- 02, Card 6: how many of them close has given up
+  pub givenUp : ℕ
 
 pub record World : Type 0 where
   pub session : State
@@ -43,6 +46,13 @@ pub record World : Type 0 where
   pub drive : Drive
   pub flight : Flight
   pub notes : Notes
+
+-- what a done close promises: all that was accepted but for what was given up, which is the last of it
+abbrev pub keptOf : Notes → ℕ
+keptOf n = length (n .accepted) - n .givenUp
+
+abbrev pub promised : Notes → List Element
+promised n = take (keptOf n) (n .accepted)
 
 -- a call with what it brings
 pub data Call : Type 0 where
@@ -109,7 +119,12 @@ afterBlock w b lent = record {
   window = blockOf (w .session) b lent .window;
   drive = w .drive;
   flight = w .flight;
-  notes = record { accepted = acceptedAfter (blockOf (w .session) b lent .result .number) (w .notes .accepted) (block b); unaltered = w .notes .unaltered && agree lent (w .window); reported = w .notes .reported };
+  notes = record {
+    accepted = acceptedAfter (blockOf (w .session) b lent .result .number) (w .notes .accepted) (block b);
+    unaltered = w .notes .unaltered && agree lent (w .window);
+    reported = w .notes .reported;
+    givenUp = w .notes .givenUp;
+  };
 }
 
 abbrev pub afterFilemark : World → World
@@ -118,7 +133,12 @@ afterFilemark w = record {
   window = w .window;
   drive = w .drive;
   flight = w .flight;
-  notes = record { accepted = acceptedAfter (filemarkOf (w .session) .number) (w .notes .accepted) filemark; unaltered = w .notes .unaltered; reported = w .notes .reported };
+  notes = record {
+    accepted = acceptedAfter (filemarkOf (w .session) .number) (w .notes .accepted) filemark;
+    unaltered = w .notes .unaltered;
+    reported = w .notes .reported;
+    givenUp = w .notes .givenUp;
+  };
 }
 
 -- the command that a fetch answers goes to the drive, with the frame as the fetch left it
@@ -141,7 +161,30 @@ afterFetch w lent frame = record {
   window = lent;
   drive = w .drive;
   flight = flightAfter (fetchOf (w .session) lent frame .said) (w .flight) (fetchOf (w .session) lent frame .frame);
-  notes = record { accepted = w .notes .accepted; unaltered = w .notes .unaltered && agree lent (w .window); reported = reportedAfter (fetchOf (w .session) lent frame .said) (w .notes .reported) };
+  notes = record {
+    accepted = w .notes .accepted;
+    unaltered = w .notes .unaltered && agree lent (w .window);
+    reported = reportedAfter (fetchOf (w .session) lent frame .said) (w .notes .reported);
+    givenUp = w .notes .givenUp;
+  };
+}
+
+-- 02, Card 6: the close of a spent session gives up what is not known to be on tape
+abbrev pub givenUpAfter : State → ℕ → ℕ
+givenUpAfter s n = pick (isSpent s) (s .elements .pending) n
+
+abbrev pub afterClose : World → World
+afterClose w = record {
+  session = closeOf (w .session) .session;
+  window = w .window;
+  drive = w .drive;
+  flight = w .flight;
+  notes = record {
+    accepted = w .notes .accepted;
+    unaltered = w .notes .unaltered;
+    reported = w .notes .reported;
+    givenUp = givenUpAfter (w .session) (w .notes .givenUp);
+  };
 }
 
 abbrev pub afterReply : World → Reply → World
@@ -159,7 +202,7 @@ pub data Calls (w : World) : Call → World → Type 0 where
   refuses : (c : Call) → 1 ≤ refusal (w .session) c → refusal (w .session) c ≤ 7 → Calls w c (afterRefusal w c)
   accepts-block : (b lent : List ℕ) → TakesEffect (refusal (w .session) (accept-block b lent)) → Calls w (accept-block b lent) (afterBlock w b lent)
   accepts-filemark : TakesEffect (refusal (w .session) accept-filemark) → Calls w accept-filemark (afterFilemark w)
-  closes : TakesEffect (refusal (w .session) close) → Calls w close (withSession w (closeOf (w .session) .session))
+  closes : TakesEffect (refusal (w .session) close) → Calls w close (afterClose w)
   fetches : (lent frame : List ℕ) → TakesEffect (refusal (w .session) (fetch lent frame)) → Calls w (fetch lent frame) (afterFetch w lent frame)
   replies : (r : Reply) → w .flight ≡ answered r → TakesEffect (refusal (w .session) (reply r)) → Calls w (reply r) (afterReply w r)
 
@@ -184,5 +227,5 @@ started s window d = record {
   window = window;
   drive = d;
   flight = no-command;
-  notes = record { accepted = []; unaltered = true; reported = false };
+  notes = record { accepted = []; unaltered = true; reported = false; givenUp = 0 };
 }

@@ -26,8 +26,8 @@ use Rattle.archive.specs.Tape.{Tape}
 use Rattle.archive.specs.Conduct.{Drive}
 use Rattle.archive.specs.Headers.{Newest}
 use Rattle.archive.specs.Recordings as recordings
-use Rattle.archive.specs.Recordings.{Element, block, filemark}
-use Rattle.archive.specs.Chain.{HasRecorded, Start, earlierOf, passOf, AsItStands, afresh, Chain}
+use Rattle.archive.specs.Recordings.{Element, block, filemark, promised}
+use Rattle.archive.specs.Chain.{HasRecorded, Start, earlierOf, passOf, AsItStands, afresh, Chain, ReadTogether}
 
 -- ---- elements, which are numbered from 0
 
@@ -82,7 +82,7 @@ abbrev pub namingNoEnd : ℕ → ℕ → Told
 namingNoEnd last pass = record { last = asAddress last; pass = pass; eod = asAddress 0; old = asAddress 0; update = 0 }
 
 -- 02, Card 5: what a frame is to a reading on such a header that expects the frame's own number. It is current if that is a block, a filemark or the end.
--- The address plays no part: only an EOD's is looked at, and here no EOD is an earlier end
+-- The address plays no part: only an EOD's is looked at, and here no EOD is an earlier end or one that the header names
 abbrev pub judged : ℕ → ℕ → List ℕ → JudgementSaid
 judged last pass frame = judgeFrame (namingNoEnd last pass) (asAddress 0) (asSeq (sequenceNumber frame)) frame
 
@@ -118,7 +118,8 @@ pub record HeaderGoesOut (last pass : ℕ) (frame : List ℕ) : Type 0 where
   pub names : markerNamed frame ≡ 0xFFFFFFFF
   pub passed-over : judged last pass frame ≡ judgement.skipped
 
--- the frame of an element or EOD, for address a, while the drive is d. xs are the elements that there were before, base in number, and those accepted since
+-- the frame of an element or EOD, for address a, while the drive is d. xs are the elements that there were before, base in number, and those
+-- accepted since and not given up
 pub record ElementGoesOut (last pass base : ℕ) (xs : List Element) (d : Drive) (as-it-stands : Type 0) (a : ℕ) (frame : List ℕ) : Type 0 where
   pub user : isUser last a ≡ true
   -- numbered as an element of this session or as EOD
@@ -148,14 +149,15 @@ WritesNameMarkers =
     (g : Geometry) (last : ℕ) (d : Drive) (s : State) (b : Start g last s) (w : recordings.World)
     → g .segtrk < 2 ^ 16 → g .trks < 2 ^ 16 → lastOf g ≡ address last → HasRecorded last d s w
     → (a : Address) (frame : List ℕ) → w .flight ≡ recordings.sent (Write a) frame
-    → InFlight last (passOf b) (length (earlierOf b)) (earlierOf b ++ w .notes .accepted) (w .drive) (AsItStands b (d .tape)) (a .0) frame
+    → InFlight last (passOf b) (length (earlierOf b)) (earlierOf b ++ promised (w .notes)) (w .drive) (AsItStands b (d .tape)) (a .0) frame
 
 -- ---- a cartridge that a chain of closed sessions left
 
 -- what a frame on tape says
 pub record Trailed (last pass : ℕ) (xs : List Element) (t : Tape) (frame : List ℕ) : Type 0 where
   pub among : sequenceNumber frame ≤ length xs
-  -- it is a block or a filemark as the element with its number is, EOD behind the last; or an EOD of another number, as those of earlier sessions are
+  -- it is a block or a filemark as the element with its number is, EOD behind the last; or an EOD of another number, as those of earlier sessions
+  -- are, and the last one's own if it gave elements up and the first of them is read. Such an EOD counts and names none of that element (02, Card 6)
   pub is : (judged last pass frame ≡ foundSaid (kindFor (itemAt xs (sequenceNumber frame)))) ⊎ (judged last pass frame ≡ judgement.end)
   pub counts : filemarksBefore frame ≡ filemarksAmong xs (sequenceNumber frame)
   pub names : NamesLatest (latestAmong xs (sequenceNumber frame)) (FrameOn last pass t Marker) (markerNamed frame)
@@ -165,9 +167,14 @@ abbrev pub Trails : ℕ → ℕ → List Element → Tape → Type 0
 Trails last pass xs t =
     (a : ℕ) (frame : List ℕ) (kind : Kind) → isUser last a ≡ true → t a ≡ some frame → judged last pass frame ≡ foundSaid kind → Trailed last pass xs t frame
 
+-- what is read of all its sessions, and that its frames say so
+pub record TrailsTogether (g : Geometry) (last : ℕ) (t : Tape) (xs : List Element) (ns : List recordings.Notes) : Type 0 where
+  pub reads : ReadTogether g last t xs ns
+  pub trails : (h : List ℕ) → Newest last t h → Trails last (headerOf h .pass) (reads .elements) t
+
 -- the chain began afresh, since what others wrote may name anything
 unfoldable pub ChainsNameMarkers : Type 0
 ChainsNameMarkers =
-    (g : Geometry) (last : ℕ) (t : Tape) (xs : List Element) (h : List ℕ)
+    (g : Geometry) (last : ℕ) (t : Tape) (xs : List Element) (ns : List recordings.Notes)
     → g .segtrk < 2 ^ 16 → g .trks < 2 ^ 16 → lastOf g ≡ address last
-    → Chain g last afresh t xs → Newest last t h → Trails last (headerOf h .pass) xs t
+    → Chain g last afresh t xs ns → TrailsTogether g last t xs ns

@@ -12,12 +12,12 @@ use recording::Recording;
 
 // At the end of a reading, with a window of four blocks.
 pub fn add(reading: Reading) -> Recording {
-    session_of(open_at_end(reading, 16, 4))
+    session_of(open_at_end(reading, 16, 4, 0))
 }
 
 // A refused opening, and that the session it gives is ended.
 pub fn add_refused(reading: Reading, depth: u8, blocks: u8) {
-    look(session_of(open_at_end(reading, depth, blocks)), b"");
+    look(session_of(open_at_end(reading, depth, blocks, 0)), b"");
 }
 
 // The headers, LOCATE, the one element that was accepted, and the close.

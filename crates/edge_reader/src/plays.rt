@@ -123,13 +123,13 @@ pub fn play_older(session: Reading, pass: u16, kind: Kind, number: u32) -> Readi
     play_frame(session, good(0), pass, kind, number, 255)
 }
 
-// The frame of block 0, but with flags 4C in its access table.
-pub fn play_foreign(session: Reading) -> Reading {
+// The frame of an element, but with flags 4C in its access table.
+pub fn play_foreign(session: Reading, kind: Kind, number: u32) -> Reading {
     let block = [0u8; DATA_LENGTH];
     let mut frame = [0u8; FRAME_LENGTH];
     build_element(
         &mut frame,
-        element(session, session.state.told.pass, Kind::Data, 0),
+        element(session, session.state.told.pass, kind, number),
         &block,
     );
     frame[FLAGS_AT] = 0x4C;

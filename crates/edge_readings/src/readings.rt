@@ -100,6 +100,6 @@ pub fn refusals() {
     print(b"reading: refused replies\n");
     look(play_sense(located(), sense(0, 0, 2)));
     look(play_element(located(), Kind::Data, 1, 0));
-    look(play_foreign(located()));
+    look(play_foreign(located(), Kind::Data, 0));
     look(play_sense(located(), sense(3, 0x0C, 0)));
 }

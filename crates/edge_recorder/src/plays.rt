@@ -21,10 +21,15 @@ pub fn session_of(o: Outcome) -> Recording {
     session
 }
 
-// Prints a title and opens a recording with a window of so many blocks.
-pub fn open(title: &[u8], g: Geometry, blocks: u8) -> Recording {
+// Prints a title and opens a recording with a window of so many blocks and a tail of so many frames.
+pub fn open_tailed(title: &[u8], g: Geometry, blocks: u8, tail: u8) -> Recording {
     print(title);
-    session_of(Recording::open_blank(g, 16, blocks))
+    session_of(Recording::open_blank(g, 16, blocks, tail))
+}
+
+// The same with no tail.
+pub fn open(title: &[u8], g: Geometry, blocks: u8) -> Recording {
+    open_tailed(title, g, blocks, 0)
 }
 
 pub fn accept_filemark(session: Recording) -> Recording {
@@ -107,14 +112,29 @@ fn skip_good(session: Recording, window: &[u8], n: u8) -> Recording {
     run_good(session, window, n, false)
 }
 
-// LOCATE and WRITE, then a write error with skip 255 at that address, n times from address 10 on.
-pub fn play_errors(session: Recording, window: &[u8], n: u8) -> Recording {
+// LOCATE and WRITE, then a write error at that address.
+fn fail(session: Recording, window: &[u8], p: u32, skip: u8, shown: bool) -> Recording {
+    let s = run_good(session, window, 2, shown);
+    exchange(s, window, write_error(p, skip), shown)
+}
+
+// The same n times with skip 255, from address 10 on.
+fn run_errors(session: Recording, window: &[u8], n: u8, shown: bool) -> Recording {
     let mut s = session;
     for k in 0..n {
-        s = play_good(s, window, 2);
-        s = play(s, window, write_error(10 + 255 * (k as u32), 255));
+        s = fail(s, window, 10 + 255 * (k as u32), 255, shown);
     }
     s
+}
+
+pub fn play_errors(session: Recording, window: &[u8], n: u8) -> Recording {
+    run_errors(session, window, n, true)
+}
+
+// The same, and one more with another skip, not printed.
+pub fn skip_errors(session: Recording, window: &[u8], n: u8, skip: u8) -> Recording {
+    let s = run_errors(session, window, n, false);
+    fail(s, window, 10 + 255 * (n as u32), skip, false)
 }
 
 // The ten header copies, of which the first is printed.

@@ -29,6 +29,12 @@ fn accept_block_and_filemark(session: Recording, window: &mut [u8]) -> Recording
     accept_filemark(accept_block(session, window))
 }
 
+fn accept_three_filemarks(session: Recording, window: &mut [u8]) -> Recording {
+    let mut s = accept_block_and_filemark(session, window);
+    s = accept_block_and_filemark(s, window);
+    accept_block_and_filemark(s, window)
+}
+
 // All are accepted first, so that filemarks are outstanding at each error.
 fn record_filemarks(window: &mut [u8]) {
     let mut s = open(
@@ -36,9 +42,7 @@ fn record_filemarks(window: &mut [u8]) {
         cartridge(1000, 12),
         7,
     );
-    s = accept_block_and_filemark(s, window);
-    s = accept_block_and_filemark(s, window);
-    s = accept_block_and_filemark(s, window);
+    s = accept_three_filemarks(s, window);
     s = accept_block(s, window);
     play_filemarks(s, window);
 }

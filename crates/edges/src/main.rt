@@ -9,4 +9,6 @@ fn main() {
     edge_readings::openings();
     edge_readings::choices();
     edge_additions::additions();
+    edge_tails::play_all();
+    edge_given_up::play_all();
 }

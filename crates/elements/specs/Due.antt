@@ -21,24 +21,25 @@ dueSaid (D.Send c) = send (commandSaid c)
 dueSaid D.Idle = idle
 dueSaid (D.Refused r) = refused (refusalNumber r)
 
--- the next address is above END
-abbrev pub aboveEnd : Elements → Bool
-aboveEnd e = leb (limitOf e .0) (e .next .0)
+-- the next address is above the highest that what is due may have
+abbrev pub aboveLimit : ℕ → Elements → Bool
+aboveLimit tail e = leb (limitOf tail e .0) (e .next .0)
 
--- rule 3: outstanding is D, or some are outstanding and the next address is 2,990 or above END
-abbrev pub mustConfirm : ℕ → Elements → Bool
-mustConfirm depth e = leb depth (e .outstanding) || (ltb 0 (e .outstanding) && (eqb (e .next .0) secondGroup || aboveEnd e))
+-- rule 3: the drive holds D frames, or it holds some and the next one would not go behind them
+abbrev pub mustConfirm : ℕ → ℕ → Elements → Bool
+mustConfirm depth tail e = leb depth (e .outstanding) || (ltb 0 (e .outstanding) && (eqb (e .next .0) secondGroup || aboveLimit tail e))
 
-unfoldable pub dueOf : ℕ → Elements → DueSaid
-dueOf depth e =
-    -- 1: a write error is noted: LOCATE its target
-    pick (e .locate) (send (locate (e .target .0)))
+-- for a drive that buffers depth frames and a tail of T frames
+unfoldable pub dueOf : ℕ → ℕ → Elements → DueSaid
+dueOf depth tail e =
+    -- 1: the target of a write error. It is above END only once elements are given up: then refusal 9
+    pick (e .locate) (pick (leb (e .limit .0) (e .target .0)) (refused 9) (send (locate (e .target .0))))
     -- 2: nothing due: READ POSITION if any is outstanding, else idle
     (pick (leb (e .pending) (e .outstanding)) (pick (eqb (e .outstanding) 0) idle (send readPosition))
     -- 3
-    (pick (mustConfirm depth e) (send readPosition)
-    -- 4: next address above END: refusal 9
-    (pick (aboveEnd e) (refused 9)
+    (pick (mustConfirm depth tail e) (send readPosition)
+    -- 4: no room for what is due: refusal 9
+    (pick (aboveLimit tail e) (refused 9)
     -- 5: next address 2,990: LOCATE 3,000
     (pick (eqb (e .next .0) secondGroup) (send (locate secondUser))
     -- 6: otherwise WRITE

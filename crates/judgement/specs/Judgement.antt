@@ -1,12 +1,12 @@
 -- 01, "Reading a cartridge": what one frame read at an address is to a reading. AUX 4 to 11 are never looked at.
-use Prim.Native.Nat.{ℕ, _-_}
-use mathlib.Core.Bool.{Bool, false, _&&_}
+use Prim.Native.Nat.{ℕ, _+_, _-_}
+use mathlib.Core.Bool.{Bool, false, _&&_, not}
 use mathlib.Core.List.{List}
 use lib.Dec.{eqb, ltb}
 use lib.ListN.{length, getD, take, drop}
 use Rattle.geometry.specs.Pick.{pick}
 use Rattle.geometry.specs.Refusal.{refusalNumber}
-use Rattle.geometry.specs.Place.{asAddress}
+use Rattle.geometry.specs.Place.{asAddress, asSeq}
 use Rattle.buffer.specs.Bytes.{get16, get32, agree}
 use Rattle.frame.specs.Aux.{typeOf, auxBytes, elementAux}
 use Rattle.frame.specs.declared.element.Element.{Element}
@@ -69,14 +69,29 @@ isEarlierEnd Data told at = false
 isEarlierEnd Marker told at = false
 isEarlierEnd Eod told at = ltb (at .0) (endsFrom told)
 
--- number below the expected, passed over; above, refusal 10; equal, passed over if it is an earlier end, refusal 11 if another field
--- differs from the table, else delivered
+-- 02, Card 6: whether it is the EOD that the header names; a header without one has 0 there
+abbrev pub isNamedEnd : Kind → Told → Address → Bool
+isNamedEnd Data told at = false
+isNamedEnd Marker told at = false
+isNamedEnd Eod told at = not (eqb (told .eod .0) 0) && eqb (at .0) (told .eod .0)
+
+-- such an EOD may be numbered one below what is expected: the element that was given up first may have been read at its bad spot
+abbrev pub isOneBelow : Kind → Told → Address → ℕ → Seq → Bool
+isOneBelow k told at n expected = isNamedEnd k told at && eqb (n + 1) (expected .0)
+
+-- what has this number is delivered, or refused with 11 if it is not as the table has it
+abbrev pub judgeTable : Kind → Told → Seq → List ℕ → JudgementSaid
+judgeTable k told number aux = pick (asTable (expectedElement k told number) aux) (foundSaid k) (refused 11)
+
+-- the named EOD, if it is numbered one below; else by how the number compares with the expected one: lower, passed over; higher, refusal 10;
+-- the same, passed over if it is an earlier end
 unfoldable pub judgeNumber : Kind → Told → Address → Seq → List ℕ → JudgementSaid
 judgeNumber k told at expected aux =
-    pick (ltb (get32 aux 44) (expected .0)) skipped
+    pick (isOneBelow k told at (get32 aux 44) expected) (judgeTable k told (asSeq (get32 aux 44)) aux)
+    (pick (ltb (get32 aux 44) (expected .0)) skipped
     (pick (ltb (expected .0) (get32 aux 44)) (refused 10)
     (pick (isEarlierEnd k told at) skipped
-    (pick (asTable (expectedElement k told expected) aux) (foundSaid k) (refused 11))))
+    (judgeTable k told expected aux))))
 
 -- ---- a frame is passed over unless AUX 0-3 are 0, type is data, marker or EOD, partition 00, pass the header's: one after another
 

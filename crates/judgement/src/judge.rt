@@ -2,8 +2,8 @@
 ghost use mathlib.Core.Path.{_≡_};
 ghost use lib.ListN.{length};
 ghost use Rattle.frame.specs.Lengths.{auxLength};
-ghost use Rattle.judgement.specs.Judgement.{judgementSaid, expectedElement, endsFrom, isEarlierEnd};
-ghost use Rattle.judgement.specs.Judgement.{judgeNumber, judgeKind, judgeType, judgeAux, judgeFrame};
+ghost use Rattle.judgement.specs.Judgement.{judgementSaid, expectedElement, endsFrom, isEarlierEnd, isNamedEnd, isOneBelow};
+ghost use Rattle.judgement.specs.Judgement.{judgeTable, judgeNumber, judgeKind, judgeType, judgeAux, judgeFrame};
 use crate::table::as_table;
 use crate::told::Told;
 use buffer::be16_at;
@@ -63,12 +63,45 @@ fn is_earlier_end(k: Kind, told: Told, at: Address) -> bool
     }
 }
 
+// Whether it is an EOD at the header's EOD address.
+fn is_named_end(k: Kind, told: Told, at: Address) -> bool
+    ensures { λ r. ⌜ r ≡ isNamedEnd k told at ⌝ }
+{
+    match k {
+        Kind::Data => false,
+        Kind::Marker => false,
+        Kind::Eod => !(told.eod.0 == 0) & (at.0 == told.eod.0),
+    }
+}
+
+// Whether it is one numbered one below the expected.
+fn is_one_below(k: Kind, told: Told, at: Address, n: u32, expected: Seq) -> bool
+    ensures { λ r. ⌜ r ≡ isOneBelow k told at n expected ⌝ }
+{
+    let named = is_named_end(k, told, at);
+    named & ((n as u64) + 1 == (expected.0 as u64))
+}
+
+// A frame of type k, if its other fields are as the table has them for this number.
+fn judge_table(k: Kind, told: Told, number: Seq, aux: &[u8]) -> Judgement
+    requires { ⌜ length (now aux) ≡ auxLength ⌝ }
+    ensures { λ r. ⌜ judgementSaid r ≡ judgeTable k told number (now (aux .entry)) ⌝ }
+{
+    if as_table(expected_element(k, told, number), aux) {
+        return Judgement::Found(k);
+    }
+    Judgement::Refused(Refusal::Foreign)
+}
+
 // A frame of this pass whose type is k.
 fn judge_number(k: Kind, told: Told, at: Address, expected: Seq, aux: &[u8]) -> Judgement
     requires { ⌜ length (now aux) ≡ auxLength ⌝ }
     ensures { λ r. ⌜ judgementSaid r ≡ judgeNumber k told at expected (now (aux .entry)) ⌝ }
 {
     let n = be32_at(aux, 44);
+    if is_one_below(k, told, at, n, expected) {
+        return judge_table(k, told, Seq(n), aux);
+    }
     if n < expected.0 {
         return Judgement::Skipped;
     }
@@ -78,10 +111,7 @@ fn judge_number(k: Kind, told: Told, at: Address, expected: Seq, aux: &[u8]) -> 
     if is_earlier_end(k, told, at) {
         return Judgement::Skipped;
     }
-    if as_table(expected_element(k, told, expected), aux) {
-        return Judgement::Found(k);
-    }
-    Judgement::Refused(Refusal::Foreign)
+    judge_table(k, told, expected, aux)
 }
 
 // A frame whose type is k.

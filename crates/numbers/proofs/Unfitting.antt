@@ -1,4 +1,4 @@
--- Numbers that do not fit are refused as they must be: a geometry with 2, D and W with 4, a write error's skip with 8; another reply's skip is not looked at. Assumes nothing.
+-- Numbers that do not fit are refused as they must be: a geometry with 2, D, W and T with 4, a write error's skip with 8; another reply's skip is not looked at. Assumes nothing.
 use Prim.Native.Nat.{ℕ, _<_}
 use mathlib.Core.Path.{_≡_, refl, ap, _∙_}
 use mathlib.Core.Bool.{Bool, true, false, _||_, not}
@@ -9,7 +9,7 @@ use lib.Dec.{eqb, leb}
 use lib.ListN.{length}
 use Rattle.geometry.proofs.PickLaws.{pick-t, pick-f}
 use Rattle.geometry.proofs.TestLaws.{either-right}
-use Rattle.geometry.specs.Place.{asAddress, address, refused}
+use Rattle.geometry.specs.Place.{address, refused}
 use Rattle.geometry.specs.Cartridge.{lastOf}
 use Rattle.geometry.specs.declared.cartridge.Geometry.{Geometry}
 use Rattle.frame.specs.Lengths.{frameLength}
@@ -22,14 +22,13 @@ use Rattle.drive.specs.declared.command.Command.{Command}
 use Rattle.drive.specs.declared.command.Command.the-variants.{Read, Write, Locate, ReadPosition}
 use Rattle.recording_state.specs.declared.state.State.{State}
 use Rattle.recording_state.specs.State.{ending}
-use Rattle.carried_headers.specs.Carried.{openingHeader, isExhausted, renewed}
-use Rattle.recording_state.specs.Open.{openRefused, openWith, openOf, openBlankOf}
+use Rattle.recording_state.specs.Open.{openRefused, isMisfit, openWith, openOf, openBlankOf}
 use Rattle.recording_state.specs.Reply.{replyBy, replyOf}
 use Rattle.reading_state.specs.declared.state.State as reading
 use Rattle.reading_state.specs.Reply as reading-reply
 use Rattle.numbers.specs.declared.arguments.AdrReply.{AdrReply}
 use Rattle.numbers.specs.declared.arguments.AdrGeometry.{AdrGeometry}
-use Rattle.numbers.specs.Arguments.{isGeometry, withoutFrames, geometryOf, fittingOf, meaningless, isWriteError, asReply}
+use Rattle.numbers.specs.Arguments.{isGeometry, withoutFrames, geometryOf, fittingOf, fittingDepth, meaningless, isWriteError, asReply}
 
 -- numbers that are no geometry's
 no-geometry : (g : AdrGeometry) → isGeometry g ≡ false → geometryOf g ≡ withoutFrames
@@ -46,23 +45,36 @@ header-2 g header h k = rw (no-geometry g h, eq-eqb _ _ k)
 fitting-0 : (n : ℕ) → 255 < n → fittingOf n ≡ 0
 fitting-0 n h = pick-f n (lt-leb n 255 h)
 
-fitting-4 : (depth blocks : ℕ) (exhausted : Bool) (h : Header) → (fittingOf depth ≡ 0) ⊎ (fittingOf blocks ≡ 0) → openWith (fittingOf depth) (fittingOf blocks) exhausted h ≡ openRefused 4
-unfolding openWith
-fitting-4 depth blocks exhausted h (inl k) = rw k
-fitting-4 depth blocks exhausted h (inr k) = rw k (pick-t _ (either-right (eqb (fittingOf depth) 0) _ refl))
+-- D, W or T above 255
+abbrev pub Unfitting : ℕ → ℕ → ℕ → Type 0
+Unfitting depth blocks tail = (255 < depth) ⊎ ((255 < blocks) ⊎ (255 < tail))
 
--- D or W above 255, where the cartridge and its header are not refused
-unfitting : (depth blocks : ℕ) → (255 < depth) ⊎ (255 < blocks) → (fittingOf depth ≡ 0) ⊎ (fittingOf blocks ≡ 0)
-unfitting depth blocks (inl k) = inl (fitting-0 depth k)
-unfitting depth blocks (inr k) = inr (fitting-0 blocks k)
+depth-0 : (depth tail : ℕ) → (b : Bool) → leb tail 255 ≡ b → 255 < depth → fittingDepth depth tail ≡ 0
+depth-0 depth tail true e h = pick-t _ e ∙ fitting-0 depth h
+depth-0 depth tail false e h = pick-f _ e
 
-pub open-4 : (g : Geometry) (depth blocks : ℕ) (header : List ℕ) (old : Header) → readHeader g header ≡ valid old → (255 < depth) ⊎ (255 < blocks) → openOf g (fittingOf depth) (fittingOf blocks) header ≡ openRefused 4
-unfolding openOf
-open-4 g depth blocks header old h k = rw h (fitting-4 depth blocks (isExhausted old) (renewed old) (unfitting depth blocks k))
+-- then D or W counts as 0
+unfitting-0 : (depth blocks tail : ℕ) → Unfitting depth blocks tail → (fittingDepth depth tail ≡ 0) ⊎ (fittingOf blocks ≡ 0)
+unfitting-0 depth blocks tail (inl k) = inl (depth-0 depth tail (leb tail 255) refl k)
+unfitting-0 depth blocks tail (inr (inl k)) = inr (fitting-0 blocks k)
+unfitting-0 depth blocks tail (inr (inr k)) = inl (pick-f _ (lt-leb tail 255 k))
 
-pub blank-4 : (g : Geometry) (depth blocks last : ℕ) → lastOf g ≡ address last → (255 < depth) ⊎ (255 < blocks) → openBlankOf g (fittingOf depth) (fittingOf blocks) ≡ openRefused 4
-unfolding openBlankOf
-blank-4 g depth blocks last h k = rw h (fitting-4 depth blocks false (openingHeader (asAddress last) 1 0) (unfitting depth blocks k))
+zero-misfit : (depth blocks : ℕ) → (depth ≡ 0) ⊎ (blocks ≡ 0) → isMisfit depth blocks ≡ true
+zero-misfit depth blocks (inl k) = rw k
+zero-misfit depth blocks (inr k) = rw k (either-right (eqb depth 0) _ refl)
+
+-- refusal 4, wherever an opening looks at its sizes
+pub misfit : (depth blocks tail : ℕ) → Unfitting depth blocks tail → isMisfit (fittingDepth depth tail) (fittingOf blocks) ≡ true
+misfit depth blocks tail k = zero-misfit (fittingDepth depth tail) (fittingOf blocks) (unfitting-0 depth blocks tail k)
+
+-- where the cartridge and its header are not refused
+pub open-4 : (g : Geometry) (depth blocks tail : ℕ) (header : List ℕ) (old : Header) → readHeader g header ≡ valid old → Unfitting depth blocks tail → openOf g (fittingDepth depth tail) (fittingOf blocks) (fittingOf tail) header ≡ openRefused 4
+unfolding openOf openWith
+open-4 g depth blocks tail header old h k = rw h (pick-t _ (misfit depth blocks tail k))
+
+pub blank-4 : (g : Geometry) (depth blocks tail last : ℕ) → lastOf g ≡ address last → Unfitting depth blocks tail → openBlankOf g (fittingDepth depth tail) (fittingOf blocks) (fittingOf tail) ≡ openRefused 4
+unfolding openBlankOf openWith
+blank-4 g depth blocks tail last h k = rw h (pick-t _ (misfit depth blocks tail k))
 
 reply-meaningless : (r : AdrReply) → isWriteError r ≡ true → 255 < r .skip → asReply r ≡ meaningless
 unfolding asReply

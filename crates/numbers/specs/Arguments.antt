@@ -11,6 +11,7 @@ use Rattle.drive.specs.Senses.{meaningOf, writeError}
 use Rattle.drive.specs.declared.reply.Reply.{Reply}
 use Rattle.numbers.specs.declared.arguments.AdrGeometry.{AdrGeometry}
 use Rattle.numbers.specs.declared.arguments.AdrReply.{AdrReply}
+use Rattle.numbers.specs.declared.arguments.Sizes.{Sizes}
 
 -- SEGTRK and TRKS have 16 bits; the load point is 0, the beginning, or 1, the centre
 abbrev pub isGeometry : AdrGeometry → Bool
@@ -26,9 +27,16 @@ withoutFrames = record { segtrk = 0; trks = 0; load = Beginning }
 unfoldable pub geometryOf : AdrGeometry → Geometry
 geometryOf g = pick (isGeometry g) (record { segtrk = g .segtrk; trks = g .trks; load = loadOf (g .load) }) withoutFrames
 
--- D and W have 8 bits; any other counts as 0: refusal 4
+-- D, W and T have 8 bits; any other D or W counts as 0: refusal 4
 abbrev pub fittingOf : ℕ → ℕ
 fittingOf n = pick (leb n 255) n 0
+
+-- 02, Card 6: a T of 0 is lawful, so any other T is refused by its D, which counts as 0
+abbrev pub fittingDepth : ℕ → ℕ → ℕ
+fittingDepth depth tail = pick (leb tail 255) (fittingOf depth) 0
+
+abbrev pub sizesOf : ℕ → ℕ → ℕ → Sizes
+sizesOf depth blocks tail = record { depth = fittingDepth depth tail; blocks = fittingOf blocks; tail = fittingOf tail }
 
 -- a triple that has no meaning: as a reply, refusal 8
 abbrev pub meaningless : Reply

@@ -1,6 +1,6 @@
 // What C gives as numbers: geometries, sizes and replies. One that does not fit counts as one that is refused.
 ghost use mathlib.Core.Path.{_≡_};
-ghost use Rattle.numbers.specs.Arguments.{loadOf, withoutFrames, geometryOf, fittingOf, skipOf, asReply};
+ghost use Rattle.numbers.specs.Arguments.{loadOf, withoutFrames, geometryOf, fittingOf, fittingDepth, sizesOf, skipOf, asReply};
 use drive::Reply;
 use drive::WRITE_ERROR;
 use drive::meaning;
@@ -14,6 +14,13 @@ pub struct AdrGeometry {
     pub segtrk: u32,
     pub trks: u32,
     pub load: u32,
+}
+
+// D, W and T as an opening takes them.
+pub struct Sizes {
+    pub depth: u8,
+    pub blocks: u8,
+    pub tail: u8,
 }
 
 // What the host brings back of a command.
@@ -69,14 +76,37 @@ impl AdrGeometry {
     }
 }
 
-// D or W, where it fits; any other counts as 0, refusal 4.
-pub fn fitting(n: u32) -> u8
+// D, W or T, where it fits; any other counts as 0, for D and W refusal 4.
+fn fitting(n: u32) -> u8
     ensures { λ r. ⌜ r ≡ fittingOf n ⌝ }
 {
     if n <= 255 {
         return n as u8;
     }
     0
+}
+
+// D beside T. A T of 0 is lawful, so one that does not fit is refused by D: that is 0, refusal 4.
+fn fitting_depth(depth: u32, tail: u32) -> u8
+    ensures { λ r. ⌜ r ≡ fittingDepth depth tail ⌝ }
+{
+    if 255 < tail {
+        return 0;
+    }
+    fitting(depth)
+}
+
+impl Sizes {
+    // The sizes of these numbers.
+    pub fn of(depth: u32, blocks: u32, tail: u32) -> Sizes
+        ensures { λ r. ⌜ r ≡ sizesOf depth blocks tail ⌝ }
+    {
+        Sizes {
+            depth: fitting_depth(depth, tail),
+            blocks: fitting(blocks),
+            tail: fitting(tail),
+        }
+    }
 }
 
 impl AdrReply {

@@ -14,6 +14,6 @@ pub use answers::REFUSED;
 pub use answers::verdict_number;
 pub use arguments::AdrGeometry;
 pub use arguments::AdrReply;
-pub use arguments::fitting;
+pub use arguments::Sizes;
 pub use places::AdrChoice;
 pub use places::AdrPlace;

@@ -2,7 +2,7 @@
 ghost use mathlib.Core.Path.{_≡_};
 ghost use Rattle.geometry.specs.Refusal.{refusalNumber};
 ghost use Rattle.recording_state.specs.State.{outcomeSaid};
-ghost use Rattle.recording_state.specs.Open.{startedAt, fresh, openRefused, isMisfit, openWith, openOf, openBlankOf};
+ghost use Rattle.recording_state.specs.Open.{startedAt, setupOf, fresh, openRefused, isMisfit, openWith, openOf, openBlankOf};
 use carried_headers::blank_header;
 use carried_headers::is_exhausted;
 use carried_headers::renew;
@@ -27,42 +27,32 @@ use recording_state::State;
 
 // A session at its first command, whose elements start from an address, a number and a trail.
 pub fn session_at(
-    depth: u8,
-    highest: u8,
+    setup: Setup,
     header: Header,
     address: Address,
     number: Seq,
     trail: Trail,
 ) -> State
-    ensures { λ r. ⌜ r ≡ startedAt depth highest header address number trail ⌝ }
+    ensures { λ r. ⌜ r ≡ startedAt setup header address number trail ⌝ }
 {
     let last = header.last;
     State {
-        setup: Setup {
-            depth: depth,
-            highest: highest,
-        },
+        setup: setup,
         stage: Stage::OpeningHeaders,
         exchange: Exchange::unsent(),
         closed: false,
         ended: false,
+        spent: false,
         copies: Copies::start(header),
         elements: Elements::start(last, address, number, trail),
     }
 }
 
 // That of a fresh recording.
-fn fresh_session(depth: u8, highest: u8, header: Header) -> State
-    ensures { λ r. ⌜ r ≡ fresh depth highest header ⌝ }
+fn fresh_session(setup: Setup, header: Header) -> State
+    ensures { λ r. ⌜ r ≡ fresh setup header ⌝ }
 {
-    session_at(
-        depth,
-        highest,
-        header,
-        Address(FIRST_USER),
-        Seq(0),
-        no_trail(),
-    )
+    session_at(setup, header, Address(FIRST_USER), Seq(0), no_trail())
 }
 
 // A refused opening returns an ended session.
@@ -76,7 +66,12 @@ pub fn refuse_opening(refusal: Refusal) -> Outcome
         old: Address(0),
         update: 0,
     };
-    let session = fresh_session(0, 0, header);
+    let setup = Setup {
+        depth: 0,
+        highest: 0,
+        tail: 0,
+    };
+    let session = fresh_session(setup, header);
     session.end(refusal)
 }
 
@@ -87,9 +82,21 @@ pub fn is_misfit(depth: u8, blocks: u8) -> bool
     (depth == 0) | ((blocks == 0) | (64 < blocks))
 }
 
+// D, W, of which a session holds W - 1, and T.
+pub fn setup_of(depth: u8, blocks: u8, tail: u8) -> Setup
+    ensures { λ r. ⌜ r ≡ setupOf depth blocks tail ⌝ }
+{
+    let highest = if blocks == 0 { 0 } else { blocks - 1 };
+    Setup {
+        depth: depth,
+        highest: highest,
+        tail: tail,
+    }
+}
+
 // Refusal 4 for the sizes, then 5; else a session with this header.
-fn open_with(depth: u8, blocks: u8, exhausted: bool, header: Header) -> Outcome
-    ensures { λ r. ⌜ outcomeSaid r ≡ openWith depth blocks exhausted header ⌝ }
+fn open_with(depth: u8, blocks: u8, tail: u8, exhausted: bool, header: Header) -> Outcome
+    ensures { λ r. ⌜ outcomeSaid r ≡ openWith depth blocks tail exhausted header ⌝ }
 {
     if is_misfit(depth, blocks) {
         return refuse_opening(Refusal::Capacity);
@@ -97,27 +104,28 @@ fn open_with(depth: u8, blocks: u8, exhausted: bool, header: Header) -> Outcome
     if exhausted {
         return refuse_opening(Refusal::Exhausted);
     }
-    fresh_session(depth, blocks - 1, header).accepted()
+    fresh_session(setup_of(depth, blocks, tail), header).accepted()
 }
 
-// On the newest header of the cartridge, for a drive that buffers `depth` frames, with a window of `blocks` blocks.
-pub fn open(g: Geometry, depth: u8, blocks: u8, header: &[u8]) -> Outcome
-    ensures { λ r. ⌜ outcomeSaid r ≡ openOf g depth blocks (now (header .entry)) ⌝ }
+// On the newest header of the cartridge, for a drive that buffers `depth` frames, with a window of `blocks` blocks, the last `tail` frames
+// kept for EOD.
+pub fn open(g: Geometry, depth: u8, blocks: u8, tail: u8, header: &[u8]) -> Outcome
+    ensures { λ r. ⌜ outcomeSaid r ≡ openOf g depth blocks tail (now (header .entry)) ⌝ }
 {
     let checked = read_header(g, header);
     match checked {
-        Checked::Valid(old) => open_with(depth, blocks, is_exhausted(old), renew(old)),
+        Checked::Valid(old) => open_with(depth, blocks, tail, is_exhausted(old), renew(old)),
         Checked::Refused(r) => refuse_opening(r),
     }
 }
 
 // On a cartridge that holds no valid header.
-pub fn open_blank(g: Geometry, depth: u8, blocks: u8) -> Outcome
-    ensures { λ r. ⌜ outcomeSaid r ≡ openBlankOf g depth blocks ⌝ }
+pub fn open_blank(g: Geometry, depth: u8, blocks: u8, tail: u8) -> Outcome
+    ensures { λ r. ⌜ outcomeSaid r ≡ openBlankOf g depth blocks tail ⌝ }
 {
     let place = g.last();
     match place {
-        Place::At(last) => { open_with(depth, blocks, false, blank_header(last)) }
+        Place::At(last) => open_with(depth, blocks, tail, false, blank_header(last)),
         Place::Refused(r) => refuse_opening(r),
     }
 }

@@ -59,18 +59,18 @@ impl Fetched {
 }
 
 impl Recording {
-    // On the newest header of the cartridge, for a drive that buffers `depth` frames, with a window of `blocks` blocks.
-    pub fn open(g: Geometry, depth: u8, blocks: u8, header: &[u8]) -> Outcome
-        ensures { λ r. ⌜ outcomeSaid r ≡ openOf g depth blocks (now (header .entry)) ⌝ }
+    // On the newest header of the cartridge, for a drive that buffers `depth` frames, with a window of `blocks` blocks and the last `tail` frames kept for EOD.
+    pub fn open(g: Geometry, depth: u8, blocks: u8, tail: u8, header: &[u8]) -> Outcome
+        ensures { λ r. ⌜ outcomeSaid r ≡ openOf g depth blocks tail (now (header .entry)) ⌝ }
     {
-        Outcome::of(opening::open(g, depth, blocks, header))
+        Outcome::of(opening::open(g, depth, blocks, tail, header))
     }
 
     // On a cartridge that holds no valid header.
-    pub fn open_blank(g: Geometry, depth: u8, blocks: u8) -> Outcome
-        ensures { λ r. ⌜ outcomeSaid r ≡ openBlankOf g depth blocks ⌝ }
+    pub fn open_blank(g: Geometry, depth: u8, blocks: u8, tail: u8) -> Outcome
+        ensures { λ r. ⌜ outcomeSaid r ≡ openBlankOf g depth blocks tail ⌝ }
     {
-        Outcome::of(opening::open_blank(g, depth, blocks))
+        Outcome::of(opening::open_blank(g, depth, blocks, tail))
     }
 
     // Accepts a filemark.
@@ -89,7 +89,8 @@ impl Recording {
         Outcome::of(storing::accept_block(s, block, window))
     }
 
-    // No element is accepted any more; EOD and the closing headers follow.
+    // No element is accepted any more; EOD and the closing headers follow. After a 9 for an element, where a tail is kept, it may be called
+    // once more, and gives up what is not on tape.
     pub fn close(self) -> Outcome
         ensures { λ r. ⌜ outcomeSaid r ≡ closeOf (self .state) ⌝ }
     {

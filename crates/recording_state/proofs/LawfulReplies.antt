@@ -45,7 +45,7 @@ module _ (s : State) (r : Reply) where
   copies-there (copying.behind _) h = absurd (h refl)
   copies-there (copying.failed l u) h = (l, u)
 
-  elements-there : {x : reply.SteppedSaid} → steps.FailedView (s .elements) (r .position) (r .skip) x → (elementReplyBy x s .number ≡ 8 → ⊥)
+  elements-there : {x : reply.SteppedSaid} → steps.FailedView (s .setup .tail) (s .elements) (r .position) (r .skip) x → (elementReplyBy x s .number ≡ 8 → ⊥)
       → (baseOf (s .elements) .0 ≤ r .position .0) × (r .position .0 < s .elements .next .0)
   elements-there (steps.tooLow _) h = absurd (h refl)
   elements-there (steps.tooHigh _) h = absurd (h refl)
@@ -110,7 +110,7 @@ module _ (s : State) (r : Reply) where
       }
       go (view.failed e) h = record {
         in-headers = λ st. failed (is-failed s r e) (copies-there (copying.failed-view (s .copies) (r .position)) (header-so _ _ h st));
-        in-elements = λ st. failed (is-failed s r e) (elements-there (steps.failed-view (s .elements) (r .position) (r .skip)) (element-so _ _ h st));
+        in-elements = λ st. failed (is-failed s r e) (elements-there (steps.failed-view (s .setup .tail) (s .elements) (r .position) (r .skip)) (element-so _ _ h st));
       }
       go (view.overflowed e) h = meant volumeOverflow (λ x. omega arith) (λ x. omega arith) (case-parts command r 0x0A volumeOverflow (omega arith) e .1)
       go (view.unlisted _) h = absurd (h refl)

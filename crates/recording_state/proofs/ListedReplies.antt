@@ -151,7 +151,7 @@ module _ (s : State) (r : Reply) where
   elements-counted p (steps.tooMany l) q = omega (arith, p)
   elements-counted p (steps.counted _) q = omega arith
 
-  elements-failed : {x : reply.SteppedSaid} → baseOf (s .elements) .0 ≤ r .position .0 → r .position .0 < s .elements .next .0 → steps.FailedView (s .elements) (r .position) (r .skip) x → x .number ≡ 8 → ⊥
+  elements-failed : {x : reply.SteppedSaid} → baseOf (s .elements) .0 ≤ r .position .0 → r .position .0 < s .elements .next .0 → steps.FailedView (s .setup .tail) (s .elements) (r .position) (r .skip) x → x .number ≡ 8 → ⊥
   elements-failed p l (steps.tooLow h) q = omega (arith, p)
   elements-failed p l (steps.tooHigh h) q = omega (arith, l)
   elements-failed p l (steps.failed _ _ _) q = omega arith
@@ -182,6 +182,6 @@ module _ (s : State) (r : Reply) where
         go (view.failed n) q =
             let m = is-failed n in
             stage-number _ _ (λ st. copies-failed (omega (arith, lawful .in-headers st .from m)) (omega (arith, lawful .in-headers st .below m)) (copying.failed-view (s .copies) (r .position)))
-            (λ st. elements-failed (omega (arith, lawful .in-elements st .from m)) (omega (arith, lawful .in-elements st .below m)) (steps.failed-view (s .elements) (r .position) (r .skip))) q
+            (λ st. elements-failed (omega (arith, lawful .in-elements st .from m)) (omega (arith, lawful .in-elements st .below m)) (steps.failed-view (s .setup .tail) (s .elements) (r .position) (r .skip))) q
         go (view.overflowed n) q = stage-number _ _ (λ st _. no-overflow (s .exchange .command) meaning listed (on-headers st) n) (λ _ e. omega arith) q
         go (view.unlisted u) q = u (listed-case (s .exchange .command) meaning listed no-read)

@@ -9,7 +9,8 @@ use Rattle.frame.specs.Lengths.{dataLength}
 use Rattle.elements.specs.Elements as elements
 use Rattle.recording_state.specs.declared.state.State.{State}
 use Rattle.recording_state.specs.declared.state.Outcome.{Outcome}
-use Rattle.recording_state.specs.State.{blocksOf, windowLength, OutcomeSaid, outcomeSaid, accepting, refusing, withElements, closedOf, settledOf}
+use Rattle.recording_state.specs.State.{blocksOf, windowLength, OutcomeSaid, outcomeSaid, accepting, refusing}
+use Rattle.recording_state.specs.State.{withElements, closedOf, givenUpOf, settledOf}
 use Rattle.recording_state.specs.Window.{putBlock}
 
 -- refusal 7: the session has ended, or close was called
@@ -50,5 +51,13 @@ blockOf s block window =
     (record { result = accepting (withElement s false); window = putBlock window (placeOf s) block }))
     (record { result = refusing s 1; window = window }))
 
+-- close of a session that is not spent
+abbrev pub unspentClose : State → OutcomeSaid
+unspentClose s = pick (acceptsNone s) (refusing s 7) (accepting (settledOf (closedOf s)))
+
+-- 02, Card 6: the session has ended, and close may still be called, whether it was called before or not
+abbrev pub isSpent : State → Bool
+isSpent s = s .ended && s .spent
+
 unfoldable pub closeOf : State → OutcomeSaid
-closeOf s = pick (acceptsNone s) (refusing s 7) (accepting (settledOf (closedOf s)))
+closeOf s = pick (isSpent s) (accepting (givenUpOf s)) (unspentClose s)

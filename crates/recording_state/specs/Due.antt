@@ -17,7 +17,7 @@ elementDueBy due.idle = idle
 elementDueBy (due.refused n) = refused n
 
 abbrev pub elementDue : State → AnswerSaid
-elementDue s = elementDueBy (due.dueOf (s .setup .depth) (s .elements))
+elementDue s = elementDueBy (due.dueOf (s .setup .depth) (s .setup .tail) (s .elements))
 
 -- by stage: opening headers, LOCATE of the first address and elements and EOD, closing headers, done
 abbrev pub decisionBy : Stage → State → AnswerSaid

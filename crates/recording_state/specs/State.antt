@@ -1,11 +1,12 @@
 -- 01, "A recording session": the session's terms, and what a call's outcome is in 01's numbers.
 use Prim.Native.Nat.{ℕ, _+_, _*_}
-use mathlib.Core.Bool.{true}
-use lib.Dec.{ltb}
+use mathlib.Core.Bool.{Bool, true, false, _&&_, not}
+use lib.Dec.{eqb, ltb}
 use Rattle.geometry.specs.Pick.{pick}
 use Rattle.geometry.specs.Refusal.{verdictNumber}
 use Rattle.frame.specs.Lengths.{dataLength}
 use Rattle.frame.specs.declared.header.Header.{Header}
+use Rattle.drive.specs.Exchange.{unsent}
 use Rattle.drive.specs.declared.exchange.Exchange.{Exchange}
 use Rattle.carried_headers.specs.Carried.{closingOf}
 use Rattle.copies.specs.Copies as copies
@@ -46,29 +47,63 @@ followingOf S.Elements = S.ClosingHeaders
 followingOf S.ClosingHeaders = S.Done
 followingOf S.Done = S.Done
 
+-- the session with all that changes in its course given
+abbrev withParts : State → Stage → Exchange → Copies → Elements → State
+withParts s stage x c e = record {
+  setup = s .setup;
+  stage = stage;
+  exchange = x;
+  closed = s .closed;
+  ended = s .ended;
+  spent = s .spent;
+  copies = c;
+  elements = e;
+}
+
+-- and with what says which calls it takes: whether close was called, whether it has ended, and whether it is spent
+abbrev withPhase : State → Bool → Bool → Bool → State
+withPhase s closed ended spent = record {
+  setup = s .setup;
+  stage = s .stage;
+  exchange = s .exchange;
+  closed = closed;
+  ended = ended;
+  spent = spent;
+  copies = s .copies;
+  elements = s .elements;
+}
+
 -- the session with one field set
 abbrev pub withStage : State → Stage → State
-withStage s stage = record { setup = s .setup; stage = stage; exchange = s .exchange; closed = s .closed; ended = s .ended; copies = s .copies; elements = s .elements }
+withStage s stage = withParts s stage (s .exchange) (s .copies) (s .elements)
 
 abbrev pub withExchange : State → Exchange → State
-withExchange s x = record { setup = s .setup; stage = s .stage; exchange = x; closed = s .closed; ended = s .ended; copies = s .copies; elements = s .elements }
+withExchange s x = withParts s (s .stage) x (s .copies) (s .elements)
 
 abbrev pub withCopies : State → Copies → State
-withCopies s c = record { setup = s .setup; stage = s .stage; exchange = s .exchange; closed = s .closed; ended = s .ended; copies = c; elements = s .elements }
+withCopies s c = withParts s (s .stage) (s .exchange) c (s .elements)
 
 abbrev pub withElements : State → Elements → State
-withElements s e = record { setup = s .setup; stage = s .stage; exchange = s .exchange; closed = s .closed; ended = s .ended; copies = s .copies; elements = e }
+withElements s e = withParts s (s .stage) (s .exchange) (s .copies) e
 
 -- close was called
 abbrev pub closedOf : State → State
-closedOf s = record { setup = s .setup; stage = s .stage; exchange = s .exchange; closed = true; ended = s .ended; copies = s .copies; elements = s .elements }
+closedOf s = withPhase s true (s .ended) (s .spent)
 
--- refusals from 8 on: session ended
-abbrev pub endedOf : State → State
-endedOf s = record { setup = s .setup; stage = s .stage; exchange = s .exchange; closed = s .closed; ended = true; copies = s .copies; elements = s .elements }
+-- 02, Card 6: the session is spent by a 9 for an element, if T is above 0. It has no room for elements, and close can be called once more
+abbrev pub isSpending : State → ℕ → Bool
+isSpending s n = eqb n 9 && (ltb 0 (s .setup .tail) && not (s .elements .eod))
+
+-- refusals from 8 on: session ended, for good unless it is spent
+abbrev pub endedOf : State → ℕ → State
+endedOf s n = withPhase s (s .closed) true (isSpending s n)
 
 abbrev pub ending : State → ℕ → OutcomeSaid
-ending s n = record { session = endedOf s; number = n }
+ending s n = record { session = endedOf s n; number = n }
+
+-- its close: what is not on tape is dropped, EOD becomes due, and the exchange with the drive starts anew
+abbrev pub givenUpOf : State → State
+givenUpOf s = withPhase (withParts s (s .stage) unsent (s .copies) (elements.givenUpOf (s .elements))) true false false
 
 -- EOD becomes due
 abbrev pub eodDue : State → State

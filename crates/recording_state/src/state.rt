@@ -2,7 +2,8 @@
 ghost use mathlib.Core.Path.{_≡_};
 ghost use Rattle.geometry.specs.Refusal.{refusalNumber};
 ghost use Rattle.recording_state.specs.Reply.{completedOf};
-ghost use Rattle.recording_state.specs.State.{followingOf, blocksOf, outcomeSaid, accepting, refusing, ending, eodDue, closingStarted, settledOf};
+ghost use Rattle.recording_state.specs.State.{followingOf, blocksOf, outcomeSaid, accepting, refusing, isSpending, endedOf, ending};
+ghost use Rattle.recording_state.specs.State.{givenUpOf, eodDue, closingStarted, settledOf};
 use carried_headers::closing_header;
 use copies::Copies;
 use drive::Command;
@@ -10,6 +11,7 @@ use drive::Exchange;
 use elements::Elements;
 use geometry::Refusal;
 use geometry::Verdict;
+use geometry::number;
 
 pub enum Stage {
     OpeningHeaders,
@@ -36,6 +38,8 @@ pub struct Setup {
     pub depth: u8,
     // W - 1, the highest block of the window: so every session's window has a block.
     pub highest: u8,
+    // T, the frames at the end of the tape that are kept for EOD.
+    pub tail: u8,
 }
 
 pub struct State {
@@ -46,6 +50,8 @@ pub struct State {
     pub closed: bool,
     // Whether a refusal of 8 or more has ended the session, or a refused opening gave it.
     pub ended: bool,
+    // Whether it is spent: a 9 for an element has ended it, and close can be called once more.
+    pub spent: bool,
     pub copies: Copies,
     pub elements: Elements,
 }
@@ -97,15 +103,40 @@ impl State {
         }
     }
 
-    // Refusals from 8 on end the session.
-    pub fn end(mut self, refusal: Refusal) -> Outcome
+    // Whether a refusal with this number spends the session.
+    fn is_spending(self, number: u8) -> bool
+        ensures { λ r. ⌜ r ≡ isSpending self number ⌝ }
+    {
+        (number == 9) & ((0 < self.setup.tail) & !self.elements.eod)
+    }
+
+    // Refusals from 8 on end the session, for good unless it is spent.
+    pub fn ended_by(mut self, refusal: Refusal) -> State
+        ensures { λ r. ⌜ r ≡ endedOf self (refusalNumber refusal) ⌝ }
+    {
+        let spent = self.is_spending(number(refusal));
+        self.ended = true;
+        self.spent = spent;
+        self
+    }
+
+    pub fn end(self, refusal: Refusal) -> Outcome
         ensures { λ r. ⌜ outcomeSaid r ≡ ending self (refusalNumber refusal) ⌝ }
     {
-        self.ended = true;
-        Outcome {
-            session: self,
-            verdict: Verdict::Refused(refusal),
-        }
+        self.ended_by(refusal).refuse(refusal)
+    }
+
+    // Close of a spent session: what is not on tape is given up, and EOD is due.
+    pub fn give_up(mut self) -> State
+        ensures { λ r. ⌜ r ≡ givenUpOf self ⌝ }
+    {
+        let elements = self.elements;
+        self.exchange = Exchange::unsent();
+        self.closed = true;
+        self.ended = false;
+        self.spent = false;
+        self.elements = elements.give_up();
+        self
     }
 
     // The header copies of this stage are through.

@@ -66,25 +66,26 @@ elements-back e = rw (flag-back (e .locate), flag-back (e .eod), flags-back (e .
 -- every session comes back from its numbers
 pub recording-back : (s : State) → recordingOf (recordingTwin s) ≡ s
 unfolding recordingOf recordingTwin
-recording-back s = rw (stage-back (s .stage), exchange-back (s .exchange), flag-back (s .closed), flag-back (s .ended), copies-back (s .copies), elements-back (s .elements))
+recording-back s = rw (stage-back (s .stage), exchange-back (s .exchange), flag-back (s .closed), flag-back (s .ended), flag-back (s .spent), copies-back (s .copies), elements-back (s .elements))
 
 -- and its numbers are a session's
 pub recording-known : (s : State) → isRecording (recordingTwin s) ≡ true
 unfolding isRecording recordingTwin
-recording-known s = rw (stage-known (s .stage), exchange-known (s .exchange), flag-known (s .closed), flag-known (s .ended), flag-known (s .copies .locate), flag-known (s .elements .locate), flag-known (s .elements .eod), flags-known (s .elements .marks))
+recording-known s = rw (stage-known (s .stage), exchange-known (s .exchange), flag-known (s .closed), flag-known (s .ended), flag-known (s .spent), flag-known (s .copies .locate), flag-known (s .elements .locate), flag-known (s .elements .eod), flags-known (s .elements .marks))
 
 -- numbers that are a session's come back from their session: so a refusal that leaves the session leaves its numbers
 pub recording-numbers : (t : AdrRecording) → isRecording t ≡ true → recordingTwin (recordingOf t) ≡ t
 unfolding isRecording recordingOf recordingTwin
 recording-numbers t h =
-    let h7 = and-true _ (allFlags (t .elements .marks)) h in
-    let h6 = and-true _ (isFlag (t .elements .eod)) (h7 .0) in
-    let h5 = and-true _ (isFlag (t .elements .locate)) (h6 .0) in
-    let h4 = and-true _ (isFlag (t .copies .locate)) (h5 .0) in
+    let h8 = and-true _ (allFlags (t .elements .marks)) h in
+    let h7 = and-true _ (isFlag (t .elements .eod)) (h8 .0) in
+    let h6 = and-true _ (isFlag (t .elements .locate)) (h7 .0) in
+    let h5 = and-true _ (isFlag (t .copies .locate)) (h6 .0) in
+    let h4 = and-true _ (isFlag (t .spent)) (h5 .0) in
     let h3 = and-true _ (isFlag (t .ended)) (h4 .0) in
     let h2 = and-true _ (isFlag (t .closed)) (h3 .0) in
     let h1 = and-true (isExchange (t .exchange)) (isStage (t .stage)) (h2 .0) in
-    rw (exchange-number (t .exchange) (h1 .0), stage-number (t .stage) (h1 .1), flag-number (t .closed) (h2 .1), flag-number (t .ended) (h3 .1), flag-number (t .copies .locate) (h4 .1), flag-number (t .elements .locate) (h5 .1), flag-number (t .elements .eod) (h6 .1), flag-numbers (t .elements .marks) (h7 .1))
+    rw (exchange-number (t .exchange) (h1 .0), stage-number (t .stage) (h1 .1), flag-number (t .closed) (h2 .1), flag-number (t .ended) (h3 .1), flag-number (t .spent) (h4 .1), flag-number (t .copies .locate) (h5 .1), flag-number (t .elements .locate) (h6 .1), flag-number (t .elements .eod) (h7 .1), flag-numbers (t .elements .marks) (h8 .1))
 
 pub recording-comes-back : ComesBack isRecording recordingOf recordingTwin
 recording-comes-back = record { back = recording-back; known = recording-known; numbers = recording-numbers }

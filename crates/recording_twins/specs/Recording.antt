@@ -4,14 +4,22 @@ use mathlib.Core.List.{map}
 use Rattle.geometry.specs.Place.{asAddress, asSeq}
 use Rattle.copies.specs.declared.copies.Copies.{Copies}
 use Rattle.elements.specs.declared.elements.Elements.{Elements}
+use Rattle.recording_state.specs.declared.state.Setup.{Setup}
 use Rattle.recording_state.specs.declared.state.State.{State}
 use Rattle.exchange_twins.specs.Numbers.{isFlag, flagOf, flagNumber, isExchange, exchangeOf, exchangeTwin}
 use Rattle.exchange_twins.specs.Trails.{trailOf, trailTwin}
+use Rattle.recording_twins.specs.declared.recording_numbers.AdrSetup.{AdrSetup}
 use Rattle.recording_twins.specs.declared.recording_numbers.AdrCopies.{AdrCopies}
 use Rattle.recording_twins.specs.declared.recording_numbers.AdrElements.{AdrElements}
 use Rattle.recording_twins.specs.declared.recording_numbers.AdrRecording.{AdrRecording}
 use Rattle.recording_twins.specs.Stages.{isStage, stageOf, stageNumber}
 use Rattle.recording_twins.specs.Marks.{allFlags}
+
+abbrev setupOf : AdrSetup → Setup
+setupOf n = record { depth = n .depth; highest = n .highest; tail = n .tail }
+
+abbrev setupTwin : Setup → AdrSetup
+setupTwin s = record { depth = s .depth; highest = s .highest; tail = s .tail }
 
 abbrev pub copiesOf : AdrCopies → Copies
 copiesOf c = record {
@@ -70,25 +78,30 @@ elementsTwin e = record {
 -- whether the numbers are a session's
 unfoldable pub isRecording : AdrRecording → Bool
 isRecording s =
-    ((((((isExchange (s .exchange) && isStage (s .stage)) && isFlag (s .closed)) && isFlag (s .ended)) && isFlag (s .copies .locate)) && isFlag (s .elements .locate)) && isFlag (s .elements .eod)) && allFlags (s .elements .marks)
+    (((((((isExchange (s .exchange) && isStage (s .stage))
+    && isFlag (s .closed)) && isFlag (s .ended)) && isFlag (s .spent))
+    && isFlag (s .copies .locate)) && isFlag (s .elements .locate)) && isFlag (s .elements .eod))
+    && allFlags (s .elements .marks)
 
 unfoldable pub recordingOf : AdrRecording → State
 recordingOf s = record {
-  setup = record { depth = s .setup .depth; highest = s .setup .highest };
+  setup = setupOf (s .setup);
   stage = stageOf (s .stage);
   exchange = exchangeOf (s .exchange);
   closed = flagOf (s .closed);
   ended = flagOf (s .ended);
+  spent = flagOf (s .spent);
   copies = copiesOf (s .copies);
   elements = elementsOf (s .elements);
 }
 
 unfoldable pub recordingTwin : State → AdrRecording
 recordingTwin s = record {
-  setup = record { depth = s .setup .depth; highest = s .setup .highest };
+  setup = setupTwin (s .setup);
   stage = stageNumber (s .stage);
   closed = flagNumber (s .closed);
   ended = flagNumber (s .ended);
+  spent = flagNumber (s .spent);
   exchange = exchangeTwin (s .exchange);
   copies = copiesTwin (s .copies);
   elements = elementsTwin (s .elements);

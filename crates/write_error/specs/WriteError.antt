@@ -3,7 +3,7 @@ use Prim.Native.Nat.{ℕ, _+_}
 use lib.Dec.{eqb, ltb}
 use Rattle.geometry.specs.declared.address.Address.{Address}
 use Rattle.geometry.specs.Pick.{pick}
-use Rattle.geometry.specs.Place.{PlaceSaid, address, refused}
+use Rattle.geometry.specs.Place.{PlaceSaid, address, refused, asAddress}
 use Rattle.geometry.specs.Cartridge.{pastReserved}
 
 -- skip 0 counts as 1
@@ -14,6 +14,10 @@ stepOf skip = pick (eqb skip 0) 1 skip
 abbrev pub targetAddress : Address → ℕ → ℕ
 targetAddress p skip = pastReserved (p .0 + stepOf skip)
 
--- above END: refusal 9. The limit is END + 1
+-- the same as an address: where 32 bits don't hold it, the highest that they do
+abbrev pub targetWithin : Address → ℕ → Address
+targetWithin p skip = asAddress (pick (ltb (targetAddress p skip) 4294967295) (targetAddress p skip) 4294967295)
+
+-- refusal 9 from the limit on, which is one past the highest address that what is due may have
 abbrev pub targetOf : Address → ℕ → Address → PlaceSaid
 targetOf p skip limit = pick (ltb (targetAddress p skip) (limit .0)) (address (targetAddress p skip)) (refused 9)

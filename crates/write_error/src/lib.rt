@@ -1,8 +1,7 @@
 // The target of a write error: where writing goes on.
 ghost use mathlib.Core.Path.{_≡_};
-ghost use Prim.Native.Nat.{_%_, _^_};
 ghost use Rattle.geometry.specs.Place.{placeSaid};
-ghost use Rattle.write_error.specs.WriteError.{stepOf, targetAddress, targetOf};
+ghost use Rattle.write_error.specs.WriteError.{stepOf, targetAddress, targetWithin, targetOf};
 use geometry::Address;
 use geometry::Place;
 use geometry::Refusal;
@@ -22,14 +21,18 @@ fn target_number(p: Address, skip: u8) -> u64
     past_reserved(p, step(skip))
 }
 
-// The same as an address. No cartridge has so many frames that the remainder changes it.
+// The same as an address: where 32 bits don't hold it, the highest that they do. No cartridge has so many frames.
 pub fn target_address(p: Address, skip: u8) -> Address
-    ensures { λ r. ⌜ r .0 ≡ targetAddress p skip % 2 ^ 32 ⌝ }
+    ensures { λ r. ⌜ r ≡ targetWithin p skip ⌝ }
 {
-    Address((target_number(p, skip) % 0x100000000) as u32)
+    let t = target_number(p, skip);
+    if t < 0xFFFFFFFF {
+        return Address(t as u32);
+    }
+    Address(0xFFFFFFFF)
 }
 
-// The target of a write error at p, if there is room. `limit` is the address one past END.
+// The target of a write error at p, if it is below the limit.
 pub fn target(p: Address, skip: u8, limit: Address) -> Place
     ensures { λ r. ⌜ placeSaid r ≡ targetOf p skip limit ⌝ }
 {

@@ -3,6 +3,7 @@
 pub mod case;
 pub mod chain;
 pub mod content;
+pub mod ending;
 pub mod guarded;
 pub mod layer;
 pub mod longer;
@@ -14,13 +15,16 @@ mod replies;
 pub mod shrink;
 mod trail;
 
-pub use case::{Call, Case};
+pub use case::{Call, Case, Setup};
 pub use chain::Chain;
 pub use layer::{Layer, Model};
 
 use crate::drive::{Drive, DEEDS};
+use crate::frame::{aux_of, number_at};
 use crate::geometry::Address;
 use crate::tape::Tape;
+use content::Element;
+use ending::{Ending, Endings};
 use layer::RecordingCalls;
 use opening::{Opened, Opening};
 use plain::Recorded;
@@ -47,6 +51,8 @@ pub struct Tally {
     pub refused: [u64; 3],
     /// Recordings that wrote at 3,000 or behind.
     pub crossed: u64,
+    /// How those that keep a tail came to their end.
+    pub endings: Endings,
     /// How often the drive did each [`crate::drive::Deed`].
     pub deeds: [u64; DEEDS],
 }
@@ -61,6 +67,7 @@ impl Tally {
         self.crossed += other.crossed;
         add_each(&mut self.added, &other.added);
         add_each(&mut self.refused, &other.refused);
+        add_each(&mut self.endings.0, &other.endings.0);
         add_each(&mut self.deeds, &other.deeds);
     }
 }
@@ -102,9 +109,9 @@ pub fn run_demand_only(case: &Case) -> Result<Tally, String> {
 enum Turns<'a> {
     /// Each is a recording of its own.
     Anew,
-    /// Each is added to the one before if that reported done; with so many
-    /// blocks of window each.
-    Added(&'a [u32]),
+    /// Each is added to the one before if that reported done; each is opened
+    /// with this.
+    Added(&'a [Setup]),
 }
 
 impl Turns<'_> {
@@ -112,10 +119,10 @@ impl Turns<'_> {
         matches!(self, Turns::Added(_))
     }
 
-    fn window_blocks(self, case: &Case, turn: usize) -> u32 {
+    fn setup(self, case: &Case, turn: usize) -> Setup {
         match self {
-            Turns::Anew => case.window_blocks,
-            Turns::Added(windows) => windows.get(turn).copied().unwrap_or(case.window_blocks),
+            Turns::Anew => case.setup,
+            Turns::Added(setups) => setups.get(turn).copied().unwrap_or(case.setup),
         }
     }
 }
@@ -127,7 +134,7 @@ struct Before<'a, L: Layer> {
     opening: Opening<L::Reading>,
     /// Whether the end that it is opened at was read on another cartridge.
     astray: bool,
-    window_blocks: u32,
+    setup: Setup,
     calls: &'a [Call],
 }
 
@@ -181,12 +188,16 @@ fn run_to_end<L: Layer>(
             Some(back) => Opening::AtEnd(back),
             None => Opening::fresh(&mut tape, last),
         };
+        let setup = turns.setup(case, turn);
         let before = Before {
             case,
             last,
+            setup: match opening.old_end() {
+                Some(old_end) => setup.at(old_end, last),
+                None => setup,
+            },
             opening,
             astray: false,
-            window_blocks: turns.window_blocks(case, turn),
             calls,
         };
         let drive = drive_with(tape, case, seed);
@@ -195,10 +206,10 @@ fn run_to_end<L: Layer>(
         tally.recordings += 1;
         if recorded.done {
             let every_copy = turns.adds();
-            let accepted = &recorded.accepted;
             let back =
-                reading_back::read_back::<L>(case, last, &mut drive, accepted, seed, every_copy);
-            let back = back.and_then(|back| finished(before, back, &drive, host, &mut tally));
+                reading_back::read_back::<L>(case, last, &mut drive, &recorded, seed, every_copy);
+            let back =
+                back.and_then(|back| finished(before, &recorded, back, &drive, host, &mut tally));
             end = Some(back.map_err(place)?).filter(|_| turns.adds());
         }
         add_each(&mut tally.deeds, &drive.log().deeds);
@@ -215,6 +226,7 @@ fn drive_with(tape: Tape, case: &Case, seed: u64) -> Drive {
 /// Counts a recording that was read back.
 fn finished<L: Layer>(
     before: Before<L>,
+    recorded: &Recorded,
     back: ReadBack<L::Reading>,
     drive: &Drive,
     host: &Host<L>,
@@ -224,11 +236,13 @@ fn finished<L: Layer>(
         if back.end != Some(back.header.eod) {
             return Err(format!("{:?} is not the end that is named", back.end));
         }
+        keeps_tail(&before, recorded, &back, drive.tape())?;
         let frames = trail::is_right_on_tape(drive.tape(), &back.header, &back.elements)?;
         let delivered = back.elements.len() + 1;
         tally.undelivered += frames.saturating_sub(delivered) as u64;
     }
     let behind = before.opening.behind();
+    count_endings(&before, recorded, &back, &mut tally.endings);
     tally.done += 1;
     tally.delivered += back.elements.len() as u64;
     if let Some(count) = tally.added.get_mut(behind) {
@@ -236,8 +250,62 @@ fn finished<L: Layer>(
     }
     Ok(ReadBack {
         recordings: behind + 1,
+        promised: recorded.promised(),
+        given_up: recorded.kept.is_some(),
         ..back
     })
+}
+
+/// Looks at a cartridge that was read back: EOD has the number behind what was
+/// promised, and no element of the recording stands in the tail.
+fn keeps_tail<L: Layer>(
+    before: &Before<L>,
+    recorded: &Recorded,
+    back: &ReadBack<L::Reading>,
+    tape: &Tape,
+) -> Result<(), String> {
+    let eod = tape.read(back.header.eod);
+    let number = eod.map(|frame| number_at(aux_of(frame), 44));
+    if number.map(usize::try_from) != Some(Ok(recorded.promised())) {
+        return Err(format!("EOD has number {number:?}"));
+    }
+    let own = back.places.iter().skip(before.opening.elements().len());
+    match own.max().filter(|place| is_in_tail(before, **place)) {
+        Some(place) => Err(format!("{place:?} is in the tail")),
+        None => Ok(()),
+    }
+}
+
+fn is_in_tail<L: Layer>(before: &Before<L>, address: Address) -> bool {
+    address.plus(before.setup.tail) > before.last
+}
+
+fn count_endings<L: Layer>(
+    before: &Before<L>,
+    recorded: &Recorded,
+    back: &ReadBack<L::Reading>,
+    endings: &mut Endings,
+) {
+    if is_in_tail(before, back.header.eod) {
+        endings.note(Ending::EodInTail);
+    }
+    match back.elements.get(recorded.promised()) {
+        Some(Element::Block(_)) => endings.note(Ending::BlockDelivered),
+        Some(Element::Filemark) => endings.note(Ending::FilemarkDelivered),
+        None => {}
+    }
+    if let Opening::AtEnd(behind) = &before.opening {
+        if behind.given_up {
+            endings.note(Ending::Added);
+        }
+        if behind.elements.len() > behind.promised {
+            endings.note(Ending::AddedBehindDelivered);
+        }
+        if behind.elements.len() == recorded.promised() && back.elements.len() > recorded.promised()
+        {
+            endings.note(Ending::FirstDelivered);
+        }
+    }
 }
 
 /// Opens a session and makes its calls; every one is looked at.
@@ -251,8 +319,8 @@ fn recorded_on<L: Layer>(
         return Err(format!("opening answered {outcome:?}"));
     }
     session.plant(before.case.fault);
-    let mut recorder = Recorder::of(drive, session, before.window_blocks, opened);
-    recorder.run(before.calls)?;
+    let mut recorder = Recorder::of(drive, session, before.setup, opened);
+    recorder.run(before.calls, before.case.gives_up)?;
     Ok(recorder)
 }
 
@@ -270,16 +338,17 @@ fn record<L: Layer>(
         Some(12) => tally.refused[2] += 1,
         _ => {}
     }
+    add_each(&mut tally.endings.0, &recorder.endings.0);
     let recorded = Recorded {
         accepted: recorder.accepted,
         done: recorder.done,
+        kept: recorder.kept,
     };
     let mut drive = recorder.drive;
     if !recorded.done {
         let (pass, seed) = (recorder.opening.pass, before.case.seed);
-        let accepted = &recorded.accepted;
         let closed = before.opening.closed();
-        reading_back::read_unfinished::<L>(before.case, pass, &mut drive, accepted, closed, seed)?;
+        reading_back::read_unfinished::<L>(before.case, pass, &mut drive, &recorded, closed, seed)?;
     }
     Ok((drive, recorded))
 }

@@ -258,7 +258,7 @@ impl<S: Storage> Drive<S> {
         let largest = self.hostility.skip.min(255);
         let behind = self.hostility.bad_below.0.saturating_sub(self.front.0);
         let skip = if behind > 0 && self.random.chance(700) {
-            behind.min(largest)
+            behind.min(255)
         } else {
             self.random.between(0, largest)
         };

@@ -36,6 +36,8 @@ impl Start {
 #[derive(Clone, Debug, PartialEq, Eq)]
 pub struct Elements {
     depth: usize,
+    /// T, the frames up to END that no element goes to.
+    tail: u32,
     pass: u16,
     last: Address,
     /// END, the last address that may be written.
@@ -59,6 +61,8 @@ pub struct Elements {
     fault: Fault,
     /// Marker addresses of first sendings, for the fault that keeps them.
     remembered: BTreeMap<u32, Option<Address>>,
+    /// The target of the latest write error, for the fault that keeps it.
+    stale_target: Option<Address>,
 }
 
 /// A count of frames as a number.
@@ -69,9 +73,10 @@ pub(crate) fn count(number: usize) -> u32 {
 impl Elements {
     /// No elements yet.
     #[must_use]
-    pub fn new(depth: usize, pass: u16, last: Address, start: Start) -> Elements {
+    pub fn new(depth: usize, tail: u32, pass: u16, last: Address, start: Start) -> Elements {
         Elements {
             depth,
+            tail,
             pass,
             last,
             end: last,
@@ -85,6 +90,7 @@ impl Elements {
             eod: None,
             fault: Fault::None,
             remembered: BTreeMap::new(),
+            stale_target: None,
         }
     }
 
@@ -166,11 +172,51 @@ impl Elements {
         }
     }
 
+    /// Whether an element is due before all else.
+    #[must_use]
+    pub fn element_due(&self) -> bool {
+        matches!(self.due(), Some(Kind::Data | Kind::Marker))
+    }
+
+    /// Forgets the elements that are not known on tape: EOD is next, with the
+    /// number and at the address of the first of them.
+    pub fn give_up(&mut self) {
+        if self.fault == Fault::EodBehindGivenUp {
+            self.confirmed = self.next_number().0;
+        }
+        if self.fault == Fault::StaleTarget {
+            self.target = self.stale_target;
+        }
+        self.waiting.clear();
+        self.outstanding = 0;
+    }
+
+    /// What is due first.
+    fn due(&self) -> Option<Kind> {
+        self.waiting.get(self.outstanding).copied()
+    }
+
+    /// Whether this address is above those for what is due first.
+    fn is_above(&self, address: Address) -> bool {
+        let kept = if self.due() == Some(Kind::Eod) {
+            self.fault == Fault::EodOutOfTail
+        } else {
+            self.fault != Fault::ElementsUpToEnd
+        };
+        let room = self.end.0.checked_sub(if kept { self.tail } else { 0 });
+        room.is_none_or(|highest| address.0 > highest)
+    }
+
     /// The first rule that applies.
     #[must_use]
     pub fn answer(&self) -> Answer {
         if let Some(target) = self.target {
-            return Answer::Command(Command::Locate(target));
+            // Within END when it was noted, unless elements were given up.
+            return if target > self.end {
+                Answer::Refused(9)
+            } else {
+                Answer::Command(Command::Locate(target))
+            };
         }
         let some = self.outstanding > 0;
         if self.outstanding >= self.waiting.len() {
@@ -180,7 +226,7 @@ impl Elements {
                 Answer::Idle
             };
         }
-        let above = self.next > self.end;
+        let above = self.is_above(self.next);
         let at_gap = self.next == GAP_FIRST;
         let stop_at_gap = at_gap && self.fault != Fault::LocateWhileBuffered;
         Answer::Command(
@@ -198,7 +244,7 @@ impl Elements {
 
     /// The first element due, with its AUX for the next address.
     pub fn sending(&mut self) -> Option<Label> {
-        let kind = self.waiting.get(self.outstanding).copied()?;
+        let kind = self.due()?;
         let number = self.confirmed.saturating_add(count(self.outstanding));
         let taken = || self.waiting.iter().take(self.outstanding).enumerate();
         let markers = taken().filter(|(_, kind)| **kind == Kind::Marker);
@@ -308,7 +354,8 @@ impl Elements {
             target = target.out_of_gap();
         }
         self.target = Some(target);
-        if target > self.end {
+        self.stale_target = Some(target);
+        if self.is_above(target) {
             Err(9)
         } else {
             Ok(())

@@ -42,6 +42,24 @@ pub enum Fault {
     OldEndNotNamed,
     /// A reading ends at an EOD below the address at which it is to end.
     EarlierEndTaken,
+    /// Elements go up to END, as if nothing were kept for EOD.
+    ElementsUpToEnd,
+    /// EOD may not go into the tail either.
+    EodOutOfTail,
+    /// After giving up, EOD is numbered behind the elements given up.
+    EodBehindGivenUp,
+    /// After giving up, EOD goes to the target of a write error long past.
+    StaleTarget,
+    /// Close is accepted after 9 though nothing is kept for EOD.
+    SpentWithoutTail,
+    /// Close is accepted after a 9 for EOD.
+    EodGivenUp,
+    /// A reading ends at the header's EOD address two below the expected
+    /// number, too.
+    TwoBelowTaken,
+    /// A reading ends one below the expected number without a look at the
+    /// other fields.
+    ForeignOneBelowTaken,
 }
 
 /// The faults that recordings of their own show.
@@ -69,3 +87,17 @@ pub const PLANTED_IN_ADDING: [Fault; 5] = [
     Fault::OldEndNotNamed,
     Fault::EarlierEndTaken,
 ];
+
+/// The faults in what is kept for EOD, and in giving up.
+pub const PLANTED_IN_TAIL: [Fault; 6] = [
+    Fault::ElementsUpToEnd,
+    Fault::EodOutOfTail,
+    Fault::EodBehindGivenUp,
+    Fault::StaleTarget,
+    Fault::SpentWithoutTail,
+    Fault::EodGivenUp,
+];
+
+/// The faults in where a reading ends that no recording brings to light: they
+/// need frames of another making.
+pub const PLANTED_IN_ENDING: [Fault; 2] = [Fault::TwoBelowTaken, Fault::ForeignOneBelowTaken];

@@ -15,7 +15,7 @@ pub struct Hostility {
     pub reads_nothing: u32,
     /// A failure is reported when it can be.
     pub report: u32,
-    /// The largest skip reported.
+    /// The largest skip reported, but for those that lead over bad addresses.
     pub skip: u32,
     /// A command is answered busy.
     pub busy: u32,

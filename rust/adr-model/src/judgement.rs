@@ -13,7 +13,7 @@ pub enum Judgement {
     Expected(Kind),
     /// Refusal 10: an element before this one is missing.
     Missing,
-    /// Refusal 11: the expected number, but not of this use model.
+    /// Refusal 11: a number that is taken here, but not of this use model.
     Foreign,
 }
 
@@ -35,6 +35,15 @@ pub struct Standing {
     pub at: Address,
     /// The address from which on an EOD ends the reading.
     pub ends_from: Address,
+    /// The header's EOD address, 0 if it names none.
+    pub eod: Address,
+}
+
+impl Standing {
+    /// Whether this is where the header says that EOD is.
+    fn at_named_eod(&self) -> bool {
+        self.eod != Address(0) && self.at == self.eod
+    }
 }
 
 /// Judges a frame by itself, as one that stands where an EOD ends a reading.
@@ -43,6 +52,7 @@ pub fn judge(expectation: &Expectation, frame: &Frame) -> Judgement {
     let standing = Standing {
         at: Address(0),
         ends_from: Address(0),
+        eod: Address(0),
     };
     judge_at(expectation, standing, frame)
 }
@@ -78,7 +88,18 @@ pub fn judge_with(
     }
     let number = SequenceNumber(number_at(aux, 44));
     if number < expectation.number {
-        return Judgement::PassedOver;
+        // The element given up before this EOD may have been delivered.
+        let below = expectation.number.0 - number.0;
+        let taken = below == 1 || below == 2 && fault == Fault::TwoBelowTaken;
+        return if !(taken && kind == Kind::Eod && standing.at_named_eod()) {
+            Judgement::PassedOver
+        } else if fault == Fault::ForeignOneBelowTaken
+            || is_as_recorded(aux, kind, number, expectation)
+        {
+            Judgement::Expected(kind)
+        } else {
+            Judgement::Foreign
+        };
     }
     if number > expectation.number {
         return Judgement::Missing;
@@ -87,21 +108,27 @@ pub fn judge_with(
     if kind == Kind::Eod && earlier {
         return Judgement::PassedOver;
     }
-    if is_as_recorded(aux, kind, expectation) {
+    if is_as_recorded(aux, kind, number, expectation) {
         Judgement::Expected(kind)
     } else {
         Judgement::Foreign
     }
 }
 
-/// Whether bytes 18 to 35 and 44 to 67 are what a recording writes.
-fn is_as_recorded(aux: &[u8], kind: Kind, expectation: &Expectation) -> bool {
+/// Whether bytes 18 to 35 and 44 to 67 are what a recording writes with this
+/// number.
+fn is_as_recorded(
+    aux: &[u8],
+    kind: Kind,
+    number: SequenceNumber,
+    expectation: &Expectation,
+) -> bool {
     let mut recorded = [0; AUX_LENGTH];
     let label = Label {
         kind,
         pass: expectation.pass,
         last: expectation.last,
-        number: expectation.number,
+        number,
         filemarks: 0,
         latest_marker: None,
     };
@@ -180,6 +207,7 @@ mod tests {
             let standing = Standing {
                 at: Address(at),
                 ends_from: Address(ends_from),
+                eod: Address(0),
             };
             judge_at(&EXPECTATION, standing, frame)
         };

@@ -205,6 +205,7 @@ impl Reading {
         let standing = Standing {
             at,
             ends_from: self.header.ends_from(),
+            eod: self.header.eod,
         };
         judge_with(&expectation, standing, frame, self.fault)
     }

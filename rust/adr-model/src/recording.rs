@@ -26,6 +26,8 @@ enum Stage {
 struct Sizes {
     depth: usize,
     window_blocks: usize,
+    /// T, the frames up to END that are kept for EOD.
+    tail: u32,
 }
 
 impl Sizes {
@@ -33,15 +35,17 @@ impl Sizes {
     const NONE: Sizes = Sizes {
         depth: 0,
         window_blocks: 0,
+        tail: 0,
     };
 
-    fn of(depth: u32, window_blocks: u32) -> Result<Sizes, u8> {
-        if !(1..=255).contains(&depth) || !(1..=64).contains(&window_blocks) {
+    fn of(depth: u32, window_blocks: u32, tail: u32) -> Result<Sizes, u8> {
+        if !(1..=255).contains(&depth) || !(1..=64).contains(&window_blocks) || tail > 255 {
             return Err(4);
         }
         Ok(Sizes {
             depth: usize::try_from(depth).map_err(|_| 4)?,
             window_blocks: usize::try_from(window_blocks).map_err(|_| 4)?,
+            tail,
         })
     }
 }
@@ -64,6 +68,9 @@ pub struct Recording {
     elements: Elements,
     closed: bool,
     ended: bool,
+    /// Ended by a 9 for an element, with something kept for EOD: close is
+    /// accepted once more.
+    spent: bool,
     awaited: Option<Command>,
     /// The command answered busy, which comes again.
     again: Option<Command>,
@@ -78,16 +85,24 @@ impl Recording {
         geometry: &Geometry,
         depth: u32,
         window_blocks: u32,
+        tail: u32,
         newest: Option<&[u8]>,
     ) -> (Recording, Outcome) {
-        Recording::opened(Recording::try_open(geometry, depth, window_blocks, newest))
+        let sizes = Sizes::of(depth, window_blocks, tail);
+        Recording::opened(Recording::try_open(geometry, sizes, newest))
     }
 
     /// Opens a session at the end that a reading found, which goes on with
     /// the recording read; a refused opening returns an ended session.
     #[must_use]
-    pub fn open_at_end(reading: &Reading, depth: u32, window_blocks: u32) -> (Recording, Outcome) {
-        Recording::opened(Recording::try_open_at_end(reading, depth, window_blocks))
+    pub fn open_at_end(
+        reading: &Reading,
+        depth: u32,
+        window_blocks: u32,
+        tail: u32,
+    ) -> (Recording, Outcome) {
+        let sizes = Sizes::of(depth, window_blocks, tail);
+        Recording::opened(Recording::try_open_at_end(reading, sizes))
     }
 
     fn opened(session: Result<Recording, u8>) -> (Recording, Outcome) {
@@ -103,8 +118,7 @@ impl Recording {
 
     fn try_open(
         geometry: &Geometry,
-        depth: u32,
-        window_blocks: u32,
+        sizes: Result<Sizes, u8>,
         newest: Option<&[u8]>,
     ) -> Result<Recording, u8> {
         if newest.is_some_and(|header| header.len() != FRAME_LENGTH) {
@@ -114,7 +128,7 @@ impl Recording {
         let old = newest
             .map(|header| header::check(geometry, header))
             .transpose()?;
-        let sizes = Sizes::of(depth, window_blocks)?;
+        let sizes = sizes?;
         let (pass, update_count) = match old {
             None => (1, 0),
             Some(old) if old.pass >= 65_534 => return Err(5),
@@ -129,9 +143,9 @@ impl Recording {
         Ok(Recording::begun(sizes, opening, Start::FRESH))
     }
 
-    fn try_open_at_end(reading: &Reading, depth: u32, window_blocks: u32) -> Result<Recording, u8> {
+    fn try_open_at_end(reading: &Reading, sizes: Result<Sizes, u8>) -> Result<Recording, u8> {
         let (old, start) = reading.end().ok_or(7)?;
-        let sizes = Sizes::of(depth, window_blocks)?;
+        let sizes = sizes?;
         let update_count = raised(old.update_count)?;
         if old.eod == Address(0) || old.eod != start.at {
             return Err(13);
@@ -150,9 +164,10 @@ impl Recording {
             sizes,
             opening,
             stage: Stage::OpeningHeaders(HeaderCopies::new(sizes.depth)),
-            elements: Elements::new(sizes.depth, opening.pass, opening.last, start),
+            elements: Elements::new(sizes.depth, sizes.tail, opening.pass, opening.last, start),
             closed: false,
             ended: false,
+            spent: false,
             awaited: None,
             again: None,
             fault: Fault::None,
@@ -221,13 +236,26 @@ impl Recording {
         Outcome::Accepted
     }
 
-    /// Asks for the recording to be ended.
+    /// Asks for the recording to be ended; in a session that is spent, for
+    /// what is not on tape to be given up.
     pub fn close(&mut self) -> Outcome {
-        if self.ended || self.closed {
+        if self.spent {
+            self.elements.give_up();
+            (self.ended, self.spent) = (false, false);
+        } else if self.ended || self.closed {
             return Outcome::Refused(7);
         }
         self.closed = true;
         Outcome::Accepted
+    }
+
+    /// Ends the session with a refusal. One that finds no room for an element
+    /// leaves it spent, if something is kept for EOD.
+    fn end(&mut self, number: u8) {
+        let kept = self.sizes.tail > 0 || self.fault == Fault::SpentWithoutTail;
+        let element = self.elements.element_due() || self.fault == Fault::EodGivenUp;
+        self.ended = true;
+        self.spent = number == 9 && kept && element;
     }
 
     /// Fetches the next command; a WRITE fills the lent frame.
@@ -253,7 +281,7 @@ impl Recording {
                     self.fill(window, frame);
                 }
             }
-            Answer::Refused(_) => self.ended = true,
+            Answer::Refused(number) => self.end(number),
             Answer::Idle | Answer::Done => {}
         }
         answer
@@ -299,12 +327,13 @@ impl Recording {
         }
     }
 
-    /// Where the session stands; none once a refusal has ended it.
+    /// Where the session stands; none once a refusal has ended it for good.
     #[must_use]
     pub fn state(&self) -> Option<RecordingState> {
-        (!self.ended).then(|| RecordingState {
+        (self.spent || !self.ended).then(|| RecordingState {
             depth: count(self.sizes.depth),
             window_blocks: count(self.sizes.window_blocks),
+            tail: self.sizes.tail,
             stage: match self.stage {
                 Stage::OpeningHeaders(_) => StageName::OpeningHeaders,
                 Stage::LocateFirst | Stage::Elements => StageName::Elements,
@@ -312,6 +341,7 @@ impl Recording {
                 Stage::Done => StageName::Done,
             },
             closed: self.closed,
+            spent: self.spent,
             exchange: ExchangeState {
                 awaited: self.awaited,
                 again: self.again,
@@ -352,7 +382,7 @@ impl Recording {
         match self.take_in(command, reply) {
             Ok(()) => Outcome::Accepted,
             Err(number) => {
-                self.ended = true;
+                self.end(number);
                 Outcome::Refused(number)
             }
         }

@@ -1,6 +1,7 @@
 //! Where a session stands, in the scope's terms: what two representations of
 //! the same session have in common. A session that a refusal has ended has no
-//! such state, since nothing but refusal 7 follows.
+//! such state, since nothing but refusal 7 follows, unless it is spent: a
+//! close may follow there, which goes on from where it stands.
 
 use crate::command::Command;
 use crate::frame::{HeaderFields, Kind};
@@ -36,11 +37,16 @@ pub struct RecordingState {
     pub depth: u32,
     /// W.
     pub window_blocks: u32,
+    /// T.
+    pub tail: u32,
     /// The stage.
     pub stage: StageName,
     /// Whether close was called.
     pub closed: bool,
-    /// The command last given.
+    /// Whether a 9 has ended it after which close is accepted.
+    pub spent: bool,
+    /// The command last given; none in a session that is spent, which brings
+    /// no reply and repeats no command.
     pub exchange: ExchangeState,
     /// What the header copies of this stage say, or those of the stage before.
     pub header: HeaderFields,

@@ -103,7 +103,7 @@ impl Cartridge {
     fn added(&self, depth: u32, blocks: u32) -> Host {
         let (reading, _, refused) = self.read();
         assert_eq!(refused, 0);
-        Host::of(Recording::open_at_end(&reading, depth, blocks), blocks)
+        Host::of(Recording::open_at_end(&reading, depth, blocks, 0), blocks)
     }
 
     /// Answers good until there is nothing to do and keeps what is written.
@@ -212,7 +212,7 @@ fn a_fresh_recording_names_no_old_end() {
         old_end: Address(40),
         ..closed(0)
     });
-    let opened = Recording::open(&geometry(), 4, 2, Some(&old));
+    let opened = Recording::open(&geometry(), 4, 2, 0, Some(&old));
     let mut host = Host::of(opened, 2);
     host.write_headers();
     assert_eq!(header_says(&host), (8, 4, 0, 0));
@@ -261,7 +261,7 @@ fn the_old_eod_still_reads() {
     // Cut here, the reading ends where the old one did, and nothing is added.
     let (reading, delivered, refused) = cartridge.read();
     assert_eq!((delivered, refused), (vec![b'F', 0xE0, 0xE0], 0));
-    assert_eq!(Recording::open_at_end(&reading, 1, 1).1, REFUSED(13));
+    assert_eq!(Recording::open_at_end(&reading, 1, 1, 0).1, REFUSED(13));
     host.close();
     assert_eq!(cartridge.play(&mut host), Answer::Done);
     let (_, delivered, refused) = cartridge.read();
@@ -284,7 +284,8 @@ fn a_left_over_element_is_read() {
     assert_eq!(cartridge.play(&mut host), Answer::Done);
     let (_, delivered, refused) = cartridge.read();
     assert_eq!(delivered, vec![b'F', 0xE0, 0xE0, 9, 0xE0]);
-    assert_eq!(refused, 12);
+    // EOD is one below what is then expected, and ends the reading all the same.
+    assert_eq!(refused, 0);
 }
 
 /// Earlier ends, and what is looked at before them.
@@ -354,7 +355,7 @@ fn read_on(fields: &HeaderFields) -> Reading {
 #[track_caller]
 fn opens(reading: &Reading, depth: u32, blocks: u32, outcome: Outcome) {
     let before = reading.clone();
-    let (mut session, answered) = Recording::open_at_end(reading, depth, blocks);
+    let (mut session, answered) = Recording::open_at_end(reading, depth, blocks, 0);
     assert_eq!((answered, reading), (outcome, &before));
     if outcome != ACCEPTED {
         assert_eq!(session.state(), None);

@@ -1,6 +1,6 @@
 //! Random cartridges recorded and read back.
 
-use adr_model::check::{shrink::run_and_shrink, Call, Case, Tally};
+use adr_model::check::{shrink::run_and_shrink, Call, Case, Setup, Tally};
 use adr_model::hostility::Hostility;
 use adr_model::{Fault, Geometry};
 
@@ -43,7 +43,8 @@ fn long_case(elements: u16) -> Case {
         seed: 1,
         geometry: Geometry::beginning(3_001, 1),
         depth: 1,
-        window_blocks: 8,
+        setup: Setup::of(8, 0),
+        gives_up: true,
         stale: 0,
         headers: 0,
         hostility: Hostility {

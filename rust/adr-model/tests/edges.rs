@@ -50,22 +50,7 @@ fn marker_address_after_an_error() {
 fn outstanding_at(geometry: &Geometry, address: u32) -> Host {
     let mut host = Host::at_elements(geometry, 1, 2);
     host.block(1);
-    let mut next = 10;
-    while next < address {
-        // From 2,985 a skip of 15 is needed to get over the gap.
-        let skip = match address - next {
-            rest if rest < 255 => rest,
-            _ if next < 2_985 => (2_985 - next).min(255),
-            _ if next == 2_985 => 15,
-            _ => 255,
-        };
-        host.step(write(next), good());
-        host.step(READ_POSITION, error(next, skip));
-        next += skip;
-        host.step(locate(next), good());
-    }
-    assert_eq!(next, address);
-    host.step(write(address), good());
+    host.write_at(address);
     host
 }
 
@@ -260,7 +245,7 @@ fn phases() {
 #[test]
 fn openings() {
     let open = |geometry: &Geometry, depth, window_blocks, header: Option<&[u8]>| {
-        let (mut session, outcome) = Recording::open(geometry, depth, window_blocks, header);
+        let (mut session, outcome) = Recording::open(geometry, depth, window_blocks, 0, header);
         if outcome != ACCEPTED {
             assert_eq!(session.fetch(&[], &mut []), Answer::Refused(7));
             assert_eq!(session.accept_filemark(), Outcome::Refused(7));

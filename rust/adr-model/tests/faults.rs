@@ -5,7 +5,7 @@ use adr_model::check::chain::{
 };
 use adr_model::check::shrink::{shrink, shrink_chain_on};
 use adr_model::check::{run, run_demand_only, Case, Chain, Model};
-use adr_model::fault::{PLANTED, PLANTED_IN_ADDING};
+use adr_model::fault::{PLANTED, PLANTED_IN_ADDING, PLANTED_IN_TAIL};
 use adr_model::Fault;
 
 /// The seeds within which each planted fault must be found.
@@ -65,6 +65,37 @@ fn faults_in_adding_are_found() {
         let alone = fault == Fault::EarlierEndTaken || run(&Case::of_seed(seed, fault)).is_ok();
         assert!(alone, "{fault:?}");
     }
+}
+
+#[test]
+fn faults_in_the_tail_are_found() {
+    for fault in PLANTED_IN_TAIL {
+        let found = (0..SEEDS).find(|seed| run(&Case::with_tail(*seed, fault)).is_err());
+        let seed = found.unwrap_or_else(|| panic!("{fault:?} was not found"));
+        println!("{fault:?}: seed {seed}");
+        assert!(run(&Case::with_tail(seed, Fault::None)).is_ok());
+        // Where nothing is kept there is nothing to give up.
+        let alone = fault == Fault::SpentWithoutTail || run(&Case::of_seed(seed, fault)).is_ok();
+        assert!(alone, "{fault:?}");
+    }
+}
+
+/// The demand alone finds those that put EOD where a reading does not end
+/// behind what was on tape. The others give up too early or too late.
+#[test]
+fn the_demand_alone_finds_faults_in_the_tail() {
+    for fault in PLANTED_IN_TAIL {
+        let mut cases = (0..SEEDS).map(|seed| Case::with_tail(seed, fault));
+        let found = cases.any(|case| run_demand_only(&case).is_err());
+        let seen = matches!(fault, Fault::EodBehindGivenUp | Fault::StaleTarget);
+        assert_eq!(found, seen, "{fault:?}");
+    }
+    let tape = |fault| {
+        let mut chains = (0..CHAINS).map(|seed| Chain::with_tail(seed, fault));
+        chains.any(|chain| run_chain_demand_and_tape(&chain).is_err())
+    };
+    assert!(tape(Fault::ElementsUpToEnd));
+    assert!(!tape(Fault::None));
 }
 
 /// The demand alone finds those that a reading meets after a recording that

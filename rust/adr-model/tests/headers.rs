@@ -119,7 +119,7 @@ fn unlawful_replies() {
 #[test]
 fn counts_and_passes() {
     let old = header(7, 40, 11_999);
-    let (session, outcome) = Recording::open(&geometry(), 255, 1, Some(&old));
+    let (session, outcome) = Recording::open(&geometry(), 255, 1, 0, Some(&old));
     assert_eq!(outcome, ACCEPTED);
     let mut host = Host::open(&geometry(), 255, 1);
     host.session = session;

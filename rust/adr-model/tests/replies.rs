@@ -137,13 +137,14 @@ fn any_reply(random: &mut Random) -> Reply {
 fn any_list_of_calls() {
     let mut random = Random::new(77);
     let mut ends = 0;
-    for round in 0..3_000 {
+    for round in 0..3_000_u32 {
         let geometry = Geometry {
             frames_per_track: if round % 2 == 0 { 3_001 } else { 65_535 },
             tracks: if round % 2 == 0 { 1 } else { 65_535 },
             load_point: 0,
         };
-        let (mut session, _) = Recording::open(&geometry, random.between(1, 6), 2, None);
+        let (mut session, _) =
+            Recording::open(&geometry, random.between(1, 6), 2, round % 256, None);
         let mut window = vec![0; 65_536];
         let mut frame = [0; FRAME_LENGTH];
         for _ in 0..random.below(300) {

@@ -11,6 +11,7 @@ use crate::read_all::read_with;
 use crate::reader::Reader;
 use crate::record_all::record_with;
 use crate::recorder::Recorder;
+use crate::setup::Setup;
 use crate::summary::Summary;
 
 /// What was read on the way to the end of data, and what was recorded behind
@@ -41,15 +42,14 @@ pub struct Appended {
 ///
 /// # Errors
 /// What the reading failed with, and then nothing was written; or what the
-/// recording failed with. The layer's refusal is [`Refusal::EndElsewhere`] where
+/// recording failed with, as [`record_all`](crate::record_all). The layer's refusal is [`Refusal::EndElsewhere`] where
 /// the header does not name the end that was found.
 ///
 /// [`Refusal::EndElsewhere`]: crate::Refusal::EndElsewhere
 pub fn append_all<'a, D: Drive, S>(
     drive: &mut D,
     geometry: Geometry,
-    depth: u32,
-    blocks: u32,
+    setup: Setup,
     header: &[u8],
     elements: impl IntoIterator<Item = Result<Element<'a>, S>>,
     mut progress: impl FnMut(&Appended),
@@ -62,7 +62,7 @@ pub fn append_all<'a, D: Drive, S>(
             recorded,
         });
     })?;
-    let recorder = Recorder::open_at_end(&reader, depth, blocks).map_err(RecordError::from)?;
+    let recorder = Recorder::open_at_end(&reader, setup).map_err(RecordError::from)?;
     let recorded = record_with(drive, recorder, elements, |recorded| {
         progress(&Appended {
             read,

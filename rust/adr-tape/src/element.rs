@@ -11,6 +11,17 @@ pub enum Element<'a> {
     Filemark,
 }
 
+impl Element<'_> {
+    /// The element with bytes of its own; a borrowed block is copied.
+    #[must_use]
+    pub fn into_owned(self) -> Element<'static> {
+        match self {
+            Element::Block(block) => Element::from(block.into_owned()),
+            Element::Filemark => Element::Filemark,
+        }
+    }
+}
+
 impl<'a> From<&'a [u8]> for Element<'a> {
     fn from(block: &'a [u8]) -> Self {
         Element::Block(Cow::Borrowed(block))

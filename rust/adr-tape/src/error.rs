@@ -4,7 +4,9 @@ use std::convert::Infallible;
 use std::error::Error;
 use std::fmt;
 
+use crate::element::Element;
 use crate::refusal::Refusal;
+use crate::summary::Summary;
 
 /// Why the newest header could not be found.
 ///
@@ -20,7 +22,7 @@ pub enum HeaderError<D> {
 /// Why a recording did not become whole.
 ///
 /// It is shown as what failed; [`Error::source`] gives the error in it.
-#[derive(Clone, Copy, Debug, PartialEq, Eq)]
+#[derive(Clone, Debug, PartialEq, Eq)]
 pub enum RecordError<D, S> {
     /// The layer refused.
     Refused(Refusal),
@@ -28,6 +30,69 @@ pub enum RecordError<D, S> {
     Drive(D),
     /// The source of the elements failed.
     Source(S),
+    /// The tape is full, and was closed behind what it could take.
+    Full(Full),
+}
+
+/// What came of a recording on a tape that was full before all was recorded.
+///
+/// It was closed in order: its headers are written, it can be read to its end
+/// and, where there is room, added to. The elements that follow belong on another
+/// cartridge: first `not_on_tape`, then what is left of the source. A source that
+/// was lent (`by_ref()` of an iterator, or `&mut`) has that still.
+///
+/// A reading may give one element more than `on_tape` tells: the first of
+/// `not_on_tape`, if it still reads where its write failed. It belongs on the other
+/// cartridge all the same.
+///
+/// ```
+/// # use std::convert::Infallible;
+/// # use adr_tape::{Address, Drive, Reply};
+/// # /// Forgets what it writes.
+/// # struct Nowhere;
+/// # impl Drive for Nowhere {
+/// #     type Error = Infallible;
+/// #     fn locate(&mut self, _: Address) -> Result<Reply, Infallible> {
+/// #         Ok(Reply::good())
+/// #     }
+/// #     fn write(&mut self, _: Address, _: &[u8]) -> Result<Reply, Infallible> {
+/// #         Ok(Reply::good())
+/// #     }
+/// #     fn read(&mut self, _: Address, _: &mut [u8]) -> Result<Reply, Infallible> {
+/// #         Ok(Reply::good())
+/// #     }
+/// #     fn read_position(&mut self) -> Result<Reply, Infallible> {
+/// #         Ok(Reply::buffered(0))
+/// #     }
+/// # }
+/// use adr_tape::{record_all, Element, Geometry, RecordError, Setup};
+///
+/// # let (mut drive, mut other_drive) = (Nowhere, Nowhere);
+/// let geometry = Geometry::beginning(3_001, 1);
+/// let setup = Setup { depth: 8, blocks: 16, tail: 8 };
+/// let block = vec![7; adr_tape::BLOCK_LENGTH];
+/// let mut elements = (0..5_000).map(|_| Ok::<_, Infallible>(Element::from(&block[..])));
+///
+/// match record_all(&mut drive, geometry, setup, None, elements.by_ref(), |_| {}) {
+///     Err(RecordError::Full(full)) => {
+///         assert_eq!(full.on_tape, 2_980);
+///         let rest = full.not_on_tape.into_iter().map(Ok).chain(elements);
+///         let summary = record_all(&mut other_drive, geometry, setup, None, rest, |_| {});
+///         assert_eq!(summary.map(|summary| summary.blocks), Ok(2_020));
+///     }
+///     recorded => panic!("it was not full: {recorded:?}"),
+/// }
+/// ```
+#[derive(Clone, Debug, Default, PartialEq, Eq)]
+pub struct Full {
+    /// Counts of the recording. Elements that were accepted and given up are among
+    /// them.
+    pub summary: Summary,
+    /// How many of the elements are known to be on tape: the first so many.
+    pub on_tape: u64,
+    /// The elements that were taken from the source and are not known to be on
+    /// tape, in order.
+    pub not_on_tape: Vec<Element<'static>>,
 }
 
 /// Why a reading did not come to its end.
@@ -46,13 +111,14 @@ pub enum ReadError<D, S> {
 /// Why nothing, or not everything, was added to a cartridge.
 ///
 /// It is shown as what failed; [`Error::source`] gives the error in it.
-#[derive(Clone, Copy, Debug, PartialEq, Eq)]
+#[derive(Clone, Debug, PartialEq, Eq)]
 pub enum AppendError<D, S> {
     /// What is on the cartridge was not read to its end. Nothing was written.
     Read(ReadError<D, Infallible>),
     /// The recording behind it did not become whole. One whose opening was refused
     /// ([`Refusal::Capacity`], [`Refusal::Exhausted`], [`Refusal::EndElsewhere`])
-    /// wrote nothing; any other may have.
+    /// wrote nothing; any other may have. [`RecordError::Full`] tells of the
+    /// elements that were to be added.
     Record(RecordError<D, S>),
 }
 
@@ -101,6 +167,7 @@ impl<D, S> fmt::Display for RecordError<D, S> {
             RecordError::Refused(_) => "the recording was refused",
             RecordError::Drive(_) => "the drive failed while it recorded",
             RecordError::Source(_) => "the source of the recording failed",
+            RecordError::Full(_) => "not everything was recorded",
         })
     }
 }
@@ -139,6 +206,7 @@ impl<D: Error + 'static, S: Error + 'static> Error for RecordError<D, S> {
             RecordError::Refused(refusal) => refusal,
             RecordError::Drive(error) => error,
             RecordError::Source(error) => error,
+            RecordError::Full(_) => &Refusal::TapeFull,
         })
     }
 }

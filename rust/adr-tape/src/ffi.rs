@@ -23,6 +23,9 @@ mod structs;
 
 pub use structs::*;
 
+/// Stage of a recording: the closing headers; EOD is on tape.
+pub const CLOSING_HEADERS: u8 = 2;
+
 /// Operation code of READ.
 pub const READ: u8 = 0x08;
 /// Operation code of WRITE.
@@ -68,6 +71,7 @@ mod calls {
             geometry: Geometry,
             depth: u32,
             blocks: u32,
+            tail: u32,
             header: *const u8,
             header_length: usize,
         ) -> RecordOutcome;
@@ -75,11 +79,13 @@ mod calls {
             geometry: Geometry,
             depth: u32,
             blocks: u32,
+            tail: u32,
         ) -> RecordOutcome;
         pub(super) fn adr_record_open_at_end(
             reading: Reading,
             depth: u32,
             blocks: u32,
+            tail: u32,
         ) -> RecordOutcome;
         pub(super) fn adr_record_block(
             session: Recording,
@@ -158,23 +164,29 @@ pub fn choose(geometry: Geometry, first: &[u8], second: &[u8]) -> Choice {
 
 /// `adr_record_open`: opens a recording on the newest header.
 #[must_use]
-pub fn record_open(geometry: Geometry, depth: u32, blocks: u32, header: &[u8]) -> RecordOutcome {
+pub fn record_open(
+    geometry: Geometry,
+    depth: u32,
+    blocks: u32,
+    tail: u32,
+    header: &[u8],
+) -> RecordOutcome {
     // SAFETY: the slice is lent for the call and only read.
-    unsafe { calls::adr_record_open(geometry, depth, blocks, header.as_ptr(), header.len()) }
+    unsafe { calls::adr_record_open(geometry, depth, blocks, tail, header.as_ptr(), header.len()) }
 }
 
 /// `adr_record_open_blank`: opens a recording on a cartridge without header.
 #[must_use]
-pub fn record_open_blank(geometry: Geometry, depth: u32, blocks: u32) -> RecordOutcome {
+pub fn record_open_blank(geometry: Geometry, depth: u32, blocks: u32, tail: u32) -> RecordOutcome {
     // SAFETY: only numbers go over.
-    unsafe { calls::adr_record_open_blank(geometry, depth, blocks) }
+    unsafe { calls::adr_record_open_blank(geometry, depth, blocks, tail) }
 }
 
 /// `adr_record_open_at_end`: opens a recording at the end that a reading found.
 #[must_use]
-pub fn record_open_at_end(reading: Reading, depth: u32, blocks: u32) -> RecordOutcome {
+pub fn record_open_at_end(reading: Reading, depth: u32, blocks: u32, tail: u32) -> RecordOutcome {
     // SAFETY: only numbers go over.
-    unsafe { calls::adr_record_open_at_end(reading, depth, blocks) }
+    unsafe { calls::adr_record_open_at_end(reading, depth, blocks, tail) }
 }
 
 /// `adr_record_block`: accepts a block into the window.

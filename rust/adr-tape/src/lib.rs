@@ -8,6 +8,7 @@
 //! * [`Drive`], [`newest_header`], [`record_all`], [`append_all`] and
 //!   [`read_all`]: whole recordings, additions and readings over the host's own
 //!   transport.
+//! * [`Full`]: what to do when a tape is full.
 //! * [`ffi`]: the calls as C sees them, for hosts with buffers of their own.
 //!
 //! A drive in memory, recorded and read back:
@@ -17,7 +18,7 @@
 //! use std::ops::ControlFlow;
 //!
 //! use adr_tape::{
-//!     newest_header, read_all, record_all, Address, Drive, Element, Geometry, Reply, Sense,
+//!     newest_header, read_all, record_all, Address, Drive, Element, Geometry, Reply, Sense, Setup,
 //! };
 //!
 //! /// Writes at once, so nothing is ever buffered.
@@ -63,7 +64,8 @@
 //! let source = elements.clone().into_iter().map(Ok::<_, Infallible>);
 //!
 //! let header = newest_header(&mut drive, geometry)?;
-//! record_all(&mut drive, geometry, 8, 16, header.as_deref(), source, |_| {})?;
+//! let setup = Setup { depth: 8, blocks: 16, tail: 8 };
+//! record_all(&mut drive, geometry, setup, header.as_deref(), source, |_| {})?;
 //!
 //! let header = newest_header(&mut drive, geometry)?.expect("it was recorded");
 //! let mut delivered = 0;
@@ -91,6 +93,7 @@ mod record_all;
 mod recorder;
 mod refusal;
 mod reply;
+mod setup;
 mod summary;
 mod unclosed;
 #[cfg(doctest)]
@@ -100,7 +103,7 @@ pub use append_all::{append_all, Appended};
 pub use command::Command;
 pub use drive::Drive;
 pub use element::Element;
-pub use error::{AppendError, HeaderError, ReadError, RecordError};
+pub use error::{AppendError, Full, HeaderError, ReadError, RecordError};
 pub use geometry::{header_addresses, Address, Geometry, LoadPoint, BLOCK_LENGTH, FRAME_LENGTH};
 pub use header::{newer, newest_header};
 pub use read_all::{read_all, read_with};
@@ -109,4 +112,5 @@ pub use record_all::{record_all, record_with};
 pub use recorder::{Next, Recorder};
 pub use refusal::Refusal;
 pub use reply::{Reply, Sense};
+pub use setup::Setup;
 pub use summary::Summary;

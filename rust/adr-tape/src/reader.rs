@@ -37,11 +37,14 @@ pub enum Delivery<'f> {
 /// what was read.
 ///
 /// ```
-/// use adr_tape::{Address, Command, Delivery, Geometry, Next, ReadNext, Reader, Recorder, Reply};
+/// use adr_tape::{
+///     Address, Command, Delivery, Geometry, Next, ReadNext, Reader, Recorder, Reply, Setup,
+/// };
 ///
 /// # let geometry = Geometry::beginning(3_001, 1);
 /// # let mut frames = std::collections::BTreeMap::new();
-/// # let mut recorder = Recorder::open(geometry, 4, 2, None)?;
+/// # let setup = Setup { depth: 4, blocks: 2, tail: 1 };
+/// # let mut recorder = Recorder::open(geometry, setup, None)?;
 /// # recorder.accept_block(&[5; adr_tape::BLOCK_LENGTH])?;
 /// # recorder.close()?;
 /// # while let Next::Send(command, frame) = recorder.fetch()? {

@@ -3,11 +3,12 @@
 use crate::command::Command;
 use crate::drive::Drive;
 use crate::element::Element;
-use crate::error::RecordError;
+use crate::error::{Full, RecordError};
 use crate::geometry::Geometry;
 use crate::recorder::{Next, Recorder};
 use crate::refusal::Refusal;
 use crate::reply::Reply;
+use crate::setup::Setup;
 use crate::summary::Summary;
 
 /// Records elements until there are no more, closes, and returns when the
@@ -17,18 +18,20 @@ use crate::summary::Summary;
 /// finds it. `progress` is called after each reply.
 ///
 /// # Errors
-/// The layer's refusal, or what the drive or the source failed with. Only a
-/// recording that succeeded can be read back whole.
+/// The layer's refusal, or what the drive or the source failed with; what is on
+/// tape then can't be relied on. And [`RecordError::Full`], if there is a tail and
+/// the tape was full before it: then the tape was closed, and the error has what
+/// is not on it. With a tail of 0 a full tape is [`Refusal::TapeFull`], as it is
+/// where the end of data finds no room either.
 pub fn record_all<'a, D: Drive, S>(
     drive: &mut D,
     geometry: Geometry,
-    depth: u32,
-    blocks: u32,
+    setup: Setup,
     header: Option<&[u8]>,
     elements: impl IntoIterator<Item = Result<Element<'a>, S>>,
     progress: impl FnMut(&Summary),
 ) -> Result<Summary, RecordError<D::Error, S>> {
-    let recorder = Recorder::open(geometry, depth, blocks, header)?;
+    let recorder = Recorder::open(geometry, setup, header)?;
     record_with(drive, recorder, elements, progress)
 }
 
@@ -56,7 +59,7 @@ pub fn record_with<'a, D: Drive, S>(
     recorded
 }
 
-/// Records what the source has, to the end.
+/// Records what the source has, to the end or until the tape is full.
 fn record<'a, D: Drive, S>(
     drive: &mut D,
     recorder: &mut Recorder,
@@ -64,17 +67,43 @@ fn record<'a, D: Drive, S>(
     progress: &mut impl FnMut(&Summary),
 ) -> Result<Summary, RecordError<D::Error, S>> {
     let mut summary = Summary::default();
+    match send_all(drive, recorder, &mut source, &mut summary, progress) {
+        Ok(()) => return Ok(summary),
+        Err(_) if recorder.is_spent() => {}
+        Err(error) => return Err(error),
+    }
+    let on_tape = recorder.on_tape();
+    let accepted = recorder.not_on_tape().chain(source.waiting.take());
+    let not_on_tape = accepted.map(Element::into_owned).collect();
+    recorder.close()?;
+    source.closed = true;
+    send_all(drive, recorder, &mut source, &mut summary, progress)?;
+    Err(RecordError::Full(Full {
+        summary,
+        on_tape,
+        not_on_tape,
+    }))
+}
+
+/// Sends commands, and accepts what the source has, until all is done.
+fn send_all<'a, D: Drive, S>(
+    drive: &mut D,
+    recorder: &mut Recorder,
+    source: &mut Source<'a, impl Iterator<Item = Result<Element<'a>, S>>>,
+    summary: &mut Summary,
+    progress: &mut impl FnMut(&Summary),
+) -> Result<(), RecordError<D::Error, S>> {
     loop {
-        source.fill(recorder, &mut summary)?;
+        source.fill(recorder, summary)?;
         match recorder.fetch()? {
             Next::Send(command, frame) => {
                 let reply = send(drive, command, frame).map_err(RecordError::Drive)?;
                 summary.count(command, &reply);
                 recorder.reply(reply)?;
-                progress(&summary);
+                progress(summary);
             }
             Next::Idle => {}
-            Next::Done => return Ok(summary),
+            Next::Done => return Ok(()),
         }
     }
 }

@@ -3,11 +3,13 @@
 use std::fmt;
 
 use crate::command::Command;
+use crate::element::Element;
 use crate::ffi;
 use crate::geometry::{Geometry, BLOCK_LENGTH, FRAME_LENGTH};
 use crate::reader::Reader;
 use crate::refusal::Refusal;
 use crate::reply::Reply;
+use crate::setup::Setup;
 use crate::unclosed::Unclosed;
 
 /// What a recording wants next.
@@ -31,9 +33,10 @@ pub enum Next<'a> {
 /// [abandoned](Recorder::abandon). Of clones the last one tells.
 ///
 /// ```
-/// use adr_tape::{Command, Geometry, Next, Recorder, Refusal, Reply};
+/// use adr_tape::{Command, Geometry, Next, Recorder, Refusal, Reply, Setup};
 ///
-/// let mut recorder = Recorder::open(Geometry::beginning(3_001, 1), 4, 2, None)?;
+/// let setup = Setup { depth: 4, blocks: 2, tail: 1 };
+/// let mut recorder = Recorder::open(Geometry::beginning(3_001, 1), setup, None)?;
 /// recorder.accept_block(&[1; adr_tape::BLOCK_LENGTH])?;
 /// recorder.accept_filemark()?;
 /// assert_eq!(recorder.accept_filemark(), Err(Refusal::WindowFull));
@@ -55,6 +58,8 @@ pub enum Next<'a> {
 #[must_use = "a recording is whole only when it was closed and a fetch answered done"]
 pub struct Recorder {
     session: ffi::Recording,
+    /// The number of the first element.
+    start: u32,
     window: Vec<u8>,
     frame: Vec<u8>,
     unclosed: Unclosed,
@@ -63,12 +68,10 @@ pub struct Recorder {
 impl Recorder {
     /// Opens a recording on the newest header, or on none.
     ///
-    /// `depth` is the frames that the drive buffers, 1 to 255; `blocks` the
-    /// blocks that may wait here, 1 to 64, and at least `depth`, or the drive's
-    /// buffer is never filled. The write pass is the header's + 1, or 1; a
-    /// recording reads back as accepted if no user frame on the cartridge bears
-    /// that pass, so always give the newest header. `include/adr.h` tells,
-    /// under WRITE PASSES, where that is not enough and what helps.
+    /// The write pass is the header's + 1, or 1; a recording reads back as
+    /// accepted if no user frame on the cartridge bears that pass, so always give
+    /// the newest header. `include/adr.h` tells, under WRITE PASSES, where that is
+    /// not enough and what helps.
     ///
     /// # Errors
     /// [`Refusal::Length`], [`Refusal::Geometry`], [`Refusal::Header`],
@@ -76,28 +79,31 @@ impl Recorder {
     #[must_use = "nothing is recorded by opening alone"]
     pub fn open(
         geometry: Geometry,
-        depth: u32,
-        blocks: u32,
+        setup: Setup,
         header: Option<&[u8]>,
     ) -> Result<Recorder, Refusal> {
+        let Setup {
+            depth,
+            blocks,
+            tail,
+        } = setup;
         let opened = match header {
-            Some(header) => ffi::record_open(geometry.into(), depth, blocks, header),
-            None => ffi::record_open_blank(geometry.into(), depth, blocks),
+            Some(header) => ffi::record_open(geometry.into(), depth, blocks, tail, header),
+            None => ffi::record_open_blank(geometry.into(), depth, blocks, tail),
         };
         Recorder::opened(opened, blocks)
     }
 
     /// Opens a recording at the end that `reader` found, behind what it
     /// delivered: a later reading gives that and then what is recorded here.
-    /// `depth` and `blocks` as for [`Recorder::open`]. The reader is left as it
-    /// is.
+    /// The reader is left as it is.
     ///
     /// The write pass stays what it was. What that needs and no call can see:
     ///
     /// * The reading was of this cartridge as it stands now, on its newest
     ///   header.
-    /// * The last recording on the cartridge came to [`Next::Done`], and was itself
-    ///   opened as it should be: a fresh one where no user frame bore its pass
+    /// * The last recording on the cartridge came to [`Next::Done`], on a full tape
+    ///   too, and was itself opened as it should be: a fresh one where no user frame bore its pass
     ///   (`include/adr.h`, WRITE PASSES), an added one where both of these held.
     ///   Else frames of the same pass may stand behind the end, and may be read as
     ///   if they were recorded here.
@@ -110,7 +116,9 @@ impl Recorder {
     ///
     /// ```
     /// # use std::collections::BTreeMap;
-    /// use adr_tape::{Address, Command, Geometry, Next, ReadNext, Reader, Recorder, Refusal, Reply};
+    /// use adr_tape::{
+    ///     Address, Command, Geometry, Next, ReadNext, Reader, Recorder, Refusal, Reply, Setup,
+    /// };
     ///
     /// # type Frames = BTreeMap<Address, Vec<u8>>;
     /// # fn finish(mut recorder: Recorder, frames: &mut Frames) -> Result<(), Refusal> {
@@ -125,17 +133,18 @@ impl Recorder {
     /// # }
     /// # let geometry = Geometry::beginning(3_001, 1);
     /// # let mut frames = Frames::new();
-    /// # let mut monday = Recorder::open(geometry, 4, 2, None)?;
+    /// let setup = Setup { depth: 4, blocks: 2, tail: 1 };
+    /// # let mut monday = Recorder::open(geometry, setup, None)?;
     /// # monday.accept_block(&[1; adr_tape::BLOCK_LENGTH])?;
     /// # finish(monday, &mut frames)?;
     /// // `frames` is what stands at each address of a tape with one block.
     /// let mut reader = Reader::open(geometry, &frames[&Address(5)])?;
-    /// assert_eq!(Recorder::open_at_end(&reader, 4, 2).err(), Some(Refusal::Phase));
+    /// assert_eq!(Recorder::open_at_end(&reader, setup).err(), Some(Refusal::Phase));
     /// while let ReadNext::Send(command) = reader.fetch()? {
     ///     let frame = command.address().and_then(|address| frames.get(&address));
     ///     let _ = reader.reply(Reply::good(), frame.expect("it was recorded"))?;
     /// }
-    /// let mut recorder = Recorder::open_at_end(&reader, 4, 2)?;
+    /// let mut recorder = Recorder::open_at_end(&reader, setup)?;
     /// recorder.accept_block(&[2; adr_tape::BLOCK_LENGTH])?;
     /// # finish(recorder, &mut frames)?;
     /// // When it is done, the new block stands where the end of data stood.
@@ -148,8 +157,13 @@ impl Recorder {
     /// [`Refusal::Phase`] if the reading is not at its end, [`Refusal::Capacity`],
     /// [`Refusal::Exhausted`] or [`Refusal::EndElsewhere`].
     #[must_use = "nothing is recorded by opening alone"]
-    pub fn open_at_end(reader: &Reader, depth: u32, blocks: u32) -> Result<Recorder, Refusal> {
-        let opened = ffi::record_open_at_end(reader.session(), depth, blocks);
+    pub fn open_at_end(reader: &Reader, setup: Setup) -> Result<Recorder, Refusal> {
+        let Setup {
+            depth,
+            blocks,
+            tail,
+        } = setup;
+        let opened = ffi::record_open_at_end(reader.session(), depth, blocks, tail);
         Recorder::opened(opened, blocks)
     }
 
@@ -159,6 +173,7 @@ impl Recorder {
         let room = usize::try_from(blocks).map_err(|_| Refusal::Capacity)?;
         Ok(Recorder {
             session: opened.session,
+            start: opened.session.elements.first,
             window: vec![0; room.saturating_mul(BLOCK_LENGTH)],
             frame: vec![0; FRAME_LENGTH],
             unclosed: Unclosed::default(),
@@ -185,6 +200,48 @@ impl Recorder {
     /// Asks for the recording to be ended; it is when a fetch answers
     /// [`Next::Done`].
     ///
+    /// After a [`Refusal::TapeFull`] that left the recording
+    /// [spent](Recorder::is_spent), close is accepted once more, whether it was
+    /// called before or not. The elements that are not known on tape are then given
+    /// up, and the end of data follows those that are. At [`Next::Done`] a reading
+    /// gives the elements [on tape](Recorder::on_tape), and perhaps the first of the
+    /// given-up ones too, if it still reads where its write failed. What belongs on
+    /// the next cartridge is all that is not on tape, so ask for
+    /// [that](Recorder::not_on_tape) before the close:
+    ///
+    /// ```
+    /// use adr_tape::{Command, Element, Geometry, Next, Recorder, Refusal, Reply, Setup};
+    ///
+    /// /// Sends good replies until there is nothing to do.
+    /// fn send_all(recorder: &mut Recorder) -> Result<(), Refusal> {
+    ///     while let Next::Send(..) = recorder.fetch()? {
+    ///         recorder.reply(Reply::good())?;
+    ///     }
+    ///     Ok(())
+    /// }
+    ///
+    /// let geometry = Geometry::beginning(3_001, 1);
+    /// let setup = Setup { depth: 4, blocks: 2, tail: 1 };
+    /// let mut recorder = Recorder::open(geometry, setup, None)?;
+    /// // The user frames up to 2,989. The tail is the one at 3,000.
+    /// for _ in 10..2_990 {
+    ///     recorder.accept_filemark()?;
+    ///     send_all(&mut recorder)?;
+    /// }
+    /// recorder.accept_filemark()?;
+    /// assert_eq!(send_all(&mut recorder), Err(Refusal::TapeFull));
+    /// assert!(recorder.is_spent());
+    /// assert_eq!(recorder.on_tape(), 2_980);
+    /// let rest: Vec<Element> = recorder.not_on_tape().map(Element::into_owned).collect();
+    /// assert_eq!(rest, [Element::Filemark]);
+    ///
+    /// recorder.close()?;
+    /// send_all(&mut recorder)?;
+    /// assert_eq!(recorder.fetch(), Ok(Next::Done));
+    /// assert_eq!(recorder.on_tape(), 2_980);
+    /// # Ok::<(), Refusal>(())
+    /// ```
+    ///
     /// # Errors
     /// [`Refusal::Phase`].
     pub fn close(&mut self) -> Result<(), Refusal> {
@@ -194,7 +251,8 @@ impl Recorder {
     /// Fetches the next command.
     ///
     /// # Errors
-    /// [`Refusal::Phase`] while a reply is awaited; [`Refusal::TapeFull`].
+    /// [`Refusal::Phase`] while a reply is awaited; [`Refusal::TapeFull`], after
+    /// which a [spent](Recorder::is_spent) recording can be closed.
     pub fn fetch(&mut self) -> Result<Next<'_>, Refusal> {
         let fetched = ffi::record_fetch(self.session, &self.window, &mut self.frame);
         self.session = fetched.session;
@@ -218,9 +276,56 @@ impl Recorder {
     ///
     /// # Errors
     /// [`Refusal::Phase`] if none is awaited; [`Refusal::Reply`],
-    /// [`Refusal::TapeFull`] or [`Refusal::NotFound`].
+    /// [`Refusal::NotFound`] or [`Refusal::TapeFull`], after which a
+    /// [spent](Recorder::is_spent) recording can be closed.
     pub fn reply(&mut self, reply: Reply) -> Result<(), Refusal> {
         self.keep(ffi::record_reply(self.session, reply.into()))
+    }
+
+    /// Whether an element found no room before the tail, and the recording has
+    /// not been closed since: [`Recorder::close`] is accepted, and no other call.
+    /// With a tail of 0 a recording is never spent, nor when it is the end of data
+    /// that found no room.
+    #[must_use]
+    pub fn is_spent(&self) -> bool {
+        self.session.spent == 1
+    }
+
+    /// How many of the elements accepted here are known to be on tape: the first
+    /// so many. What a reading delivered before [`Recorder::open_at_end`] does not
+    /// count.
+    #[must_use]
+    pub fn on_tape(&self) -> u64 {
+        let behind = self.session.elements.first.wrapping_sub(self.start);
+        // Then the end of data is on tape too, and has a number like theirs.
+        let ended = self.session.stage >= ffi::CLOSING_HEADERS;
+        u64::from(behind.saturating_sub(ended.into()))
+    }
+
+    /// The elements accepted here that are not known to be on tape, in order:
+    /// none once they were given up.
+    pub fn not_on_tape(&self) -> impl Iterator<Item = Element<'_>> {
+        let elements = &self.session.elements;
+        // While the end of data is due, no element is.
+        let waiting = if elements.eod == 1 {
+            0
+        } else {
+            elements.pending
+        };
+        let numbers = (0..waiting).map(|behind| elements.first.wrapping_add(behind.into()));
+        numbers.map(|number| self.element(number))
+    }
+
+    /// The element of this number, which is not known to be on tape.
+    fn element(&self, number: u32) -> Element<'_> {
+        let place = |places: usize| number as usize % places;
+        let marks = &self.session.elements.marks;
+        if marks.get(place(marks.len())) == Some(&1) {
+            return Element::Filemark;
+        }
+        let blocks = usize::from(self.session.setup.highest) + 1;
+        let mut window = self.window.chunks_exact(BLOCK_LENGTH);
+        Element::from(window.nth(place(blocks)).unwrap_or_default())
     }
 
     /// Gives the recording up, because the drive can't be reached or the

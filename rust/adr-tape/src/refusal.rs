@@ -7,8 +7,9 @@ use std::fmt;
 ///
 /// The first seven leave the session as it was: the call counts for nothing.
 /// The others end it: whatever is called then is refused with
-/// [`Refusal::Phase`]. A refused opening gives no session; the last refusal
-/// comes from an opening alone.
+/// [`Refusal::Phase`], but for one close after a [`Refusal::TapeFull`] that left
+/// a recording [spent](crate::Recorder::is_spent). A refused opening gives no
+/// session; the last refusal comes from an opening alone.
 #[derive(Clone, Copy, Debug, PartialEq, Eq, Hash)]
 pub enum Refusal {
     /// 1: a buffer has the wrong length.
@@ -17,8 +18,8 @@ pub enum Refusal {
     Geometry,
     /// 3: no valid header, or two of equal update counts and unlike data.
     Header,
-    /// 4: the drive's buffer is not of 1 to 255 frames, or the window not of
-    /// 1 to 64 blocks.
+    /// 4: the drive's buffer is not of 1 to 255 frames, the window not of 1 to
+    /// 64 blocks, or the tail of more than 255 frames.
     Capacity,
     /// 5: the cartridge's write passes or update counts are used up.
     Exhausted,
@@ -28,7 +29,8 @@ pub enum Refusal {
     Phase,
     /// 8: the reply is unlawful for its command.
     Reply,
-    /// 9: the tape is full.
+    /// 9: the tape is full. [`Recorder::close`](crate::Recorder::close) tells what
+    /// can be done.
     TapeFull,
     /// 10: an element is missing.
     Missing,
@@ -83,7 +85,8 @@ impl Refusal {
     }
 
     /// Whether this refusal ends its session. [`Refusal::EndElsewhere`] counts
-    /// among these: what it is given by is an opening, and no session goes on.
+    /// among these: what it is given by is an opening, and no session goes on. So
+    /// does [`Refusal::TapeFull`], though a spent recording can be closed.
     #[must_use]
     pub const fn ends_session(self) -> bool {
         self.number() >= 8

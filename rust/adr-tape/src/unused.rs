@@ -3,14 +3,16 @@
 //! ```
 //! #![deny(unused_must_use)]
 //! let geometry = adr_tape::Geometry::beginning(3_001, 1);
-//! let _recorder = adr_tape::Recorder::open(geometry, 4, 2, None).unwrap();
+//! let setup = adr_tape::Setup { depth: 4, blocks: 2, tail: 1 };
+//! let _recorder = adr_tape::Recorder::open(geometry, setup, None).unwrap();
 //! let _reader = adr_tape::Reader::open(geometry, &[]).map(|_reader| ());
 //! ```
 //!
 //! ```compile_fail
 //! #![deny(unused_must_use)]
 //! let geometry = adr_tape::Geometry::beginning(3_001, 1);
-//! adr_tape::Recorder::open(geometry, 4, 2, None).unwrap();
+//! let setup = adr_tape::Setup { depth: 4, blocks: 2, tail: 1 };
+//! adr_tape::Recorder::open(geometry, setup, None).unwrap();
 //! ```
 //!
 //! ```compile_fail

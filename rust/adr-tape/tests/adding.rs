@@ -5,13 +5,14 @@
 mod compared;
 
 use adr_model::check::layer::{ReadingCalls, RecordingCalls};
+use adr_model::fault::PLANTED_IN_ENDING;
 use adr_model::frame::{fill_header, HeaderFields};
 use adr_model::geometry::FRAME_LENGTH;
 use adr_model::random::Random;
-use adr_model::{Address, Geometry, Outcome};
+use adr_model::{Address, Fault, Geometry, Outcome};
 use adr_tape::ffi;
-use compared::any_calls::make_any_calls;
-use compared::any_reads::make_any_reads;
+use compared::any_calls::{any_tail, make_any_calls};
+use compared::any_reads::{any_read_call, make_any_reads};
 use compared::sessions::model_reading;
 use compared::{right, ComparedReading, ComparedRecording};
 
@@ -19,14 +20,14 @@ const ROUNDS: u32 = if cfg!(debug_assertions) { 600 } else { 3_000 };
 
 /// Counts at the limit and elsewhere.
 const COUNTS: [u32; 5] = [0, 3, 4_294_967_293, 4_294_967_294, u32::MAX];
-/// D and W at and beyond their limits.
+/// D, W and T at and beyond their limits.
 const SIZES: [u32; 9] = [0, 1, 2, 64, 65, 255, 256, 257, u32::MAX];
 
 fn pick<T: Copy + Default>(random: &mut Random, several: &[T]) -> T {
     random.one_of(several).copied().unwrap_or_default()
 }
 
-/// D or W, most often one that fits.
+/// D, W or T, most often one that fits.
 fn any_size(random: &mut Random) -> u32 {
     if random.chance(700) {
         random.between(1, 64)
@@ -49,9 +50,9 @@ fn open_at_end(
     reading: &ComparedReading,
     seen: &mut [u32; 14],
 ) -> (ComparedRecording, u32) {
-    let (depth, blocks) = (any_size(random), any_size(random));
+    let (depth, blocks, tail) = (any_size(random), any_size(random), any_size(random));
     let (session, outcome) =
-        ComparedRecording::open_at_end(reading.layer, &reading.model, depth, blocks);
+        ComparedRecording::open_at_end(reading.layer, &reading.model, depth, blocks, tail);
     right(session.wrong(), seed);
     seen[number_of(outcome)] += 1;
     (session, blocks)
@@ -118,6 +119,31 @@ fn readings_and_openings() {
     all_were_seen(&seen);
 }
 
+/// Whether a reading on any header differs from a model with this fault.
+fn differs(seed: u32, fault: Fault) -> bool {
+    let mut random = Random::new(u64::from(seed) + 666);
+    let geometry = Geometry::beginning(3_001, 1);
+    let header = any_header(&mut random);
+    let (mut reading, _) = ComparedReading::open(&geometry, header.as_slice());
+    reading.plant(fault);
+    for _ in 0..40 {
+        any_read_call(&mut random, &mut reading, 500);
+    }
+    reading.wrong().is_some()
+}
+
+/// Where a reading ends is compared on frames that no recording leaves.
+#[test]
+fn faults_in_ending_are_found() {
+    for fault in PLANTED_IN_ENDING {
+        let mut seeds = 0..ROUNDS * 3;
+        let found = seeds.find(|seed| differs(*seed, fault));
+        println!("{fault:?}: {found:?}");
+        assert!(found.is_some(), "{fault:?} was not found");
+        assert!(!differs(found.unwrap_or(0), Fault::None));
+    }
+}
+
 /// Numbers that mostly stand for a reading at its end, which need not be one
 /// that calls lead to.
 fn any_numbers(random: &mut Random) -> ffi::Reading {
@@ -174,9 +200,9 @@ fn readings_that_no_call_returned() {
     for seed in 0..ROUNDS * 10 {
         let mut random = Random::new(u64::from(seed) + 777);
         let layer = any_numbers(&mut random);
-        let (depth, blocks) = (any_size(&mut random), any_size(&mut random));
+        let [depth, blocks, tail] = [(); 3].map(|()| any_size(&mut random));
         let model = model_reading(&layer);
-        let (session, outcome) = ComparedRecording::open_at_end(layer, &model, depth, blocks);
+        let (session, outcome) = ComparedRecording::open_at_end(layer, &model, depth, blocks, tail);
         assert_eq!(session.wrong(), None, "seed {seed}: {layer:?}");
         seen[number_of(outcome)] += 1;
     }
@@ -218,20 +244,24 @@ fn read_to(end: u32, last: u32, expected: u32) -> ffi::Reading {
 fn every_size() {
     let reading = read_to(3_000, 3_000, 9);
     let model = model_reading(&reading);
-    let fits = |depth: u32, blocks: u32| {
-        let (session, outcome) = ComparedRecording::open_at_end(reading, &model, depth, blocks);
+    let fits = |depth: u32, blocks: u32, tail: u32| {
+        let (session, outcome) =
+            ComparedRecording::open_at_end(reading, &model, depth, blocks, tail);
         right(session.wrong(), depth);
-        let fits = (1..=255).contains(&depth) && (1..=64).contains(&blocks);
+        let fits = (1..=255).contains(&depth) && (1..=64).contains(&blocks) && tail <= 255;
         let expected = if fits { 0 } else { 4 };
-        assert_eq!(number_of(outcome), expected, "{depth} {blocks}");
+        assert_eq!(number_of(outcome), expected, "{depth} {blocks} {tail}");
     };
     for depth in (0..=300).chain([65_537, u32::MAX]) {
         for blocks in [0, 1, 32, 64, 65, 256, 257, 320] {
-            fits(depth, blocks);
+            fits(depth, blocks, 0);
         }
     }
     for blocks in (0..=600).chain([65_537, u32::MAX]) {
-        fits(255, blocks);
+        fits(255, blocks, 255);
+    }
+    for tail in (0..=600).chain([65_537, u32::MAX]) {
+        fits(255, 64, tail);
     }
 }
 
@@ -252,7 +282,9 @@ fn any_added_recording() {
         let reading = read_to(end, last, expected);
         let depth = random.between(1, 6);
         let model = model_reading(&reading);
-        let (mut session, outcome) = ComparedRecording::open_at_end(reading, &model, depth, 3);
+        let tail = any_tail(&mut random);
+        let (mut session, outcome) =
+            ComparedRecording::open_at_end(reading, &model, depth, 3, tail);
         assert_eq!(outcome, Outcome::Accepted);
         let calls = random.below(1_000);
         let end = make_any_calls(seed, &mut random, &mut session, 3, calls);

@@ -15,15 +15,18 @@ use adr_model::hostility::Hostility;
 use adr_model::random::Random;
 use adr_model::tape::Tape;
 use adr_tape::{
-    append_all, newest_header, read_with, record_all, AppendError, Appended, Drive, Element,
-    Geometry, ReadError, Reader, RecordError, Recorder, Refusal, BLOCK_LENGTH,
+    append_all, read_with, record_all, AppendError, Appended, Drive, Element, Geometry, ReadError,
+    Reader, RecordError, Recorder, Refusal, Setup, BLOCK_LENGTH,
 };
-use simulated::{elements, read_back, sent, Simulated};
+use simulated::{elements, sent, Simulated};
 
 const GEOMETRY: Geometry = Geometry::beginning(3_020, 1);
 const LAST: adr_model::Address = adr_model::Address(3_019);
-const DEPTH: u32 = 6;
-const WINDOW: u32 = 8;
+const SETUP: Setup = Setup {
+    depth: 6,
+    blocks: 8,
+    tail: 0,
+};
 
 const CHAINS: u64 = if cfg!(debug_assertions) { 20 } else { 200 };
 /// Recordings of a chain.
@@ -33,32 +36,29 @@ type Appending = Result<Appended, AppendError<Infallible, Infallible>>;
 
 /// A drive without a cartridge's history.
 fn drive(hostility: Hostility, seed: u64) -> Simulated {
-    let depth = usize::try_from(DEPTH).expect("a depth");
+    let depth = usize::try_from(SETUP.depth).expect("a depth");
     Simulated(drive::Drive::new(Tape::default(), depth, hostility, seed))
 }
 
 fn newest(drive: &mut Simulated) -> Vec<u8> {
-    let header = newest_header(drive, GEOMETRY).ok().flatten();
-    header.expect("a header")
+    simulated::newest(drive, GEOMETRY)
 }
 
 fn record(drive: &mut Simulated, elements: &[Element<'static>]) {
     let source = sent(elements);
-    let recorded = record_all(drive, GEOMETRY, DEPTH, WINDOW, None, source, |_| {});
+    let recorded = record_all(drive, GEOMETRY, SETUP, None, source, |_| {});
     assert!(recorded.is_ok());
 }
 
 fn append(drive: &mut Simulated, elements: &[Element<'static>]) -> Appending {
     let header = newest(drive);
     let source = sent(elements);
-    append_all(drive, GEOMETRY, DEPTH, WINDOW, &header, source, |_| {})
+    append_all(drive, GEOMETRY, SETUP, &header, source, |_| {})
 }
 
 /// What is read on the newest header.
 fn read(drive: &mut Simulated) -> Vec<Element<'static>> {
-    let header = newest(drive);
-    let (delivered, _) = read_back(drive, GEOMETRY, &header).expect("it can be read");
-    delivered
+    simulated::read_newest(drive, GEOMETRY)
 }
 
 /// Pass, update count, EOD address and old end of the newest header.
@@ -137,8 +137,7 @@ fn progress() {
     let appended = append_all(
         &mut drive,
         GEOMETRY,
-        DEPTH,
-        WINDOW,
+        SETUP,
         &header,
         sent(&more),
         |so_far| {
@@ -164,26 +163,31 @@ fn readings_that_are_not_at_their_end() {
     let mut drive = drive(Hostility::NONE, 1);
     record(&mut drive, &[Element::from(block(1)), Element::Filemark]);
     let header = newest(&mut drive);
-    let open = |reader: &Reader, depth, blocks| Recorder::open_at_end(reader, depth, blocks).err();
+    let open = |reader: &Reader, setup| Recorder::open_at_end(reader, setup).err();
+    let sizes = |depth, blocks| Setup {
+        depth,
+        blocks,
+        tail: 0,
+    };
     let mut reader = Reader::open(GEOMETRY, &header).expect("it opens");
     // The phase is looked at before the sizes.
-    assert_eq!(open(&reader, 0, 65), Some(Refusal::Phase));
+    assert_eq!(open(&reader, sizes(0, 65)), Some(Refusal::Phase));
     assert!(reader.fetch().is_ok());
-    assert_eq!(open(&reader, DEPTH, WINDOW), Some(Refusal::Phase));
+    assert_eq!(open(&reader, SETUP), Some(Refusal::Phase));
     // A sink that has enough leaves the reading where it is.
     let mut reader = Reader::open(GEOMETRY, &header).expect("it opens");
     let enough = |_: Element<'_>| Ok::<_, Infallible>(ControlFlow::Break(()));
     assert!(read_with(&mut drive, &mut reader, enough, |_| {}).is_ok());
-    assert_eq!(open(&reader, DEPTH, WINDOW), Some(Refusal::Phase));
+    assert_eq!(open(&reader, SETUP), Some(Refusal::Phase));
     // Read on to the end, it is opened as often as one likes.
     let all = |_: Element<'_>| Ok::<_, Infallible>(ControlFlow::Continue(()));
     assert!(read_with(&mut drive, &mut reader, all, |_| {}).is_ok());
     let at_end = reader.clone();
-    assert_eq!(open(&reader, DEPTH, WINDOW), None);
-    assert_eq!(open(&reader, 255, 64), None);
+    assert_eq!(open(&reader, SETUP), None);
+    assert_eq!(open(&reader, sizes(255, 64)), None);
     assert_eq!(reader, at_end);
     for (depth, blocks) in [(0, 1), (256, 1), (1, 0), (1, 65), (u32::MAX, u32::MAX)] {
-        assert_eq!(open(&reader, depth, blocks), Some(Refusal::Capacity));
+        assert_eq!(open(&reader, sizes(depth, blocks)), Some(Refusal::Capacity));
     }
 }
 
@@ -197,7 +201,8 @@ fn additions_cut_short() {
     // The second is accepted when the first is on tape.
     let accepted = [2, 3].map(|number| Ok(Element::from(block(number))));
     let source = accepted.into_iter().chain([Err("no more")]);
-    let cut = append_all(&mut drive, GEOMETRY, DEPTH, 1, &header, source, |_| {});
+    let narrow = Setup { blocks: 1, ..SETUP };
+    let cut = append_all(&mut drive, GEOMETRY, narrow, &header, source, |_| {});
     assert_eq!(
         cut,
         Err(AppendError::Record(RecordError::Source("no more")))
@@ -214,7 +219,7 @@ fn additions_cut_short() {
     let mut reader = Reader::open(GEOMETRY, &newest(&mut drive)).expect("it opens");
     let all = |_: Element<'_>| Ok::<_, Infallible>(ControlFlow::Continue(()));
     assert!(read_with(&mut drive, &mut reader, all, |_| {}).is_ok());
-    let recorder = Recorder::open_at_end(&reader, DEPTH, WINDOW).expect("it opens");
+    let recorder = Recorder::open_at_end(&reader, SETUP).expect("it opens");
     cut_before_elements(&mut drive, recorder);
     assert_eq!(told(&mut drive), (1, 2, 0, 12));
     assert!(read(&mut drive) == before);
@@ -235,7 +240,11 @@ fn blocks_of_the_wrong_length() {
         record(&mut drive, &before);
         let mut more = vec![Element::from(block(2)); good];
         more.push(wrong.clone());
-        assert_eq!(append(&mut drive, &more), Err(refused), "{good} before it");
+        assert_eq!(
+            append(&mut drive, &more),
+            Err(refused.clone()),
+            "{good} before it"
+        );
         assert_eq!(told(&mut drive), then, "{good} before it");
     }
 }

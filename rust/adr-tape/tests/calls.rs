@@ -11,7 +11,7 @@ use adr_model::random::Random;
 use adr_model::reply::{GOOD, WRITE_ERROR};
 use adr_model::{header, Address, Geometry, Outcome, Reply, Sense};
 use adr_tape::ffi;
-use compared::any_calls::{make_any_calls, Lent};
+use compared::any_calls::{any_tail, make_any_calls, Lent};
 use compared::any_reads::make_any_reads;
 use compared::{geometry_of, right, Compared, ComparedReading, ComparedRecording};
 
@@ -73,11 +73,11 @@ fn geometries_too_wide() {
         let geometry = ffi::Geometry { segtrk, trks, load };
         assert_eq!(ffi::frames(geometry), 0);
         assert_eq!(ffi::last(geometry).number, 2);
-        assert_eq!(ffi::record_open_blank(geometry, 1, 1).number, 2);
+        assert_eq!(ffi::record_open_blank(geometry, 1, 1, 0).number, 2);
         let frame = valid_header(1, 1, 3_000);
         let header = frame.as_slice();
-        assert_eq!(ffi::record_open(geometry, 1, 1, header).number, 2);
-        assert_eq!(ffi::record_open(geometry, 1, 1, &[]).number, 1);
+        assert_eq!(ffi::record_open(geometry, 1, 1, 0, header).number, 2);
+        assert_eq!(ffi::record_open(geometry, 1, 1, 0, &[]).number, 1);
         assert_eq!(ffi::read_open(geometry, header).number, 2);
         assert_eq!(ffi::choose(geometry, header, header).number, 2);
     }
@@ -207,9 +207,11 @@ fn openings() {
         };
         let depth = random.one_of(&sizes).copied().unwrap_or(1);
         let window_blocks = random.one_of(&sizes).copied().unwrap_or(1);
+        let tail = random.one_of(&sizes).copied().unwrap_or(1);
         let newest = any_header(&mut random, &geometry);
         let newest = Some(newest.as_slice()).filter(|_| random.chance(800));
-        let (session, outcome) = ComparedRecording::open(&geometry, depth, window_blocks, newest);
+        let (session, outcome) =
+            ComparedRecording::open(&geometry, depth, window_blocks, tail, newest);
         right(session.wrong(), seed);
         let number = match outcome {
             Outcome::Accepted => 0,
@@ -235,15 +237,21 @@ fn every_size() {
     let geometry = Geometry::beginning(3_001, 1);
     for depth in 0..=300 {
         for window_blocks in [0, 1, 32, 64, 65, 256, 257, 320] {
-            let (session, outcome) = ComparedRecording::open(&geometry, depth, window_blocks, None);
+            let (session, outcome) =
+                ComparedRecording::open(&geometry, depth, window_blocks, 0, None);
             right(session.wrong(), depth);
             let fits = (1..=255).contains(&depth) && (1..=64).contains(&window_blocks);
             assert_eq!(outcome == Outcome::Accepted, fits);
         }
     }
     for window_blocks in 0..=600 {
-        let (session, _) = ComparedRecording::open(&geometry, 255, window_blocks, None);
+        let (session, _) = ComparedRecording::open(&geometry, 255, window_blocks, 0, None);
         right(session.wrong(), window_blocks);
+    }
+    for tail in (0..=600).chain([65_536, 65_537, u32::MAX]) {
+        let (session, outcome) = ComparedRecording::open(&geometry, 255, 64, tail, None);
+        right(session.wrong(), tail);
+        assert_eq!(outcome == Outcome::Accepted, tail <= 255);
     }
 }
 
@@ -259,7 +267,8 @@ fn any_recording() {
             _ => Geometry::centre(100, 3_010),
         };
         let depth = random.between(1, 6);
-        let (mut session, _) = ComparedRecording::open(&geometry, depth, 3, None);
+        let tail = any_tail(&mut random);
+        let (mut session, _) = ComparedRecording::open(&geometry, depth, 3, tail, None);
         let calls = random.below(1_000);
         let end = make_any_calls(seed, &mut random, &mut session, 3, calls);
         ends[usize::from(end)] += 1;
@@ -296,7 +305,7 @@ fn skips_too_wide() {
     let window = [0; BLOCK_LENGTH];
     let fetch = |session| ffi::record_fetch(session, &window, &mut [0; FRAME_LENGTH]).session;
     let good = |session| ffi::record_reply(session, ffi::Reply::default()).session;
-    let opened = ffi::record_open_blank(geometry, 2, 1).session;
+    let opened = ffi::record_open_blank(geometry, 2, 1, 0).session;
     let located = fetch(opened);
     let second_write = fetch(good(fetch(good(located))));
     assert_eq!(second_write.exchange.command.code, ffi::WRITE);
@@ -334,7 +343,7 @@ fn skips_too_wide() {
 #[test]
 fn every_triple() {
     let geometry = Geometry::beginning(3_001, 1);
-    let (mut session, _) = ComparedRecording::open(&geometry, 2, 2, None);
+    let (mut session, _) = ComparedRecording::open(&geometry, 2, 2, 0, None);
     let mut lent = Lent::new(2);
     lent.accept(&mut session, block(1), 0);
     lent.accept(&mut session, block(2), 0);

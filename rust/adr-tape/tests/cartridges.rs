@@ -4,14 +4,16 @@
 mod compared;
 
 use adr_model::check::shrink::{run_and_shrink_on, shrink_on};
-use adr_model::check::{run_on, Call, Case, Tally};
-use adr_model::fault::PLANTED;
+use adr_model::check::{run_on, Call, Case, Setup, Tally};
+use adr_model::fault::{PLANTED, PLANTED_IN_TAIL};
 use adr_model::hostility::Hostility;
 use adr_model::{Fault, Geometry};
 use compared::Compared;
 
 /// In an unoptimised build only a few are run.
 const CARTRIDGES: u64 = if cfg!(debug_assertions) { 200 } else { 20_000 };
+/// Those besides on which a tail is kept.
+const WITH_TAIL: u64 = CARTRIDGES / 20;
 /// The seeds within which each planted fault must be found.
 const SEEDS: u64 = 100;
 
@@ -45,6 +47,18 @@ fn cartridges_of_odd_seeds() {
     read_back_as_recorded((1..CARTRIDGES).step_by(2));
 }
 
+/// Tapes that have no room for all, and are closed where they are full.
+#[test]
+fn full_cartridges() {
+    let mut tally = Tally::default();
+    for seed in 0..WITH_TAIL {
+        tally.add(&run(&Case::with_tail(seed, Fault::None)));
+    }
+    println!("{tally:?}");
+    assert!(tally.done > WITH_TAIL / 2);
+    assert!(tally.delivered > WITH_TAIL);
+}
+
 /// A case in which more elements are accepted than window and drive hold.
 fn filling_case(depth: u32, window_blocks: u32, elements: u16) -> Case {
     let mut calls = vec![Call::Exchange; 30];
@@ -64,7 +78,8 @@ fn filling_case(depth: u32, window_blocks: u32, elements: u16) -> Case {
         seed: u64::from(depth) * 1_000 + u64::from(window_blocks),
         geometry: Geometry::beginning(3_001, 1),
         depth,
-        window_blocks,
+        setup: Setup::of(window_blocks, 0),
+        gives_up: true,
         stale: 3,
         headers: 3,
         hostility: Hostility {
@@ -114,10 +129,16 @@ fn the_smallest_cartridge_is_filled() {
 /// A fault planted in the model makes it differ from the layer.
 #[test]
 fn planted_faults_are_found() {
+    let is_found = |case: fn(u64, Fault) -> Case, fault| {
+        let mut cases = (0..SEEDS).map(|seed| case(seed, fault));
+        let found = cases.any(|case| run_on::<Compared>(&case).is_err());
+        assert!(found, "{fault:?} was not found");
+    };
     for fault in PLANTED {
-        let found =
-            (0..SEEDS).find(|seed| run_on::<Compared>(&Case::of_seed(*seed, fault)).is_err());
-        assert!(found.is_some(), "{fault:?} was not found");
+        is_found(Case::of_seed, fault);
+    }
+    for fault in PLANTED_IN_TAIL {
+        is_found(Case::with_tail, fault);
     }
 }
 

@@ -12,6 +12,8 @@ use compared::Compared;
 
 /// In an unoptimised build only a few are run.
 const CHAINS: u64 = if cfg!(debug_assertions) { 80 } else { 1_000 };
+/// From this seed on few chains on full tapes show every way to end.
+const FIRST_FULL: u64 = 750;
 /// The seeds within which each planted fault must be found.
 const SEEDS: u64 = 50;
 
@@ -42,6 +44,21 @@ fn chains_of_even_seeds() {
 #[test]
 fn chains_of_odd_seeds() {
     read_back_as_accepted((1..CHAINS).step_by(2));
+}
+
+/// Recordings that are given up where the tape is full, and added to.
+#[test]
+fn full_chains() {
+    let mut tally = Tally::default();
+    for seed in FIRST_FULL..FIRST_FULL + CHAINS / 8 {
+        match run_and_shrink_chain_on::<Compared>(&Chain::with_tail(seed, Fault::None)) {
+            Ok(more) => tally.add(&more),
+            Err(wrong) => panic!("{wrong}"),
+        }
+    }
+    println!("{tally:?}");
+    let few = cfg!(debug_assertions);
+    assert!(few || tally.endings.0.iter().all(|count| *count > 0));
 }
 
 /// Added to another cartridge than the one read, the layer still writes

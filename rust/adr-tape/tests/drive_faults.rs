@@ -9,7 +9,9 @@ use adr_model::drive;
 use adr_model::hostility::Hostility;
 use adr_model::random::Random;
 use adr_model::tape::Tape;
-use adr_tape::{newest_header, record_all, Address, Drive, Geometry, Reply, Sense, FRAME_LENGTH};
+use adr_tape::{
+    newest_header, record_all, Address, Drive, Geometry, Reply, Sense, Setup, FRAME_LENGTH,
+};
 use simulated::{elements, read_back, sent, Simulated};
 
 const GEOMETRY: Geometry = Geometry::beginning(3_020, 1);
@@ -117,7 +119,12 @@ fn comes_back(seed: u64, planted: Planted) -> bool {
         before: vec![0; FRAME_LENGTH],
     };
     let elements = elements(&mut Random::new(seed ^ 0xE1E));
-    let recorded = record_all(&mut drive, GEOMETRY, 6, 8, None, sent(&elements), |_| {});
+    let setup = Setup {
+        depth: 6,
+        blocks: 8,
+        tail: 0,
+    };
+    let recorded = record_all(&mut drive, GEOMETRY, setup, None, sent(&elements), |_| {});
     let header = newest_header(&mut drive, GEOMETRY).ok().flatten();
     let (Ok(_), Some(header)) = (recorded, header) else {
         return false;

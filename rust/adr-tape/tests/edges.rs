@@ -1,69 +1,30 @@
 //! The scope's edges that have no proof of their own, through the wrapper.
 
+mod by_hand;
+
 use adr_tape::{
-    newer, Address, Command, Delivery, Geometry, Next, ReadNext, Reader, Recorder, Refusal, Reply,
-    Sense, BLOCK_LENGTH, FRAME_LENGTH,
+    newer, Command, Geometry, Next, ReadNext, Reader, Recorder, Refusal, Reply, Sense, Setup,
+    BLOCK_LENGTH, FRAME_LENGTH,
 };
+use by_hand::{error, fetched, locate, number_at, read_with, step, write, write_headers};
 
 const GEOMETRY: Geometry = Geometry::beginning(1_000, 12);
 
-fn locate(address: u32) -> Command {
-    Command::Locate(Address(address))
-}
-
-fn write(address: u32) -> Command {
-    Command::Write(Address(address))
-}
-
-fn error(position: u32, skip: u32) -> Reply {
-    Reply::write_error(Address(position), skip)
-}
-
-/// Fetches this command and gives the frame of a WRITE.
-#[track_caller]
-fn fetched(recorder: &mut Recorder, expected: Command) -> Option<Vec<u8>> {
-    match recorder.fetch() {
-        Ok(Next::Send(command, frame)) => {
-            assert_eq!(command, expected);
-            assert_eq!(frame.is_some(), matches!(command, Command::Write(_)));
-            frame.map(<[u8]>::to_vec)
-        }
-        next => panic!("{next:?} where {expected} was due"),
+/// These sizes, with nothing kept for the end.
+fn setup(depth: u32, blocks: u32) -> Setup {
+    Setup {
+        depth,
+        blocks,
+        tail: 0,
     }
-}
-
-/// Fetches this and brings that; the frame of a WRITE.
-#[track_caller]
-fn step(recorder: &mut Recorder, expected: Command, reply: Reply) -> Vec<u8> {
-    let frame = fetched(recorder, expected);
-    assert_eq!(recorder.reply(reply), Ok(()));
-    frame.unwrap_or_default()
-}
-
-/// Writes ten good copies and gives the last.
-fn write_headers(recorder: &mut Recorder) -> Vec<u8> {
-    let mut header = Vec::new();
-    for group in [5, 2_990] {
-        step(recorder, locate(group), Reply::good());
-        for copy in 0..5 {
-            header = step(recorder, write(group + copy), Reply::good());
-        }
-        step(recorder, Command::ReadPosition, Reply::buffered(0));
-    }
-    header
 }
 
 /// A recorder with its opening headers written and 10 located.
 fn at_elements(depth: u32, window: u32) -> Recorder {
-    let mut recorder = Recorder::open(GEOMETRY, depth, window, None).expect("opens");
+    let mut recorder = Recorder::open(GEOMETRY, setup(depth, window), None).expect("opens");
     write_headers(&mut recorder);
     step(&mut recorder, locate(10), Reply::good());
     recorder
-}
-
-fn number_at(frame: &[u8], at: usize) -> u32 {
-    let bytes = frame[BLOCK_LENGTH + at..][..4].try_into();
-    u32::from_be_bytes(bytes.expect("four bytes"))
 }
 
 /// A closed recording of a block, a filemark and a block, with an error on
@@ -119,28 +80,6 @@ fn read(header: &[u8], frames: &[(u32, Vec<u8>)]) -> Result<Vec<String>, Refusal
     read_with(&mut Reader::open(GEOMETRY, header)?, frames)
 }
 
-/// Reads on with a reader, which is then at its end or refused.
-fn read_with(reader: &mut Reader, frames: &[(u32, Vec<u8>)]) -> Result<Vec<String>, Refusal> {
-    let blank = vec![0; FRAME_LENGTH];
-    let mut delivered = Vec::new();
-    while let ReadNext::Send(command) = reader.fetch()? {
-        let (reply, frame) = match command {
-            Command::Read(Address(address)) => match frames.iter().find(|(at, _)| *at == address) {
-                Some((_, frame)) => (Reply::good(), frame),
-                None => (Reply::sense(Sense::UNREADABLE), &blank),
-            },
-            _ => (Reply::good(), &blank),
-        };
-        match reader.reply(reply, frame)? {
-            Delivery::Nothing => {}
-            Delivery::Block(block) => delivered.push(format!("block of {}", block[0])),
-            Delivery::Filemark => delivered.push("filemark".into()),
-            Delivery::End => delivered.push("end".into()),
-        }
-    }
-    Ok(delivered)
-}
-
 #[test]
 fn read_back() {
     let (frames, header) = recorded();
@@ -154,7 +93,7 @@ fn read_back() {
 fn refusals_of_openings() {
     let (_, header) = recorded();
     let open = |geometry, depth, window, header| {
-        Recorder::open(geometry, depth, window, header).map(|_| ())
+        Recorder::open(geometry, setup(depth, window), header).map(|_| ())
     };
     let small = Geometry::beginning(3_000, 1);
     assert_eq!(open(GEOMETRY, 1, 1, Some(&header)), Ok(()));
@@ -223,7 +162,7 @@ fn refusals_of_a_recording() {
 /// No copy of ten can be written.
 #[test]
 fn no_header_written() {
-    let mut recorder = Recorder::open(GEOMETRY, 1, 1, None).expect("opens");
+    let mut recorder = Recorder::open(GEOMETRY, setup(1, 1), None).expect("opens");
     for group in [5, 2_990] {
         for copy in 0..5 {
             step(&mut recorder, locate(group + copy), Reply::good());
@@ -240,7 +179,7 @@ fn no_header_written() {
 #[test]
 fn full_at_last() {
     let geometry = Geometry::beginning(3_001, 1);
-    let mut recorder = Recorder::open(geometry, 5, 1, None).expect("opens");
+    let mut recorder = Recorder::open(geometry, setup(5, 1), None).expect("opens");
     write_headers(&mut recorder);
     step(&mut recorder, locate(10), Reply::good());
     assert_eq!(recorder.accept_filemark(), Ok(()));
@@ -312,7 +251,7 @@ struct Added {
 fn added() -> Added {
     let (mut frames, header) = recorded();
     let reader = read_to_end(&header, &frames);
-    let mut recorder = Recorder::open_at_end(&reader, 8, 2).expect("opens");
+    let mut recorder = Recorder::open_at_end(&reader, setup(8, 2)).expect("opens");
     assert_eq!(recorder.accept_block(&[3; BLOCK_LENGTH]), Ok(()));
     let opening = write_headers(&mut recorder);
     step(&mut recorder, locate(16), Reply::good());
@@ -371,8 +310,9 @@ fn refusals_of_openings_at_the_end() {
         opening,
         closing,
     } = added();
-    let open =
-        |reader: &Reader, depth, blocks| Recorder::open_at_end(reader, depth, blocks).map(|_| ());
+    let open = |reader: &Reader, depth, blocks| {
+        Recorder::open_at_end(reader, setup(depth, blocks)).map(|_| ())
+    };
     let unread = Reader::open(GEOMETRY, &closing).expect("opens");
     assert_eq!(open(&unread, 0, 0), Err(Refusal::Phase));
     let reader = read_to_end(&closing, &frames);

@@ -3,7 +3,7 @@
 use std::error::Error;
 use std::fmt;
 
-use adr_tape::{AppendError, HeaderError, ReadError, RecordError, Refusal};
+use adr_tape::{AppendError, Full, HeaderError, ReadError, RecordError, Refusal};
 
 /// An error of the host's own.
 #[derive(Clone, Copy, Debug, PartialEq)]
@@ -37,6 +37,7 @@ fn a_recording_fails() {
     comes_from(&Failed::Refused(Refusal::TapeFull), &Refusal::TapeFull);
     comes_from(&Failed::Drive(Cable), &Cable);
     comes_from(&Failed::Source(fmt::Error), &fmt::Error);
+    comes_from(&Failed::Full(Full::default()), &Refusal::TapeFull);
 }
 
 #[test]
@@ -53,5 +54,5 @@ fn an_addition_fails() {
     let read = ReadError::Drive(Cable);
     comes_from(&Failed::Read(read), &read);
     let record = RecordError::Source(fmt::Error);
-    comes_from(&Failed::Record(record), &record);
+    comes_from(&Failed::Record(record.clone()), &record);
 }

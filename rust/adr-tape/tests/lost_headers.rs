@@ -10,11 +10,16 @@ use std::ops::ControlFlow;
 
 use adr_tape::{
     append_all, header_addresses, newest_header, read_all, record_all, Address, AppendError,
-    Appended, Drive, Element, Geometry, ReadError, RecordError, Refusal, Reply, Sense, Summary,
-    BLOCK_LENGTH,
+    Appended, Drive, Element, Geometry, ReadError, RecordError, Refusal, Reply, Sense, Setup,
+    Summary, BLOCK_LENGTH,
 };
 
 const GEOMETRY: Geometry = Geometry::beginning(3_001, 1);
+const SETUP: Setup = Setup {
+    depth: 1,
+    blocks: 2,
+    tail: 0,
+};
 const SKIP: u32 = 10;
 
 /// A bad spot.
@@ -105,8 +110,7 @@ impl Memory {
         record_all(
             self,
             GEOMETRY,
-            1,
-            2,
+            SETUP,
             header.as_deref(),
             blocks(bytes),
             |_| {},
@@ -121,7 +125,7 @@ impl Memory {
     ) -> Result<Appended, AppendError<Infallible, Infallible>> {
         self.spoil(bad);
         let header = self.newest_header().expect("a header");
-        append_all(self, GEOMETRY, 1, 2, &header, blocks(bytes), |_| {})
+        append_all(self, GEOMETRY, SETUP, &header, blocks(bytes), |_| {})
     }
 
     fn spoil(&mut self, bad: &[u32]) {
@@ -185,15 +189,25 @@ struct Lost {
     wrong: (&'static [u8], Option<Refusal>),
 }
 
-const LOST: [Lost; 2] = [
-    // EOD fails at 11, where the lost recording's second block reads; that
-    // one's EOD, at 12, stands below the end that the header names.
+const LOST: [Lost; 3] = [
+    // EOD fails at 11, where the lost recording's second block reads, and its
+    // third behind that; its EOD, at 13, stands below the end that the header
+    // names.
+    Lost {
+        before: &[1, 1, 1, 1],
+        lost: &[2, 2, 2],
+        bad: [&[], &[11]],
+        between: (&[], Some(Refusal::Missing)),
+        wrong: (&[3, 2, 2], Some(Refusal::NotFound)),
+    },
+    // One block less: EOD's number is one below the expected one, as where an
+    // element was given up that still reads, and not even 12 tells.
     Lost {
         before: &[1, 1, 1],
         lost: &[2, 2],
         bad: [&[], &[11]],
         between: (&[], Some(Refusal::Missing)),
-        wrong: (&[3, 2], Some(Refusal::NotFound)),
+        wrong: (&[3, 2], None),
     },
     // The lost recording went on behind the older one's end, so that the older
     // one can be read to it; the block fails at 20 where its first reads.
@@ -231,17 +245,23 @@ fn an_empty_recording_leaves_the_lost_pass_behind() {
 }
 
 /// The first block of the lost addition fails at 12, where the end still reads
-/// on; so its blocks stand at 22 and 23, and the header before it still leads
-/// to that end. The next one's end of data fails at 13, and at 23 too.
+/// on; so its blocks stand from 22 on, and the header before it still leads to
+/// that end. The next one's end of data fails at 13, and at 23 too. Where one
+/// block of the lost addition is read behind the new one, no refusal tells.
 #[test]
 fn a_lost_addition_is_mixed_with_the_next() {
-    let mut drive = Memory::default();
-    assert!(drive.record(&[1, 1], &[]).is_ok());
-    drive.lose_addition(&[2, 2], &[12]);
-    assert_eq!(drive.read(), (vec![1, 1], None));
-    assert!(drive.append(&[3], &[13, 23]).is_ok());
-    let mixed = (vec![1, 1, 3, 2], Some(Refusal::NotFound));
-    assert_eq!(drive.read(), mixed);
+    let mixed: [(&[u8], &[u8], Option<Refusal>); 2] = [
+        (&[2, 2, 2], &[1, 1, 3, 2, 2], Some(Refusal::NotFound)),
+        (&[2, 2], &[1, 1, 3, 2], None),
+    ];
+    for (lost, read, refusal) in mixed {
+        let mut drive = Memory::default();
+        assert!(drive.record(&[1, 1], &[]).is_ok());
+        drive.lose_addition(lost, &[12]);
+        assert_eq!(drive.read(), (vec![1, 1], None));
+        assert!(drive.append(&[3], &[13, 23]).is_ok());
+        assert_eq!(drive.read(), (read.to_vec(), refusal));
+    }
 }
 
 /// The same bad spots do no harm to additions that were all done.

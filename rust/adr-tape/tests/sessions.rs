@@ -21,12 +21,14 @@ const GEOMETRY: Geometry = Geometry {
 
 type Alter<S> = (&'static str, fn(&mut S));
 
-const IN_EVERY_STAGE: [Alter<ffi::Recording>; 12] = [
+const IN_EVERY_STAGE: [Alter<ffi::Recording>; 14] = [
     ("depth", |s| s.setup.depth += 1),
     ("window", |s| s.setup.highest += 1),
     ("stage", |s| s.stage ^= 1),
     ("closed", |s| s.closed ^= 1),
     ("ended", |s| s.ended ^= 1),
+    ("tail", |s| s.setup.tail ^= 1),
+    ("spent", |s| s.spent ^= 1),
     ("awaiting", |s| s.exchange.awaiting ^= 1),
     ("again", |s| s.exchange.again ^= 1),
     ("last", |s| s.copies.header.last += 1),
@@ -94,6 +96,15 @@ struct Host {
 }
 
 impl Host {
+    /// With a window of four blocks.
+    fn of(session: ComparedRecording) -> Host {
+        Host {
+            session,
+            window: Guarded::filled(0, 4 * BLOCK_LENGTH),
+            frame: Guarded::filled(0, FRAME_LENGTH),
+        }
+    }
+
     fn exchange(&mut self, reply: &Reply) {
         self.session.fetch(&self.window, &mut self.frame);
         self.session.reply(reply);
@@ -110,11 +121,7 @@ impl Host {
 /// Looks at a recording whose first element goes to this address, from its
 /// opening to done.
 fn seen_in_every_stage(session: ComparedRecording, start: u32) {
-    let mut host = Host {
-        session,
-        window: Guarded::filled(0, 4 * BLOCK_LENGTH),
-        frame: Guarded::filled(0, FRAME_LENGTH),
-    };
+    let mut host = Host::of(session);
     host.session.accept_filemark();
     host.session.accept_block(block(1), &mut host.window);
     all_seen(&host.session, &IN_EVERY_STAGE);
@@ -149,16 +156,53 @@ fn seen_in_every_stage(session: ComparedRecording, start: u32) {
 
 #[test]
 fn recordings() {
-    let (session, _) = ComparedRecording::open(&GEOMETRY, 3, 4, None);
+    let (session, _) = ComparedRecording::open(&GEOMETRY, 3, 4, 200, None);
     seen_in_every_stage(session, 10);
 }
 
 #[test]
 fn recordings_at_the_end() {
     let reading = read_to_end();
-    let (session, outcome) = Compared::open_at_end(&reading, 3, 4);
+    let (session, outcome) = Compared::open_at_end(&reading, 3, 4, 200);
     assert_eq!(outcome, Outcome::Accepted);
     seen_in_every_stage(session, 13);
+}
+
+/// A session that is spent is seen whole, but for what was awaited.
+#[test]
+fn spent_recordings() {
+    let (session, _) = ComparedRecording::open(&GEOMETRY, 3, 4, 255, None);
+    let mut host = Host::of(session);
+    host.session.accept_filemark();
+    host.until_stage(1);
+    host.exchange(&Reply::of(GOOD));
+    // Write errors lead to 2,745, the last address for an element.
+    let mut failed = 10;
+    loop {
+        host.exchange(&Reply::of(GOOD));
+        if failed == 2_745 {
+            host.session.accept_block(block(1), &mut host.window);
+        }
+        let skip = 2_745_u32.saturating_sub(failed).min(255);
+        host.exchange(&Reply::write_error(Address(failed), skip));
+        if host.session.layer.spent == 1 {
+            break;
+        }
+        failed += skip;
+        host.exchange(&Reply::of(GOOD));
+    }
+    assert_eq!(host.session.layer.elements.target, 2_746);
+    let is_told = |name: &str| !["awaiting", "again"].contains(&name);
+    let mut alterations = IN_EVERY_STAGE.to_vec();
+    alterations.retain(|(name, _)| is_told(name));
+    all_seen(&host.session, &alterations);
+    all_seen(&host.session, &OF_ELEMENTS);
+    all_seen(&host.session, &[("target", |s| s.elements.target += 1)]);
+    assert_eq!(host.session.close(), Outcome::Accepted);
+    assert_eq!(host.session.wrong(), None);
+    all_seen(&host.session, &IN_EVERY_STAGE);
+    host.until_stage(3);
+    assert_eq!(host.session.layer.copies.header.eod, 2_746);
 }
 
 fn frame(kind: Kind, number: u32) -> Guarded {

@@ -48,10 +48,12 @@ impl<F: FnMut() -> u8> Bytes<F> {
             setup: ffi::Setup {
                 depth: self.byte(),
                 highest: self.byte(),
+                tail: self.byte(),
             },
             stage: self.byte(),
             closed: self.byte(),
             ended: self.byte(),
+            spent: self.byte(),
             exchange: self.exchange(),
             copies: ffi::Copies {
                 header: ffi::Header {
@@ -156,7 +158,7 @@ fn distinct_values_come_back() {
     assert_eq!((taken.session, taken.answer, taken.number), (session, 0, 7));
     // 7 comes before 4.
     for depth in [1, 0, 256] {
-        let opened = ffi::record_open_at_end(session, depth, 1);
+        let opened = ffi::record_open_at_end(session, depth, 1, 0);
         assert_eq!((opened.number, opened.session.ended), (7, 1));
     }
 }
@@ -166,7 +168,7 @@ fn distinct_values_come_back() {
 fn fields_are_where_they_are_named() {
     let mut session = distinct().recording();
     session.stage = 1;
-    (session.closed, session.ended) = (0, 0);
+    (session.closed, session.ended, session.spent) = (0, 0, 0);
     session.exchange.command.code = ffi::WRITE;
     (session.exchange.awaiting, session.exchange.again) = (1, 0);
     (
@@ -269,17 +271,19 @@ fn fields_of_an_opening_at_the_end(reading: &ffi::Reading) {
     let mut at_end = *reading;
     at_end.position.next = 511;
     at_end.finished = 1;
-    let opened = ffi::record_open_at_end(at_end, 9, 21);
+    let opened = ffi::record_open_at_end(at_end, 9, 21, 33);
     assert_eq!(opened.number, 0);
     let session = opened.session;
     let expected = ffi::Recording {
         setup: ffi::Setup {
             depth: 9,
             highest: 20,
+            tail: 33,
         },
         stage: 0,
         closed: 0,
         ended: 0,
+        spent: 0,
         exchange: session.exchange,
         copies: ffi::Copies {
             header: ffi::Header {
@@ -320,7 +324,9 @@ fn plausible(random: &mut Random, session: &mut ffi::Recording) {
     if session.exchange.command.code == ffi::READ_POSITION {
         session.exchange.command.address = 0;
     }
-    session.ended = u8::from(random.chance(50));
+    session.ended = u8::from(random.chance(100));
+    // In any stage, and whether ended or not.
+    session.spent = u8::from(random.chance(300));
     for flag in [
         &mut session.closed,
         &mut session.exchange.awaiting,
@@ -356,6 +362,7 @@ fn is_session(session: &ffi::Recording) -> bool {
     let flags = [
         session.closed,
         session.ended,
+        session.spent,
         session.exchange.awaiting,
         session.exchange.again,
         session.copies.locate,
@@ -457,6 +464,80 @@ fn recordings_that_no_call_returned() {
     assert!(refused > ROUNDS / 4 && refused < ROUNDS * 2);
 }
 
+/// What the calls but the block's make of a session: session, refusal and
+/// command.
+fn made_of(
+    session: ffi::Recording,
+    reply: ffi::Reply,
+    window: &[u8],
+) -> [(ffi::Recording, u8, ffi::Command); 4] {
+    let told =
+        |outcome: ffi::RecordOutcome| (outcome.session, outcome.number, ffi::Command::default());
+    let fetched = ffi::record_fetch(session, window, &mut [0; FRAME_LENGTH]);
+    [
+        told(ffi::record_close(session)),
+        told(ffi::record_filemark(session)),
+        told(ffi::record_reply(session, reply)),
+        (fetched.session, fetched.number, fetched.command),
+    ]
+}
+
+/// The session that close makes of one that is spent: what is not on tape is
+/// given up, and EOD is due in its place.
+fn given_up(session: &ffi::Recording) -> ffi::Recording {
+    let mut after = *session;
+    (after.closed, after.ended, after.spent) = (1, 0, 0);
+    (after.exchange.awaiting, after.exchange.again) = (0, 0);
+    (after.elements.pending, after.elements.outstanding) = (1, 0);
+    after.elements.eod = 1;
+    after
+}
+
+/// Spent in any stage: in one that is ended close is accepted and nothing else,
+/// in one that is not it says nothing.
+#[test]
+fn spent_recordings_that_no_call_returned() {
+    for seed in 0..ROUNDS {
+        let mut random = Random::new(u64::from(seed));
+        let mut bytes = Random::new(u64::from(seed) ^ 0x59E7);
+        let mut session = Bytes(|| bytes.byte()).recording();
+        plausible(&mut random, &mut session);
+        session.setup.highest = 0;
+        (session.ended, session.spent) = (1, 1);
+        let mut reply = Bytes(|| bytes.byte()).reply();
+        (reply.key, reply.asc, reply.ascq) = (0, 0, 0);
+        reply.buffered %= 8;
+        let window = [0x11; BLOCK_LENGTH];
+        let [(closed, number, _), refused @ ..] = made_of(session, reply, &window);
+        assert_eq!(number, 0, "seed {seed}");
+        let mut expected = given_up(&session);
+        // Neither marks of what is not pending nor a command that is over mean
+        // anything.
+        expected.elements.marks = closed.elements.marks;
+        expected.exchange.command = closed.exchange.command;
+        assert_eq!(closed, expected, "seed {seed}");
+        let mark = closed.elements.marks[closed.elements.first as usize % 64];
+        assert_eq!(mark, 0, "seed {seed}");
+        for refused in refused {
+            let unaltered = (session, 7, ffi::Command::default());
+            assert_eq!(refused, unaltered, "seed {seed}");
+        }
+        let mut lent = window;
+        let outcome = ffi::record_block(session, &[0x77; BLOCK_LENGTH], &mut lent);
+        assert_eq!((outcome.session, outcome.number), (session, 7));
+        assert!(lent == window, "seed {seed}");
+
+        session.ended = 0;
+        let spent = made_of(session, reply, &window);
+        session.spent = 0;
+        for (spent, plain) in spent.into_iter().zip(made_of(session, reply, &window)) {
+            let (mut after, number, command) = spent;
+            after.spent = plain.0.spent;
+            assert_eq!((after, number, command), plain, "seed {seed}");
+        }
+    }
+}
+
 #[test]
 fn readings_that_no_call_returned() {
     for seed in 0..ROUNDS * 5 {
@@ -492,7 +573,7 @@ fn readings_that_no_call_returned() {
             |_| false,
         );
         assert!(fetched.number <= 12 && taken.number <= 12, "seed {seed}");
-        let opened = ffi::record_open_at_end(session, 1 + random.below(300), 1);
+        let opened = ffi::record_open_at_end(session, 1 + random.below(300), 1, random.below(300));
         let refused = opened.number != 0;
         assert!(is_session(&opened.session), "seed {seed}");
         assert_eq!(opened.session.ended, u8::from(refused), "seed {seed}");

@@ -7,13 +7,22 @@ use std::env;
 use std::panic::{catch_unwind, AssertUnwindSafe};
 use std::process::Command;
 
-use adr_tape::{record_all, Address, Drive, Element, Geometry, Next, Recorder, Reply, Sense};
+use adr_tape::{
+    record_all, Address, Drive, Element, Geometry, Next, Recorder, Reply, Sense, Setup,
+};
+
+const GEOMETRY: Geometry = Geometry::beginning(3_001, 1);
+const SETUP: Setup = Setup {
+    depth: 4,
+    blocks: 2,
+    tail: 0,
+};
 
 /// Names the case that the process is to run.
 const CASE: &str = "ADR_TAPE_UNCLOSED";
 
 /// Each case, and how often it tells.
-const CASES: [(&str, fn(), usize); 12] = [
+const CASES: [(&str, fn(), usize); 14] = [
     ("untouched", || drop(open()), 0),
     ("an element accepted", || drop(begun()), 1),
     ("a command given", || drop(sending()), 1),
@@ -21,6 +30,8 @@ const CASES: [(&str, fn(), usize); 12] = [
     ("done", || finish(&mut begun()), 0),
     ("refused", refused, 0),
     ("refused and going on", refused_and_going_on, 1),
+    ("spent", || drop(spent()), 0),
+    ("spent, closed and not done", spent_and_closed, 1),
     ("abandoned", || begun().abandon(), 0),
     ("while panicking", while_panicking, 0),
     ("clones, one of them done", clones_one_done, 0),
@@ -29,7 +40,7 @@ const CASES: [(&str, fn(), usize); 12] = [
 ];
 
 fn open() -> Recorder {
-    Recorder::open(Geometry::beginning(3_001, 1), 4, 2, None).expect("opens")
+    Recorder::open(GEOMETRY, SETUP, None).expect("opens")
 }
 
 fn begun() -> Recorder {
@@ -117,10 +128,33 @@ impl Drive for Unreachable {
 
 /// The error tells it already.
 fn the_drive_failed() {
-    let geometry = Geometry::beginning(3_001, 1);
     let elements = [Ok::<_, Infallible>(Element::Filemark)];
-    let recorded = record_all(&mut Unreachable, geometry, 4, 2, None, elements, |_| {});
+    let recorded = record_all(&mut Unreachable, GEOMETRY, SETUP, None, elements, |_| {});
     assert!(recorded.is_err());
+}
+
+/// Refused with 9 at its first element, for the tape ends before it.
+fn spent() -> Recorder {
+    let setup = Setup { tail: 1, ..SETUP };
+    let mut recorder = Recorder::open(GEOMETRY, setup, None).expect("opens");
+    recorder.accept_filemark().expect("accepts");
+    let mut write = |at: u32| match recorder.fetch() {
+        Ok(Next::Send(command, _)) => {
+            let first = command == adr_tape::Command::Write(Address(at));
+            let sense = if first { Sense::EARLY_END } else { Sense::GOOD };
+            recorder.reply(Reply::sense(sense)).expect("goes on");
+            true
+        }
+        next => next.is_ok(),
+    };
+    while write(10) {}
+    assert!(recorder.is_spent());
+    recorder
+}
+
+fn spent_and_closed() {
+    let mut recorder = spent();
+    recorder.close().expect("once more");
 }
 
 /// Runs the case that the environment names, in a process for it alone.

@@ -12,10 +12,10 @@ use adr_model::random::Random;
 use adr_model::tape::Tape;
 use adr_model::{drive, Fault};
 use adr_tape::{
-    newest_header, read_all, record_all, Element, Geometry, ReadError, RecordError, Refusal,
+    newest_header, read_all, record_all, Element, Geometry, ReadError, RecordError, Refusal, Setup,
     Summary,
 };
-use simulated::{elements, read_back, sent, Simulated};
+use simulated::{elements, read_back, read_back_full, sent, Simulated};
 
 const CARTRIDGES: u64 = if cfg!(debug_assertions) { 100 } else { 600 };
 
@@ -63,12 +63,20 @@ fn recorded_and_read_back(seed: u64) -> bool {
     let newest = drive.0.tape().newest_header(LAST);
     assert_eq!(header.is_some(), newest.is_some(), "seed {seed}");
     let elements = elements(&mut Random::new(seed));
-    let (depth, window) = (case.depth, case.window_blocks);
+    let setup = Setup {
+        depth: case.depth,
+        blocks: case.setup.window_blocks,
+        tail: case.setup.tail,
+    };
     let source = sent(&elements);
     let header = header.as_deref();
-    match record_all(&mut drive, LARGER, depth, window, header, source, |_| {}) {
+    match record_all(&mut drive, LARGER, setup, header, source, |_| {}) {
         Ok(summary) => {
             read_back_as_recorded(seed, &mut drive, &elements, summary);
+            true
+        }
+        Err(RecordError::Full(full)) => {
+            read_back_full(&mut drive, LARGER, &elements, &full);
             true
         }
         Err(RecordError::Refused(Refusal::Exhausted | Refusal::TapeFull | Refusal::NotFound)) => {
@@ -90,6 +98,11 @@ fn blank_drive() -> Simulated {
 }
 
 const GEOMETRY: Geometry = Geometry::beginning(3_001, 1);
+const SETUP: Setup = Setup {
+    depth: 4,
+    blocks: 2,
+    tail: 0,
+};
 
 #[test]
 fn a_blank_cartridge_has_no_header() {
@@ -102,11 +115,11 @@ fn a_blank_cartridge_has_no_header() {
 fn a_source_and_a_sink_may_fail() {
     let mut drive = blank_drive();
     let source = [Ok(Element::Filemark), Err("no more")];
-    let recorded = record_all(&mut drive, GEOMETRY, 4, 2, None, source, |_| {});
+    let recorded = record_all(&mut drive, GEOMETRY, SETUP, None, source, |_| {});
     assert_eq!(recorded, Err(RecordError::Source("no more")));
     let blocks: Vec<Element<'static>> = (1..9).map(|number| Element::from(block(number))).collect();
     let mut replies = 0;
-    let recorded = record_all(&mut drive, GEOMETRY, 4, 2, None, sent(&blocks), |_| {
+    let recorded = record_all(&mut drive, GEOMETRY, SETUP, None, sent(&blocks), |_| {
         replies += 1
     });
     assert_eq!(recorded.map(|summary| summary.commands), Ok(replies));
@@ -136,7 +149,7 @@ fn a_source_and_a_sink_may_fail() {
 #[test]
 fn disputed_headers() {
     let mut drive = blank_drive();
-    let recorded = record_all(&mut drive, GEOMETRY, 4, 2, None, sent(&[]), |_| {});
+    let recorded = record_all(&mut drive, GEOMETRY, SETUP, None, sent(&[]), |_| {});
     assert!(recorded.is_ok());
     let header = newest_header(&mut drive, GEOMETRY)
         .ok()

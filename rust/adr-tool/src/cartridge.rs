@@ -3,10 +3,10 @@
 use std::path::Path;
 
 use adr_model::drive::Drive as SimulatedDrive;
-use adr_model::frame::Frame;
+use adr_model::frame::{aux_of, number_at, Frame};
 use adr_tape::{
     newest_header, read_with, record_with, Address, Element, Geometry, HeaderError, ReadError,
-    Reader, RecordError, Recorder, Refusal, Reply, Sense, Summary, FRAME_LENGTH,
+    Reader, RecordError, Recorder, Refusal, Reply, Sense, Setup, Summary, FRAME_LENGTH,
 };
 
 use crate::failure::Failure;
@@ -14,6 +14,7 @@ use crate::faults::hostility;
 use crate::image::{Access, Image};
 use crate::interruption;
 use crate::job::reading::{Jobs, Taker};
+use crate::lone_frame;
 use crate::progress::Progress;
 use crate::room::Room;
 use crate::size::bytes_in;
@@ -26,6 +27,9 @@ const EOD_ADDRESS: std::ops::Range<usize> = 32..36;
 const IF_END_ELSEWHERE: &str =
     "nothing can be added here: restore what can be read, and use another cartridge, \
      or record afresh with '--overwrite'";
+
+/// What helps where the end of data found no place.
+const IF_FULL: &str = "a longer '--tail' keeps more room for the end of data";
 
 /// What helps where a cartridge cannot be read.
 const IF_UNREADABLE: &str = "use a copy of the file, or 'adr salvage' for what is left";
@@ -62,6 +66,51 @@ pub struct End {
     pub jobs: u64,
     /// Whether a filemark ends the last of them.
     pub closed: bool,
+    /// What is known of a tape that was full.
+    full: Option<WasFull>,
+}
+
+/// What tells that a tape was full before all was recorded. Where it was full
+/// behind a job, and no element that was given up reads, nothing does.
+#[derive(Clone, Copy, Debug, PartialEq, Eq)]
+enum WasFull {
+    /// The last job is cut off.
+    Within,
+    /// An element reads that was given up.
+    Behind,
+}
+
+/// The jobs of a cartridge that was read.
+#[derive(Default)]
+pub struct ReadJobs {
+    /// How many there are.
+    pub number: u64,
+    full: Option<WasFull>,
+}
+
+impl ReadJobs {
+    /// What is to be told of a tape that was full, if it is known to have been.
+    pub fn was_full(&self) -> Option<String> {
+        let job = self.number;
+        self.full.map(|full| match full {
+            WasFull::Within => format!(
+                "the tape was full in job {job}: \
+                 it and what was to follow it belong on another cartridge"
+            ),
+            WasFull::Behind => format!(
+                "the tape was full, and the recording was given up behind job {job}: \
+                 what was to follow belongs on another cartridge"
+            ),
+        })
+    }
+}
+
+/// What came of a recording that is in force.
+pub struct Recorded {
+    /// Counts of it.
+    pub summary: Summary,
+    /// How many of its elements are on tape, if the tape was full before all were.
+    pub full: Option<u64>,
 }
 
 /// A cartridge in the drive.
@@ -69,6 +118,8 @@ pub struct Cartridge {
     drive: SimulatedDrive<Image>,
     geometry: Geometry,
     write_errors: Vec<WriteError>,
+    /// The sequence number in the frame that was read last.
+    latest_number: u32,
 }
 
 impl Cartridge {
@@ -87,6 +138,7 @@ impl Cartridge {
             drive: SimulatedDrive::new(image, depth, hostility(seed), seed.unwrap_or(0)),
             geometry,
             write_errors: Vec::new(),
+            latest_number: 0,
         })
     }
 
@@ -163,17 +215,18 @@ impl Cartridge {
     }
 
     /// Refuses sizes that no recording takes, before a tape is read for one.
-    pub fn require_sizes(&self, (depth, window): (u32, u32)) -> Result<(), Failure> {
-        match Recorder::open(self.geometry, depth, window, None) {
+    pub fn require_sizes(&self, setup: Setup) -> Result<(), Failure> {
+        match Recorder::open(self.geometry, setup, None) {
             Err(Refusal::Capacity) => Err(Failure::usage(Refusal::Capacity)),
             _ => Ok(()),
         }
     }
 
-    /// How much the cartridge holds, and how much of that is free.
-    pub fn room(&mut self) -> Result<Room, Failure> {
+    /// How much the cartridge holds, and how much of that is free, with so many
+    /// frames kept for the end of data.
+    pub fn room(&mut self, tail: u32) -> Result<Room, Failure> {
         let end = self.header()?.as_deref().map(end_of_data);
-        Room::new(self.geometry, end).map_err(Failure::new)
+        Room::new(self.geometry, end, tail).map_err(Failure::new)
     }
 
     /// Whether anything was ever recorded.
@@ -181,15 +234,16 @@ impl Cartridge {
         self.image().known().any(|(_, reads, _)| reads)
     }
 
-    /// Records elements from the beginning and puts the recording in force.
+    /// Records elements from the beginning and puts the recording in force, up to
+    /// where the tape is full.
     pub fn record(
         &mut self,
-        (depth, window): (u32, u32),
+        setup: Setup,
         elements: impl Iterator<Item = Result<Element<'static>, Failure>>,
         progress: impl FnMut(&Summary),
-    ) -> Result<Summary, Failure> {
+    ) -> Result<Recorded, Failure> {
         let header = self.header_for_recording()?;
-        let opened = Recorder::open(self.geometry, depth, window, header.as_deref());
+        let opened = Recorder::open(self.geometry, setup, header.as_deref());
         self.record_with(opened, elements, progress)
     }
 
@@ -199,13 +253,19 @@ impl Cartridge {
     pub fn append(
         &mut self,
         end: &End,
-        (depth, window): (u32, u32),
+        setup: Setup,
         elements: impl Iterator<Item = Result<Element<'static>, Failure>>,
         progress: impl FnMut(&Summary),
-    ) -> Result<Summary, Failure> {
-        let opened = Recorder::open_at_end(&end.reader, depth, window);
+    ) -> Result<Recorded, Failure> {
+        let opened = Recorder::open_at_end(&end.reader, setup);
         let filemark = (!end.closed).then_some(Ok(Element::Filemark));
-        self.record_with(opened, filemark.into_iter().chain(elements), progress)
+        let all = filemark.into_iter().chain(elements);
+        let recorded = self.record_with(opened, all, progress)?;
+        let of_elements = |on_tape: u64| on_tape.saturating_sub(u64::from(!end.closed));
+        Ok(Recorded {
+            full: recorded.full.map(of_elements),
+            ..recorded
+        })
     }
 
     fn record_with(
@@ -213,22 +273,33 @@ impl Cartridge {
         opened: Result<Recorder, Refusal>,
         elements: impl Iterator<Item = Result<Element<'static>, Failure>>,
         progress: impl FnMut(&Summary),
-    ) -> Result<Summary, Failure> {
+    ) -> Result<Recorded, Failure> {
         self.image_mut().give_back_leavings();
         let opened = opened.map_err(RecordError::from);
         let recorded = opened.and_then(|recorder| record_with(self, recorder, elements, progress));
-        let recorded = recorded.map_err(|error| match error {
-            RecordError::Refused(Refusal::Capacity) => Failure::usage(Refusal::Capacity),
-            RecordError::Refused(refusal @ Refusal::EndElsewhere) => self
+        let recorded = match recorded {
+            Ok(summary) => Ok(Recorded {
+                summary,
+                full: None,
+            }),
+            Err(RecordError::Full(full)) => Ok(Recorded {
+                summary: full.summary,
+                full: Some(full.on_tape),
+            }),
+            Err(RecordError::Refused(Refusal::Capacity)) => Err(Failure::usage(Refusal::Capacity)),
+            Err(RecordError::Refused(refusal @ Refusal::EndElsewhere)) => Err(self
                 .refused("recording stopped", refusal)
-                .with(IF_END_ELSEWHERE),
-            RecordError::Refused(refusal) => self.refused("recording stopped", refusal),
-            RecordError::Drive(failure) | RecordError::Source(failure) => failure,
-        });
-        let recorded = recorded.and_then(|summary| interruption::check().map(|()| summary));
-        let summary = recorded.map_err(Failure::unrecorded)?;
+                .with(IF_END_ELSEWHERE)),
+            Err(RecordError::Refused(refusal @ Refusal::TapeFull)) => {
+                Err(self.refused("recording stopped", refusal).with(IF_FULL))
+            }
+            Err(RecordError::Refused(refusal)) => Err(self.refused("recording stopped", refusal)),
+            Err(RecordError::Drive(failure) | RecordError::Source(failure)) => Err(failure),
+        };
+        let recorded = recorded.and_then(|recorded| interruption::check().map(|()| recorded));
+        let recorded = recorded.map_err(Failure::unrecorded)?;
         self.image_mut().commit()?;
-        Ok(summary)
+        Ok(recorded)
     }
 
     /// Reads jobs to the end of data, or until `taker` breaks. An empty
@@ -237,16 +308,21 @@ impl Cartridge {
         &mut self,
         taker: &'t mut Taker<'t>,
         progress: &mut Progress,
-    ) -> Result<u64, Failure> {
+    ) -> Result<ReadJobs, Failure> {
         let Some(header) = self.header_of_frames(IF_UNREADABLE)? else {
-            return Ok(0);
+            return Ok(ReadJobs::default());
         };
         let end = self.read_to_end(&header, taker, progress)?;
-        if end.closed {
-            return Ok(end.jobs);
+        // The taker was told of a job that is cut off.
+        if end.closed || end.full == Some(WasFull::Within) {
+            return Ok(ReadJobs {
+                number: end.jobs,
+                full: end.full,
+            });
         }
         Err(Failure::new(format!(
-            "{}: job {} has no filemark at its end",
+            "{}: job {} has no filemark at its end: \
+             'adr salvage' restores it if nothing else is missing",
             self.image().path().display(),
             end.jobs
         )))
@@ -282,11 +358,27 @@ impl Cartridge {
                 let stopped = jobs.place(self.refused("reading stopped", refusal));
                 Err(stopped.with("'adr salvage' restores the jobs behind it that are whole"))
             }
-            Ok(_) => Ok(End {
+            Ok(_) if stopped => Ok(End {
                 reader,
                 jobs: jobs.begun(),
-                closed: stopped || !jobs.is_within(),
+                closed: true,
+                full: None,
             }),
+            Ok(summary) => {
+                let delivered = summary.blocks.saturating_add(summary.filemarks);
+                // Only then can the end of data have a number that was read before.
+                let given_up = delivered > u64::from(self.latest_number);
+                let full = match jobs.end()? {
+                    true => Some(WasFull::Within),
+                    false => given_up.then_some(WasFull::Behind),
+                };
+                Ok(End {
+                    reader,
+                    jobs: jobs.begun(),
+                    closed: !jobs.is_within(),
+                    full,
+                })
+            }
         }
     }
 
@@ -341,7 +433,11 @@ impl adr_tape::Drive for Cartridge {
             return Err(Failure::new("a frame of the wrong length was lent"));
         };
         let reply = self.drive.read(command, frame);
-        self.checked(reply)
+        let reply = self.checked(reply)?;
+        if reply.sense.brings_frame() {
+            self.latest_number = number_at(aux_of(frame), lone_frame::NUMBER);
+        }
+        Ok(reply)
     }
 
     fn read_position(&mut self) -> Result<Reply, Failure> {

@@ -8,7 +8,7 @@ use crate::failure::Failure;
 use crate::frame_checksums;
 use crate::image::Access;
 use crate::job::reading::{Event, Verdict};
-use crate::job::{torn, Description};
+use crate::job::{not_whole, torn, Description};
 use crate::output;
 use crate::progress::Progress;
 use crate::record::DEPTH;
@@ -26,6 +26,7 @@ struct Findings {
     jobs: u64,
     foreign: u64,
     bytes: u64,
+    was_full: Option<String>,
     wrong: Vec<String>,
 }
 
@@ -48,6 +49,9 @@ pub fn run(arguments: &Arguments) -> Result<(), Failure> {
     let frames = read_frames(&mut cartridge, &mut findings, quiet)?;
 
     let shown = path.display();
+    if let Some(was_full) = &findings.was_full {
+        output::message(format!("{shown}: {was_full}"));
+    }
     for wrong in &findings.wrong {
         output::message(format!("{shown}: {wrong}"));
     }
@@ -85,9 +89,8 @@ fn read_jobs(
                 let tear = description.take().and_then(|begun| begun.tear(closing));
                 broken.extend(tear.map(|tear| torn(number, &tear)));
             }
-            Event::End(Verdict::Broken(why)) => {
-                broken.push(format!("job {number} is not whole: {why}"));
-            }
+            Event::End(Verdict::Broken(why)) => broken.push(not_whole(number, why)),
+            Event::End(Verdict::Cut(cut)) => broken.push(not_whole(number, cut)),
             Event::End(Verdict::Foreign) => foreign += 1,
             Event::Begin(begun) => description = Some(begun.clone()),
             Event::Data(_) => {}
@@ -99,7 +102,10 @@ fn read_jobs(
     findings.foreign = foreign;
     findings.bytes = bytes;
     match read {
-        Ok(jobs) => findings.jobs = jobs,
+        Ok(jobs) => {
+            findings.jobs = jobs.number;
+            findings.was_full = jobs.was_full();
+        }
         // The rest can be looked at all the same.
         Err(Failure::Failed(message)) => {
             let path = cartridge.image().path().display().to_string();

@@ -5,7 +5,7 @@ use std::ops::ControlFlow;
 use std::path::{Path, PathBuf};
 
 use adr_model::random::Random;
-use adr_tape::{header_addresses, Geometry, LoadPoint, Summary};
+use adr_tape::{header_addresses, Geometry, LoadPoint, Setup, Summary};
 
 use crate::arguments::{Arguments, Options};
 use crate::cartridge::Cartridge;
@@ -28,8 +28,11 @@ pub const OPTIONS: Options = Options {
 };
 
 const SEED: u64 = 27;
-const DEPTH: u32 = 8;
-const WINDOW: u32 = 16;
+const SETUP: Setup = Setup {
+    depth: 8,
+    blocks: 16,
+    tail: 0,
+};
 const GEOMETRY: Geometry = Geometry {
     segtrk: 3_200,
     trks: 1,
@@ -108,9 +111,9 @@ fn inputs(files: &[Made]) -> Vec<Input> {
 }
 
 fn record(path: &Path, files: &[Made], seed: Option<u64>) -> Result<(), Failure> {
-    let mut cartridge = Cartridge::load(path, Access::Record, DEPTH, seed)?;
+    let mut cartridge = Cartridge::load(path, Access::Record, SETUP.depth, seed)?;
     let elements = Elements::new(inputs(files), false);
-    let summary = cartridge.record((DEPTH, WINDOW), elements, |_: &Summary| {})?;
+    let recorded = cartridge.record(SETUP, elements, |_: &Summary| {})?;
     for error in cartridge.write_errors() {
         let address = grouped(u64::from(error.position.0));
         output::line(if header_addresses().contains(&error.position) {
@@ -122,11 +125,11 @@ fn record(path: &Path, files: &[Made], seed: Option<u64>) -> Result<(), Failure>
         })?;
     }
     let jobs = u64::try_from(files.len()).unwrap_or(u64::MAX);
-    output::line(format!("  {}", told(jobs, &summary)))
+    output::line(format!("  {}", told(jobs, &recorded.summary)))
 }
 
 fn compare(path: &Path, files: &[Made], seed: u64) -> Result<(), Failure> {
-    let mut cartridge = Cartridge::load(path, Access::Read, DEPTH, Some(seed))?;
+    let mut cartridge = Cartridge::load(path, Access::Read, SETUP.depth, Some(seed))?;
     let mut read: Vec<(Vec<u8>, bool)> = Vec::new();
     let mut taker = |_: u64, event: Event<'_>| {
         match event {

@@ -9,10 +9,13 @@
 pub mod reading;
 pub mod source;
 
+use std::fmt::{self, Display};
+
 use adr_tape::BLOCK_LENGTH;
 
 use crate::checksum::checksum;
 use crate::digest::Digest;
+use crate::size::bytes_in;
 use crate::text::{count, grouped};
 use crate::timestamp::Timestamp;
 
@@ -121,6 +124,44 @@ impl Description {
     }
 }
 
+/// How far a job got in which the tape was full.
+#[derive(Clone, Copy, Debug, PartialEq, Eq)]
+pub struct Cut {
+    /// The bytes of it that are on tape; padding may be among them if its length
+    /// is not known.
+    bytes: u64,
+    /// Its length, if it was known when recording began.
+    length: Option<u64>,
+}
+
+impl Cut {
+    /// A job of this length, cut behind so many blocks of its data.
+    pub fn behind(blocks: u64, length: Option<u64>) -> Cut {
+        let bytes = bytes_in(blocks).min(length.unwrap_or(u64::MAX));
+        Cut { bytes, length }
+    }
+}
+
+impl Display for Cut {
+    fn fmt(&self, formatter: &mut fmt::Formatter<'_>) -> fmt::Result {
+        let bytes = grouped(self.bytes);
+        match self.length {
+            Some(length) => write!(
+                formatter,
+                "cut off behind {bytes} of its {}",
+                count(length, "byte", "bytes")
+            )?,
+            None => write!(formatter, "cut off behind at most {bytes} bytes")?,
+        }
+        formatter.write_str(": the tape was full")
+    }
+}
+
+/// What is told of a job that is not whole.
+pub fn not_whole(number: u64, why: impl Display) -> String {
+    format!("job {number} is not whole: {why}")
+}
+
 /// What is told of a job whose file changed so while it was recorded.
 pub fn torn(number: u64, tear: &str) -> String {
     format!("job {number} is torn: its file {tear}")
@@ -222,6 +263,34 @@ mod tests {
             mode: None,
         };
         assert_eq!(Description::read(&sealed(content)), Some(read));
+    }
+
+    #[test]
+    fn cuts() {
+        for (blocks, length, told) in [
+            (
+                0,
+                Some(1),
+                "cut off behind 0 of its 1 byte: the tape was full",
+            ),
+            (
+                2,
+                Some(100_000),
+                "cut off behind 65,536 of its 100,000 bytes: the tape was full",
+            ),
+            (
+                4,
+                Some(100_000),
+                "cut off behind 100,000 of its 100,000 bytes: the tape was full",
+            ),
+            (
+                4,
+                None,
+                "cut off behind at most 131,072 bytes: the tape was full",
+            ),
+        ] {
+            assert_eq!(Cut::behind(blocks, length).to_string(), told);
+        }
     }
 
     #[test]

@@ -1,5 +1,6 @@
 //! `adr list`: the jobs on a cartridge.
 
+use std::fmt::Display;
 use std::ops::ControlFlow;
 
 use crate::arguments::{Arguments, Options};
@@ -11,7 +12,7 @@ use crate::job::reading::{Event, Verdict};
 use crate::job::Description;
 use crate::output;
 use crate::progress::Progress;
-use crate::record::DEPTH;
+use crate::record::{DEPTH, TAIL};
 use crate::text::{date, grouped, printable};
 
 /// The options of `list`.
@@ -36,18 +37,21 @@ pub fn run(arguments: &Arguments) -> Result<(), Failure> {
             Event::Begin(begun) => description = Some(begun.clone()),
             Event::Data(_) => {}
             Event::End(verdict) => {
-                broken += u64::from(matches!(verdict, Verdict::Broken(_)));
+                broken += u64::from(matches!(verdict, Verdict::Broken(_) | Verdict::Cut(_)));
                 let description = description.take();
                 output::line(job_line(number, description.as_ref(), verdict, checksums))?;
             }
         }
         Ok(ControlFlow::Continue(()))
     };
-    cartridge.read_jobs(&mut taker, &mut progress)?;
+    let jobs = cartridge.read_jobs(&mut taker, &mut progress)?;
     drop(progress);
     if !arguments.has("--quiet") {
         // Beside the rows, which other programs read.
-        output::message(format!("{}: {}", path.display(), cartridge.room()?));
+        output::message(format!("{}: {}", path.display(), cartridge.room(TAIL)?));
+    }
+    if let Some(was_full) = jobs.was_full() {
+        output::message(format!("{}: {was_full}", path.display()));
     }
     if broken > 0 {
         return Err(Failure::new(format!(
@@ -78,7 +82,13 @@ fn job_line(
             let tear = tear.unwrap_or_default();
             format!("{number:>4}  {length:>15}  {time}  {digest}{name}{tear}")
         }
-        Verdict::Broken(why) => format!("{number:>4}  {:>15}  {time}  {name} ({why})", "?"),
+        Verdict::Broken(why) => incomplete(number, &time, &name, why),
+        Verdict::Cut(cut) => incomplete(number, &time, &name, cut),
         Verdict::Foreign => format!("{number:>4}  (not recorded by this tool)"),
     }
+}
+
+/// The row of a job that is not whole.
+fn incomplete(number: u64, time: &str, name: &str, why: impl Display) -> String {
+    format!("{number:>4}  {:>15}  {time}  {name} ({why})", "?")
 }

@@ -8,7 +8,7 @@ use adr_model::{Address, SequenceNumber};
 /// before its frame.
 const PASS: usize = 22;
 const LAST: usize = 28;
-const NUMBER: usize = 44;
+pub const NUMBER: usize = 44;
 const FILEMARKS: usize = 192;
 
 /// A frame that is as the format has it.

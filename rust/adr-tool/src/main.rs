@@ -27,6 +27,7 @@ mod record;
 mod restore;
 mod room;
 mod salvage;
+mod shell;
 mod size;
 #[allow(unsafe_code)]
 mod system;

@@ -1,11 +1,13 @@
 //! `adr record`: files to a cartridge.
 
+mod full;
+
 use std::collections::BTreeMap;
 use std::ffi::{OsStr, OsString};
 use std::io::IsTerminal;
 use std::path::Path;
 
-use adr_tape::Summary;
+use adr_tape::{Setup, Summary};
 
 use crate::arguments::{Arguments, Options};
 use crate::cartridge::Cartridge;
@@ -19,10 +21,11 @@ use crate::progress::Progress;
 use crate::room::{frames_of_job, Room};
 use crate::size::bytes_in;
 use crate::text::{amount, count, grouped, printable};
+use full::FullTape;
 
 /// The options of `record`.
 pub const OPTIONS: Options = Options {
-    valued: &["--name", "--faults", "--depth", "--window"],
+    valued: &["--name", "--faults", "--depth", "--window", "--tail"],
     plain: &["--allow-empty", "--append", "--overwrite", "--quiet"],
 };
 
@@ -30,13 +33,20 @@ pub const OPTIONS: Options = Options {
 pub const DEPTH: u32 = 32;
 /// Blocks that may wait for the drive.
 pub const WINDOW: u32 = 64;
+/// Frames that are kept for the end of data.
+pub const TAIL: u32 = 8;
+/// The most that can be.
+const LONGEST_TAIL: u32 = 255;
 
 /// Runs the command.
 pub fn run(arguments: &Arguments) -> Result<(), Failure> {
     let (path, files) = arguments.image()?;
     let depth = arguments.number("--depth")?.unwrap_or(DEPTH);
-    let window = arguments.number("--window")?.unwrap_or(WINDOW);
-    let sizes = (depth, window);
+    let setup = Setup {
+        depth,
+        blocks: arguments.number("--window")?.unwrap_or(WINDOW),
+        tail: tail(arguments)?,
+    };
     let seed = arguments.number("--faults")?;
     let name = arguments.value("--name");
     if arguments.has("--append") && arguments.has("--overwrite") {
@@ -44,16 +54,20 @@ pub fn run(arguments: &Arguments) -> Result<(), Failure> {
     }
     let inputs = inputs(path, files, name)?;
     let jobs = u64::try_from(inputs.len()).unwrap_or(u64::MAX);
+    let again: Vec<bool> = inputs.iter().map(Input::can_be_read_again).collect();
     let total = known_length(&inputs);
     let quiet = arguments.has("--quiet");
 
     let mut cartridge = Cartridge::load(path, Access::Record, depth, seed)?;
     interruption::watch();
     let earlier_jobs = if arguments.has("--append") {
-        cartridge.require_sizes(sizes)?;
-        read_earlier_jobs(&mut cartridge, path, &inputs, quiet)?
+        cartridge.require_sizes(setup)?;
+        read_earlier_jobs(&mut cartridge, path, &inputs, setup.tail, quiet)?
     } else {
-        require_place(&cartridge, path, &inputs, arguments.has("--overwrite"))?;
+        if !arguments.has("--overwrite") {
+            refuse_content(&cartridge, path)?;
+        }
+        require_place(&cartridge, path, &inputs, setup.tail)?;
         EarlierJobs::default()
     };
     tell_names_that_come_again(&inputs, &earlier_jobs);
@@ -64,32 +78,54 @@ pub fn run(arguments: &Arguments) -> Result<(), Failure> {
     };
     let elements = Elements::new(inputs, arguments.has("--allow-empty"));
     let mut elements = elements.behind(earlier_jobs.jobs());
-    let summary = match earlier_jobs.end() {
-        None => cartridge.record(sizes, &mut elements, update),
-        Some(end) => cartridge.append(end, sizes, &mut elements, update),
+    let recorded = match earlier_jobs.end() {
+        None => cartridge.record(setup, &mut elements, update),
+        Some(end) => cartridge.append(end, setup, &mut elements, update),
     }?;
     drop(progress);
     if !quiet {
-        if std::io::stderr().is_terminal() {
-            output::message(told(jobs, &summary));
+        if std::io::stderr().is_terminal() && recorded.full.is_none() {
+            output::message(told(jobs, &recorded.summary));
         }
-        output::message(format!("{}: {}", path.display(), cartridge.room()?));
+        let room = cartridge.room(setup.tail)?;
+        output::message(format!("{}: {room}", path.display()));
     }
-    tell_changed(path, elements.changed())
+    let Some(on_tape) = recorded.full else {
+        return tell_changed(path, elements.changed());
+    };
+    elements.changed().iter().for_each(output::message);
+    let full = FullTape {
+        path,
+        geometry: cartridge.image().geometry(),
+        arguments,
+        files,
+        again: &again,
+        before: earlier_jobs.jobs(),
+        reach: elements.reach(on_tape),
+    };
+    full.tell()
 }
 
-/// Refuses files that cannot be recorded from the beginning on.
+/// The frames that are kept for the end of data.
+fn tail(arguments: &Arguments) -> Result<u32, Failure> {
+    let tail = arguments.number("--tail")?.unwrap_or(TAIL);
+    if tail > LONGEST_TAIL {
+        return Err(Failure::usage(format!(
+            "--tail: give 0 to {LONGEST_TAIL} frames for the end of data"
+        )));
+    }
+    Ok(tail)
+}
+
+/// Refuses files that there is no room for from the beginning on.
 fn require_place(
     cartridge: &Cartridge,
     path: &Path,
     inputs: &[Input],
-    overwrite: bool,
+    tail: u32,
 ) -> Result<(), Failure> {
-    if !overwrite {
-        refuse_content(cartridge, path)?;
-    }
-    let room = Room::new(cartridge.image().geometry(), None).map_err(Failure::new)?;
-    refuse_too_much(&room, path, inputs, true)
+    let room = |tail| Room::new(cartridge.image().geometry(), None, tail).map_err(Failure::new);
+    refuse_too_much(&room(tail)?, &room(0)?, path, inputs, true)
 }
 
 /// Reads what the cartridge holds, if there is room behind it.
@@ -97,15 +133,16 @@ fn read_earlier_jobs(
     cartridge: &mut Cartridge,
     path: &Path,
     inputs: &[Input],
+    tail: u32,
     quiet: bool,
 ) -> Result<EarlierJobs, Failure> {
     let header = cartridge.header_for_appending()?;
-    let room = cartridge.room()?;
+    let (room, all) = (cartridge.room(tail)?, cartridge.room(0)?);
     // Whether the last job is closed is known only when all was read.
-    refuse_too_much(&room, path, inputs, true)?;
+    refuse_too_much(&room, &all, path, inputs, true)?;
     let earlier_jobs = EarlierJobs::read(cartridge, &header, quiet)?;
     if let Some(end) = earlier_jobs.end().filter(|end| !end.closed) {
-        refuse_too_much(&room, path, inputs, end.closed)?;
+        refuse_too_much(&room, &all, path, inputs, end.closed)?;
         let (shown, job) = (path.display(), end.jobs);
         output::message(format!(
             "{shown}: job {job} has no filemark at its end: one is recorded before the new jobs"
@@ -121,10 +158,12 @@ fn known_length(inputs: &[Input]) -> Option<u64> {
     })
 }
 
-/// Refuses files of known length that the cartridge has no room for. A last job
-/// there that is not closed takes a filemark besides.
+/// Refuses files of known length that the cartridge has no room for, of all that
+/// it has without a tail. A last job there that is not closed takes a filemark
+/// besides.
 fn refuse_too_much(
     room: &Room,
+    all: &Room,
     path: &Path,
     inputs: &[Input],
     closed: bool,
@@ -145,12 +184,17 @@ fn refuse_too_much(
             full.get_or_insert(input.shown().display());
         }
     }
+    let shorter = if needed > all.free() {
+        ""
+    } else {
+        "; a shorter '--tail' leaves room for them"
+    };
     match full {
         None => Ok(()),
         Some(file) => Err(Failure::new(format!(
             "{}: the files{filemark} take {} frames, and the cartridge has at most {}{what} ({}): \
              it would be full in '{file}'; nothing was changed: \
-             record fewer or smaller files, or use a larger cartridge",
+             record fewer or smaller files, or use a larger cartridge{shorter}",
             path.display(),
             grouped(needed),
             grouped(free),

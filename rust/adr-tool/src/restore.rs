@@ -15,7 +15,7 @@ use crate::failure::Failure;
 use crate::image::{refuse_itself, Access};
 use crate::interruption;
 use crate::job::reading::{Event, Verdict};
-use crate::job::{is_plain_name, torn, Closing, Description};
+use crate::job::{is_plain_name, not_whole, torn, Closing, Description};
 use crate::output;
 use crate::progress::Progress;
 use crate::record::DEPTH;
@@ -65,7 +65,7 @@ pub fn run(arguments: &Arguments) -> Result<(), Failure> {
     let mut taker = |number: u64, event: Event<'_>| restoring.take(number, &event);
     let jobs = cartridge.read_jobs(&mut taker, &mut progress)?;
     drop(progress);
-    restoring.finish(jobs)
+    restoring.finish(jobs.number)
 }
 
 fn target(arguments: &Arguments, wanted: &Wanted) -> Result<Target, Failure> {
@@ -228,21 +228,25 @@ impl Restoring<'_> {
                 Some(current) => self.keep(number, current, closing),
                 None => Ok(()),
             },
-            Verdict::Broken(why) if current.is_some() => {
-                let broken = self.failure(format!("job {number} is not whole: {why}"));
-                // Bytes that went elsewhere cannot be taken back, and others
-                // behind them would not stand where they are looked for.
-                if self.target.is_directory() {
-                    self.pass_over(broken)
-                } else {
-                    Err(broken)
-                }
-            }
+            Verdict::Broken(why) if current.is_some() => self.broken(not_whole(number, why)),
+            Verdict::Cut(cut) if current.is_some() => self.broken(not_whole(number, cut)),
             Verdict::Foreign if self.wanted.is_all() || self.wanted.has_number(number) => {
                 let foreign = format!("job {number} was not recorded by this tool");
                 self.pass_over(self.failure(foreign))
             }
-            Verdict::Broken(_) | Verdict::Foreign => Ok(()),
+            Verdict::Broken(_) | Verdict::Cut(_) | Verdict::Foreign => Ok(()),
+        }
+    }
+
+    /// Ends a job that is not whole.
+    fn broken(&mut self, why: String) -> Result<(), Failure> {
+        let broken = self.failure(why);
+        // Bytes that went elsewhere cannot be taken back, and others behind them
+        // would not stand where they are looked for.
+        if self.target.is_directory() {
+            self.pass_over(broken)
+        } else {
+            Err(broken)
         }
     }
 

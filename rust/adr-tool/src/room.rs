@@ -13,7 +13,7 @@ const FIRST: u64 = 10;
 /// The addresses between the user frames.
 const GAP: Range<u64> = 2_990..3_000;
 /// The frame that tells the end of data.
-const END_OF_DATA: u64 = 1;
+const END_OF_DATA: u32 = 1;
 /// A job's first block, its last block and its filemark.
 const AROUND_DATA: u64 = 3;
 
@@ -32,12 +32,15 @@ pub struct Room {
 }
 
 impl Room {
-    /// The room of a cartridge whose data end at this address, if it has any.
-    pub fn new(geometry: Geometry, end: Option<Address>) -> Result<Room, Refusal> {
+    /// The room of a cartridge whose data end at this address, if it has any,
+    /// for a recording that keeps so many frames for the end of data.
+    pub fn new(geometry: Geometry, end: Option<Address>, tail: u32) -> Result<Room, Refusal> {
         let behind_last = u64::from(geometry.last()?.0) + 1;
         let end = end.map_or(0, |end| u64::from(end.0));
+        // The highest address is a user frame: the end of data has room there.
+        let tail = u64::from(tail.max(END_OF_DATA));
         Ok(Room {
-            frames: user_frames_below(behind_last).saturating_sub(END_OF_DATA),
+            frames: user_frames_below(behind_last.saturating_sub(tail)),
             used: user_frames_below(end),
         })
     }
@@ -89,9 +92,17 @@ mod tests {
         }
         let geometry = Geometry::beginning(3_001, 1);
         for (end, free) in [(None, 2_980), (Some(10), 2_980), (Some(3_000), 0)] {
-            let room = Room::new(geometry, end.map(Address)).expect("a cartridge");
+            let room = Room::new(geometry, end.map(Address), 0).expect("a cartridge");
             assert_eq!((room.free(), room.is_empty()), (free, free > 0));
         }
+        let free = |tail| Room::new(geometry, None, tail).map(|room| room.free());
+        // The addresses up to 2,999 that a tail takes first are none of theirs.
+        for (tail, frames) in [(1, 2_980), (11, 2_980), (12, 2_979), (255, 2_736)] {
+            assert_eq!(free(tail), Ok(frames), "a tail of {tail}");
+        }
+        let longer = Geometry::beginning(3_020, 1);
+        let used = Room::new(longer, Some(Address(3_015)), 8).expect("a cartridge");
+        assert_eq!(used.free(), 0);
         for (length, frames) in [(0, 3), (1, 4), (32_768, 4), (32_769, 5)] {
             assert_eq!(frames_of_job(length), frames, "{length} bytes");
         }

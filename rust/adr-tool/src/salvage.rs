@@ -137,6 +137,7 @@ fn restore_job(
     match &job.state {
         State::Foreign => report.not_restored(job, "it was not recorded by this tool"),
         State::Incomplete(missing) => report.not_restored(job, &missing.to_string()),
+        State::Cut(cut) => report.not_restored(job, &cut.to_string()),
         State::Complete => match restoring.restore(job, frames) {
             Ok(Outcome::Restored(closing, name)) => report.restored(job, &closing, &name),
             Ok(Outcome::Broken(reason)) => report.not_restored(job, reason),

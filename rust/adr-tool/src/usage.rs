@@ -53,16 +53,24 @@ standard input. A recording starts at the beginning of the cartridge: one that
 holds jobs is not recorded without --overwrite, which replaces all of them, or
 --append, which adds to them.
 
-The old content stays in force until the new is whole: after a power cut, on a
-full disk or when this is interrupted, the image holds what it held before.
-Room in the file that the cartridge does not need is then given back.
+The old content stays in force until the new is whole, or closed on a full tape:
+after a power cut, on a full disk or when this is interrupted, the image holds
+what it held before. Room in the file that the cartridge does not need is then
+given back.
 
 With --append the cartridge is read to its end, and the files are recorded
 behind its jobs, with the numbers that follow. It is refused, and nothing is
 changed, where there is no recording, where the last one was not closed, where
 a reading does not come to the end that the header names, and where there is no
-room. A last job without a filemark, which only another program leaves, gets one
-first.
+room. A last job without a filemark, which another program or a full tape
+leaves, gets one first.
+
+A tape that is full before all is recorded is closed behind what it could take,
+and that is in force. Told are the jobs that are whole on it, how far the next
+one got, and which files are not on it; standard output has two commands that
+make another cartridge and record the rest there, the job that was cut off from
+its beginning. The exit status is then 1. With --tail 0, and where the end of
+data finds no place either, nothing is recorded instead.
 
 Files that cannot fit are told before anything is written. A file that changes
 while it is recorded is told, and the exit status is then 1: the recording is
@@ -77,6 +85,8 @@ in force, its other jobs are whole. Names that come again are told.
   --faults SEED   let the drive have faults, picked by this number
   --depth N       frames that the drive buffers, 1 to 255 (32)
   --window N      blocks that may wait for the drive, 1 to 64 (64)
+  --tail N        frames at the end of the tape that are kept for the end of
+                  data, 0 to 255 (8)
   --quiet         no progress and no summary on a terminal, and nothing about
                   capacity
 ";
@@ -89,6 +99,7 @@ Lists the jobs: number, bytes, when the file was last changed (UTC), name. A
 job whose file shrank or grew while it was recorded is marked. Standard error
 tells the capacity and what is free; bad spots make both less. A new recording
 has all of the capacity, for it replaces the jobs; --append has what is free.
+A job that a full tape cut off is marked too, and the exit status is then 1.
 
 A tape has no directory: the whole recording is read, to the end of data. A
 drive would take 8 minutes for each GB, 2 hours for a full cartridge of 15 GB,

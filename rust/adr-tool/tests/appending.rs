@@ -9,16 +9,15 @@ use std::process::{Child, Command, Stdio};
 use adr_model::frame::{fill_frame, Kind, Label};
 use adr_model::{Address, SequenceNumber};
 use place::image::{
-    change_headers, entries, frame_at, header_addresses, index_of, number, remove_labels,
-    seal_frame, seal_index, FRAME, ROOTS,
+    change_headers, end_of_data, entries, frame_at, header_addresses, index_of, move_frame, number,
+    remove_labels, seal_frame, tell_end, EOD, FRAME, ROOTS,
 };
 use place::{bytes, feed, Place, Ran};
 
 /// The AUX of a frame stands behind its block.
 const AUX: usize = 32_768;
-/// Where a header tells LAST and the address of EOD.
+/// Where a header tells LAST.
 const LAST: std::ops::Range<usize> = 28..32;
-const EOD: std::ops::Range<usize> = 32..36;
 /// Jobs by day; the first is recorded, the others are added.
 const DAYS: [(&str, usize); 4] = [("mon", 70_000), ("tue", 0), ("wed", 1), ("thu", 40_000)];
 /// Drives that are tried until the end of data reads on where a write failed.
@@ -107,15 +106,6 @@ fn damage_headers(image: &[u8]) -> Vec<u8> {
     damaged
 }
 
-/// Lets the frame of one address stand at another.
-fn move_frame(image: &mut [u8], from: usize, to: usize) {
-    let all = entries(image).into_iter();
-    let mut entry = all.filter(|entry| number(image, *entry) >> 32 == from);
-    let entry = entry.next().expect("an entry");
-    image[entry..entry + 4].copy_from_slice(&(to as u32).to_be_bytes());
-    seal_index(image);
-}
-
 /// Puts EOD in the place of the filemark, as a program leaves a cartridge that
 /// does not close its last job; this one has so many frames and one job. Gives
 /// the address, which the headers are yet to tell.
@@ -137,12 +127,6 @@ fn take_filemark(image: &mut [u8], frames: u32) -> usize {
     end
 }
 
-/// Lets every copy of the header tell this address of EOD.
-fn tell_end(image: &mut [u8], end: usize) {
-    let end = (end as u32).to_be_bytes();
-    change_headers(image, |header| header[EOD].copy_from_slice(&end));
-}
-
 /// Makes a file that takes so many frames for its data.
 fn write_frames(place: &Place, name: &str, frames: u64) {
     let file = File::create(place.path(name)).expect("room for a file");
@@ -156,13 +140,6 @@ fn refused_and_unchanged(place: &Place, words: &[&str], why: &str) {
     let ran = append(place, words).failed();
     assert!(ran.error.contains(why), "{}", ran.error);
     assert!(place.read("a.adr") == image, "the image was changed");
-}
-
-/// The address of EOD that the header tells.
-fn end_of_data(image: &[u8]) -> usize {
-    let header = frame_at(image, 5);
-    let told = image[header..][EOD].iter();
-    told.fold(0, |sum, byte| sum * 256 + usize::from(*byte))
 }
 
 /// The addresses where an end of data reads.
@@ -420,7 +397,9 @@ fn full_cartridges() {
     refused_and_unchanged(&place, &["more"], why);
     // The length of a pipe is not known before.
     let image = place.read("a.adr");
-    let refused = place.shell("$ADR record --append a.adr - < more").failed();
+    let refused = place
+        .shell("$ADR record --append --tail 0 a.adr - < more")
+        .failed();
     assert!(refused
         .error
         .contains("recording stopped: the tape is full"));

@@ -3,8 +3,8 @@ use mathlib.Core.Bool.{Bool, true, false, not, true≢false}
 use mathlib.Core.Path.{_≡_, refl, _∙_, sym, ap}
 use Rattle.geometry.proofs.PickLaws.{pick-t, pick-f}
 use Rattle.recording_state.specs.State.{accepting}
-use Rattle.recording_state.proofs.Sizes.{sizes-fit}
-use Rattle.adding_opening.specs.AtEnd.{openAtEndOf}
+use Rattle.recording_state.specs.declared.state.Setup.{Setup}
+use Rattle.adding_opening.specs.AtEnd.{addedSession, openAtEndOf}
 use Rattle.adding_opening.proofs.open_at_end.Statement.{statement}
 use Rattle.adding_opening.proofs.open_at_end.Tie as tie
 
@@ -74,10 +74,8 @@ returns-4 c =
     ∙ pick-f _ (sym (c .before .before .before .before .is-counted-out .ensures) ∙ c .before .before .before .if3 .left)
     ∙ pick-t _ (sym (c .before .before .ends-elsewhere .ensures) ∙ c .before .if4 .taken))
 
-sub-added-session : tie.Need-sub-added-session
-sub-added-session c =
-    let a = c .before .before .before .before .before .before .before .before .args in
-    sizes-fit (a .depth) (a .blocks) (sym (c .before .before .before .before .before .is-misfit .ensures) ∙ c .before .before .before .before .if2 .left) .0
+setup-of-requires : tie.Need-setup-of-requires
+setup-of-requires c κs = tt
 
 added-session-requires : tie.Need-added-session-requires
 added-session-requires c κs = tt
@@ -89,12 +87,12 @@ returns-5 : tie.Need-returns-5
 unfolding openAtEndOf
 returns-5 c =
     c .accepted .ensures
-    ∙ ap accepting (c .before .added-session .ensures)
+    ∙ ap accepting (c .before .added-session .ensures ∙ ap (λ (x : Setup). addedSession x (c .before .before .before .before .before .before .before .before .before .before .before .args .reading)) (c .before .before .setup-of .ensures))
     ∙ sym
-    (pick-t _ (sym (c .before .before .before .before .before .before .before .before .before .is-at-end .ensures) ∙ not-left _ (c .before .before .before .before .before .before .before .before .if1 .left))
-    ∙ pick-f _ (sym (c .before .before .before .before .before .before .before .is-misfit .ensures) ∙ c .before .before .before .before .before .before .if2 .left)
-    ∙ pick-f _ (sym (c .before .before .before .before .before .is-counted-out .ensures) ∙ c .before .before .before .before .if3 .left)
-    ∙ pick-f _ (sym (c .before .before .before .ends-elsewhere .ensures) ∙ c .before .before .if4 .left))
+    (pick-t _ (sym (c .before .before .before .before .before .before .before .before .before .before .is-at-end .ensures) ∙ not-left _ (c .before .before .before .before .before .before .before .before .before .if1 .left))
+    ∙ pick-f _ (sym (c .before .before .before .before .before .before .before .before .is-misfit .ensures) ∙ c .before .before .before .before .before .before .before .if2 .left)
+    ∙ pick-f _ (sym (c .before .before .before .before .before .before .is-counted-out .ensures) ∙ c .before .before .before .before .before .if3 .left)
+    ∙ pick-f _ (sym (c .before .before .before .before .ends-elsewhere .ensures) ∙ c .before .before .before .if4 .left))
 
 pub open-at-end-spec : {M : Type 1} → statement M
 open-at-end-spec =
@@ -112,7 +110,7 @@ open-at-end-spec =
     ends-elsewhere-requires
     refuse-opening-requires-4
     returns-4
-    sub-added-session
+    setup-of-requires
     added-session-requires
     accepted-requires
     returns-5)

@@ -7,6 +7,7 @@ use mathlib.Core.Option.{Option, none, some}
 use native.Mathlib.Nat.{mod-eq-of-lt}
 use native.Mathlib.Numerals.{add-one}
 use native.Mathlib.Omega.{arith}
+use lib.ListN.{length}
 use Rattle.geometry.specs.Cartridge.{isUser}
 use Rattle.geometry.proofs.PickLaws.{pick-by}
 use Rattle.frame.specs.declared.element.Kind.the-variants.{Marker}
@@ -22,9 +23,10 @@ use Rattle.archive.specs.Fold.{Reader, going, finished, stopped, advance
 use Rattle.archive.specs.Trails.{filemarksAmong, latestAmong}
 use Rattle.archive.proofs.tape.Marks.{mark-new, filemarks-few, filemarks-marked, filemarks-plain, latest-marked, latest-plain}
 use Rattle.archive.proofs.tape.Stands.{telling}
+use Rattle.archive.proofs.tape.StandsLaws.{item-more}
 use Rattle.archive.proofs.reading.Facts.{Counts, fold-counts}
 use Rattle.archive.proofs.recording.Trailing.{MarkerBelow, Traces}
-use Rattle.archive.proofs.recording.TrailingLaws.{below-moves, traces-map, traces-grow}
+use Rattle.archive.proofs.recording.TrailingLaws.{below-moves, traces-map, traces-alike}
 
 module _ (told : Told) (t : Tape) (small : told .last .0 + 65 < 2 ^ 32) where
   abbrev Below : ℕ → ℕ → ℕ → Type 0
@@ -43,7 +45,7 @@ module _ (told : Told) (t : Tape) (small : told .last .0 + 65 < 2 ^ 32) where
   module _ (a : ℕ) (f : List ℕ) (n : ℕ) (got : List Element) (trail : Trail) (user : isUser (told .last .0) a ≡ true) (low : a ≤ told .last .0) (reads : t a ≡ some f) (counts : Counts a (going n got trail)) (x : Traces got (Below a) n trail) where
     -- one more that was delivered
     grown : (y : Element) → Traces (got ++ y ∷ []) (Below (suc a)) n trail
-    grown y = traces-grow got (y ∷ []) (omega (arith, counts .0)) (traces-map (λ j b m. below-moves (suc a) (omega arith) m) x)
+    grown y = traces-alike got (got ++ y ∷ []) (length got) (λ i l. item-more got (y ∷ []) i l) (omega (arith, counts .0)) (traces-map (λ j b m. below-moves (suc a) (omega arith) m) x)
 
     advance-traces : (j : JudgementSaid) → judgeFrame told (record { 0 = a }) (record { 0 = n }) f ≡ j → Tracing (suc a) (advance j f a n got trail)
     advance-traces judgement.skipped e = more-tracing a (going n got trail) x
@@ -69,7 +71,7 @@ module _ (told : Told) (t : Tape) (small : told .last .0 + 65 < 2 ^ 32) where
             user = user;
             low = omega arith;
             reads = reads;
-            found = found-told told (telling (told .last .0) (told .pass) 0) refl refl (found-known Marker (subst (λ (j : JudgementSaid). JudgeView told (record { 0 = a }) (record { 0 = n }) f j) e (judge-view told (record { 0 = a }) (record { 0 = n }) f)) .0);
+            found = found-told told (telling (told .last .0) (told .pass) 0) refl refl (found-known Marker refl (subst (λ (j : JudgementSaid). JudgeView told (record { 0 = a }) (record { 0 = n }) f j) e (judge-view told (record { 0 = a }) (record { 0 = n }) f)) .0);
           });
         })
     advance-traces judgement.end e = tt

@@ -20,7 +20,7 @@ use Rattle.drive.specs.Listed.{Listed}
 use Rattle.drive.specs.Senses.{meaningOf}
 use Rattle.elements.specs.Elements as elements
 use Rattle.elements.proofs.AcceptLaws.{mark-kept, accepted-new}
-use Rattle.recording_state.specs.Accept.{acceptsNone, isFull, withElement, filemarkOf, placeOf, StoredSaid, blockOf, closeOf}
+use Rattle.recording_state.specs.Accept.{acceptsNone, isFull, isSpent, withElement, filemarkOf, placeOf, StoredSaid, blockOf, closeOf}
 use Rattle.recording_state.specs.State.{closedOf, OutcomeSaid, blocksOf, windowLength, accepting, eodDue, closingStarted, settledBy, settledOf}
 use Rattle.recording_state.specs.Window.{blockAt, putBlock}
 use Rattle.recording_state.specs.declared.state.State.{State}
@@ -28,8 +28,8 @@ use Rattle.recording_state.specs.declared.state.Stage.{Stage}
 use Rattle.recording_state.specs.declared.state.Stage.the-variants as S
 use Rattle.recording_state.proofs.BlockPlace.{place-inside}
 use Rattle.recording_state.proofs.Stages.{HeaderStage, ElementStage}
-use Rattle.archive.specs.Recordings.{World, Element, block, filemark, TakesEffect, afterBlock, afterFilemark, acceptedAfter}
-use Rattle.archive.proofs.tape.Basics.{no-effect}
+use Rattle.archive.specs.Recordings.{World, Element, promised, block, filemark, TakesEffect, afterBlock, afterFilemark, acceptedAfter}
+use Rattle.archive.proofs.tape.Basics.{no-effect, promised-all}
 use Rattle.recording_state.proofs.WindowLaws.{put-same-block, put-other-block}
 use Rattle.archive.proofs.tape.SeenLaws.{seen-accept}
 use Rattle.archive.specs.Trails.{Item, element, eod, itemAt, isMarker}
@@ -37,11 +37,11 @@ use Rattle.archive.proofs.tape.Marks.{isFilemark, mark-more, mark-new}
 use Rattle.archive.proofs.tape.Stands.{Stands, Queue, StoredAs}
 use Rattle.archive.proofs.tape.StandsLaws.{item-in, item-more}
 use Rattle.archive.proofs.recording.Trailing.{Prior, Buffered, holds, halted, Trailing}
-use Rattle.archive.proofs.recording.TrailingLaws.{traces-grow, says-grow, frames-grow, number-grow, written-grow, tape-grow}
+use Rattle.archive.proofs.recording.TrailingLaws.{traces-alike, says-alike, frames-alike, number-alike, written-alike, tape-grow}
 use Rattle.archive.proofs.recording.ElementsLink.{Writing}
 use Rattle.archive.proofs.recording.KeptAgreement.{agree-as, writing-as, writing-numbers, sent-due}
 use Rattle.archive.proofs.recording.Invariant as inv
-use Rattle.archive.proofs.recording.Invariant.{totalOf, Counted, Course, Outgoing, Content, Live, Rejecting, Inv, live, rejecting, over}
+use Rattle.archive.proofs.recording.Invariant.{totalOf, Counted, Course, Outgoing, Content, Live, Rejecting, Inv, live, rejecting, spent, over}
 use Rattle.archive.proofs.recording.Setting.{Setting}
 
 -- ---- calls that take effect
@@ -78,11 +78,12 @@ block-view s b window =
     record { is = refl; accepting-it = accepting-so s a f; full = eqb-true (length b) 32768 (lengths .0); long = eqb-true (length window) (windowLength s) (lengths .1) }))
     (λ _ te. no-effect (omega arith) (omega arith) te))
 
-pub close-view : (s : State) → TakesEffect (closeOf s .number) → (closeOf s ≡ accepting (settledOf (closedOf s))) × (s .ended ≡ false) × (s .closed ≡ false)
+pub close-view : (s : State) → isSpent s ≡ false → TakesEffect (closeOf s .number) → (closeOf s ≡ accepting (settledOf (closedOf s))) × (s .ended ≡ false) × (s .closed ≡ false)
 unfolding closeOf
-close-view s =
-    pick-by (λ (r : OutcomeSaid). TakesEffect (r .number) → (r ≡ accepting (settledOf (closedOf s))) × (s .ended ≡ false) × (s .closed ≡ false)) (acceptsNone s) (λ _ te. no-effect (omega arith) (omega arith) te)
-    (λ a te. let x = or-false (s .ended) (s .closed) a in (refl, x .0, x .1))
+close-view s unspent =
+    pick-by (λ (r : OutcomeSaid). TakesEffect (r .number) → (r ≡ accepting (settledOf (closedOf s))) × (s .ended ≡ false) × (s .closed ≡ false)) (isSpent s) (λ e. clash e unspent)
+    (λ _. pick-by (λ (r : OutcomeSaid). TakesEffect (r .number) → (r ≡ accepting (settledOf (closedOf s))) × (s .ended ≡ false) × (s .closed ≡ false)) (acceptsNone s) (λ _ te. no-effect (omega arith) (omega arith) te)
+    (λ a te. let x = or-false (s .ended) (s .closed) a in (refl, x .0, x .1)))
 
 -- ---- one element more
 
@@ -106,7 +107,7 @@ withAccepted w s window unaltered xs = record {
   window = window;
   drive = w .drive;
   flight = w .flight;
-  notes = record { accepted = xs; unaltered = unaltered; reported = w .notes .reported };
+  notes = record { accepted = xs; unaltered = unaltered; reported = w .notes .reported; givenUp = w .notes .givenUp };
 }
 
 abbrev acceptedWorld : World → State → List ℕ → Bool → Element → World
@@ -129,7 +130,7 @@ module _ {last pass : ℕ} {on-newest none-bears : Type 0} {prior : Prior} (w : 
     opening : w .session .stage ≡ S.OpeningHeaders → w .session .elements .eod ≡ false → Early k edge
     writing : w .session .stage ≡ S.Elements → w .session .elements .eod ≡ false → Writing last (w .session) (w .drive) k edge (w .flight) → Early k edge
 
-  early : {k edge : ℕ} → Course last w k edge → Early k edge
+  early : {k edge : ℕ} → Course last (length (l .list)) w k edge → Early k edge
   early (inv.opening st v t c) = opening st v
   early (inv.writing st (inv.not-yet v) a) = writing st v a
   early (inv.writing st (inv.alone v c p) a) = clash c (acc .unclosed)
@@ -153,10 +154,10 @@ module _ {last pass : ℕ} {on-newest none-bears : Type 0} {prior : Prior} (w : 
   plain-pending : (w .session .elements .pending + 1) % 2 ^ 16 ≡ w .session .elements .pending + 1
   plain-pending = mod-eq-of-lt (omega (arith, acc .room, l .counted .wide))
 
-  grown : length (w .notes .accepted ++ x ∷ []) ≡ length (w .notes .accepted) + 1
-  grown = length-append (w .notes .accepted) (x ∷ [])
+  grown : length (l .list ++ x ∷ []) ≡ length (l .list) + 1
+  grown = length-append (l .list) (x ∷ [])
 
-  counted-more : Counted last (length (w .notes .accepted ++ x ∷ [])) (withElement (w .session) mark)
+  counted-more : Counted last (length (l .list ++ x ∷ [])) (withElement (w .session) mark)
   counted-more =
       let c = l .counted in
       let held = c .held in
@@ -165,32 +166,42 @@ module _ {last pass : ℕ} {on-newest none-bears : Type 0} {prior : Prior} (w : 
         wide = c .wide;
         held = omega (arith, plain-pending);
         windowed = omega (arith, plain-pending, acc .room);
-        numbered = omega (arith, plain-pending, grown, c .numbered, total-plain (length (w .notes .accepted)) y, total-plain (length (w .notes .accepted ++ x ∷ [])) y);
+        numbered = omega (arith, plain-pending, grown, c .numbered, total-plain (length (l .list)) y, total-plain (length (l .list ++ x ∷ [])) y);
         marks = length-set (w .session .elements .marks) _ mark ∙ c .marks;
         room = c .room;
       }
 
+  -- nothing is given up: all that was accepted is promised
+  ungiven-so : w .notes .givenUp ≡ 0
+  ungiven-so = l .promises .ungiven (early-unended (early (l .course)))
+
+  all-so : l .list ≡ w .notes .accepted
+  all-so = l .promises .is ∙ promised-all (w .notes) ungiven-so
+
+  promised-so : l .list ++ x ∷ [] ≡ promised (record { accepted = w .notes .accepted ++ x ∷ []; unaltered = true; reported = true; givenUp = w .notes .givenUp })
+  promised-so = ap (λ (ys : List Element). ys ++ x ∷ []) all-so ∙ sym (promised-all (record { accepted = w .notes .accepted ++ x ∷ []; unaltered = true; reported = true; givenUp = w .notes .givenUp }) ungiven-so)
+
   more-pending : w .session .elements .pending ≤ withElement (w .session) mark .elements .pending
   more-pending = omega (arith, plain-pending)
 
-  course-more : (window : List ℕ) (unaltered : Bool) {k edge : ℕ} → Course last w k edge → Course last (acceptedWorld w (withElement (w .session) mark) window unaltered x) k edge
+  course-more : (window : List ℕ) (unaltered : Bool) {k edge : ℕ} → Course last (length (l .list)) w k edge → Course last (length (l .list ++ x ∷ [])) (acceptedWorld w (withElement (w .session) mark) window unaltered x) k edge
   course-more window unaltered (inv.opening st v t c) = inv.opening st v t (agree-as (w .session) (withElement (w .session) mark) (w .drive) refl refl c)
   course-more window unaltered {k} {edge} (inv.writing st (inv.not-yet v) a) = inv.writing st (inv.not-yet v) (writing-as last (w .session) (withElement (w .session) mark) (w .drive) k edge refl more-pending a)
   course-more window unaltered (inv.writing st (inv.alone v c p) a) = clash c (acc .unclosed)
   course-more window unaltered (inv.closing st v c a b g) = clash c (acc .unclosed)
   course-more window unaltered (inv.finished st v c a b f g h r y) = clash c (acc .unclosed)
 
-  first-small : {k edge : ℕ} → Course last w k edge → w .session .elements .first .0 + w .session .elements .pending < 2 ^ 32
+  first-small : {k edge : ℕ} → Course last (length (l .list)) w k edge → w .session .elements .first .0 + w .session .elements .pending < 2 ^ 32
   first-small (inv.opening st v t c) = omega (arith, t .first-is, t .spread, t .roof, acc .room, l .counted .wide, set .small)
   first-small (inv.writing st v a) = let n = writing-numbers (l .counted .held) a in omega (arith, n .low, acc .room, l .counted .wide, set .small)
   first-small (inv.closing st v c a b g) = clash c (acc .unclosed)
   first-small (inv.finished st v c a b f g h r y) = clash c (acc .unclosed)
 
-  count-is : w .session .elements .first .0 + w .session .elements .pending ≡ length (w .notes .accepted)
-  count-is = l .counted .numbered ∙ total-plain (length (w .notes .accepted)) (early (l .course))
+  count-is : w .session .elements .first .0 + w .session .elements .pending ≡ length (l .list)
+  count-is = l .counted .numbered ∙ total-plain (length (l .list)) (early (l .course))
 
   -- what is on tape was accepted
-  k-low : {k edge : ℕ} → Course last w k edge → k ≤ length (w .notes .accepted)
+  k-low : {k edge : ℕ} → Course last (length (l .list)) w k edge → k ≤ length (l .list)
   k-low (inv.opening st v t c) = omega (arith, t .first-is, count-is)
   k-low (inv.writing st v a) = let n = writing-numbers (l .counted .held) a in omega (arith, n .most, count-is)
   k-low (inv.closing st v c a b g) = clash c (acc .unclosed)
@@ -204,15 +215,15 @@ module _ {last pass : ℕ} {on-newest none-bears : Type 0} {prior : Prior} (w : 
       go q (writing o _ a) = a
 
   -- the frames stand for what they stood for
-  outgoing-more : (window : List ℕ) (unaltered : Bool) → Outgoing last pass w (l .k) → Outgoing last pass (acceptedWorld w (withElement (w .session) mark) window unaltered x) (l .k)
+  outgoing-more : (window : List ℕ) (unaltered : Bool) → Outgoing last pass (l .list) w (l .k) → Outgoing last pass (l .list ++ x ∷ []) (acceptedWorld w (withElement (w .session) mark) window unaltered x) (l .k)
   outgoing-more window unaltered f = record {
-    queue = λ st free. queue-grow last pass (w .notes .accepted) (x ∷ []) (l .k) (w .drive .buffer) (omega (arith, writing-numbers (l .counted .held) (writing-of st) .fits free, count-is)) (f .queue st free);
+    queue = λ st free. queue-grow last pass (l .list) (x ∷ []) (l .k) (w .drive .buffer) (omega (arith, writing-numbers (l .counted .held) (writing-of st) .fits free, count-is)) (f .queue st free);
     sent = λ a g st q.
         let due = sent-due (subst (Writing last (w .session) (w .drive) (l .k) (l .edge)) q (writing-of st)) in
-        subst (λ (y : Item). Stands last pass y (w .session .elements .first .0 + w .session .elements .outstanding) g) (sym (item-more (w .notes .accepted) (x ∷ []) (w .session .elements .first .0 + w .session .elements .outstanding) (omega (arith, count-is)))) (f .sent a g st q);
+        subst (λ (y : Item). Stands last pass y (w .session .elements .first .0 + w .session .elements .outstanding) g) (sym (item-more (l .list) (x ∷ []) (w .session .elements .first .0 + w .session .elements .outstanding) (omega (arith, count-is)))) (f .sent a g st q);
   }
 
-  module _ (window : List ℕ) (c : Content last pass w (l .k) (l .edge)) (g : Gains (w .session) (w .window) window x (elements.acceptedOf (w .session .elements) mark .marks)) where
+  module _ (window : List ℕ) (c : Content last pass (l .list) w (l .k) (l .edge)) (g : Gains (w .session) (w .window) window x (elements.acceptedOf (w .session .elements) mark .marks)) where
     -- an item that was pending stays as it was stored
     stays : (y : Item) (i : ℕ) → i < w .session .elements .pending → StoredAs y (w .window) (w .session .elements .marks) (blocksOf (w .session)) (w .session .elements .first .0 + i)
         → StoredAs y window (elements.acceptedOf (w .session .elements) mark .marks) (blocksOf (w .session)) (w .session .elements .first .0 + i)
@@ -221,73 +232,77 @@ module _ {last pass : ℕ} {on-newest none-bears : Type 0} {prior : Prior} (w : 
     stays (element filemark) i h old = mark-kept (w .session .elements .marks) (w .session .elements .first .0) i (w .session .elements .pending) mark h (omega (arith, acc .room, l .counted .wide)) ∙ old
     stays eod i h old = tt
 
-    new-item : itemAt (w .notes .accepted ++ x ∷ []) (w .session .elements .first .0 + w .session .elements .pending) ≡ element x
+    new-item : itemAt (l .list ++ x ∷ []) (w .session .elements .first .0 + w .session .elements .pending) ≡ element x
     new-item =
         let n = w .session .elements .first .0 + w .session .elements .pending in
-        item-in (w .notes .accepted ++ x ∷ []) n (omega (arith, count-is, grown)) ∙ ap element (getD-at (w .notes .accepted) x [] filemark n (sym count-is))
+        item-in (l .list ++ x ∷ []) n (omega (arith, count-is, grown)) ∙ ap element (getD-at (l .list) x [] filemark n (sym count-is))
 
     stored-more : (i : ℕ) → i < withElement (w .session) mark .elements .pending
-        → StoredAs (itemAt (w .notes .accepted ++ x ∷ []) (w .session .elements .first .0 + i)) window (elements.acceptedOf (w .session .elements) mark .marks) (blocksOf (w .session)) (w .session .elements .first .0 + i)
+        → StoredAs (itemAt (l .list ++ x ∷ []) (w .session .elements .first .0 + i)) window (elements.acceptedOf (w .session .elements) mark .marks) (blocksOf (w .session)) (w .session .elements .first .0 + i)
     stored-more i h = go (eq-or-lt-of-le upper)
       where
         upper : i ≤ w .session .elements .pending
         upper = omega (arith, plain-pending)
 
         go : (i ≡ w .session .elements .pending) ⊎ (i < w .session .elements .pending)
-            → StoredAs (itemAt (w .notes .accepted ++ x ∷ []) (w .session .elements .first .0 + i)) window (elements.acceptedOf (w .session .elements) mark .marks) (blocksOf (w .session)) (w .session .elements .first .0 + i)
+            → StoredAs (itemAt (l .list ++ x ∷ []) (w .session .elements .first .0 + i)) window (elements.acceptedOf (w .session .elements) mark .marks) (blocksOf (w .session)) (w .session .elements .first .0 + i)
         go (inl same) =
-            subst (λ (j : ℕ). StoredAs (itemAt (w .notes .accepted ++ x ∷ []) (w .session .elements .first .0 + j)) window (elements.acceptedOf (w .session .elements) mark .marks) (blocksOf (w .session)) (w .session .elements .first .0 + j)) (sym same)
+            subst (λ (j : ℕ). StoredAs (itemAt (l .list ++ x ∷ []) (w .session .elements .first .0 + j)) window (elements.acceptedOf (w .session .elements) mark .marks) (blocksOf (w .session)) (w .session .elements .first .0 + j)) (sym same)
             (subst (λ (y : Item). StoredAs y window (elements.acceptedOf (w .session .elements) mark .marks) (blocksOf (w .session)) (w .session .elements .first .0 + w .session .elements .pending)) (sym new-item) (g .gains))
         go (inr low) =
-            subst (λ (y : Item). StoredAs y window (elements.acceptedOf (w .session .elements) mark .marks) (blocksOf (w .session)) (w .session .elements .first .0 + i)) (sym (item-more (w .notes .accepted) (x ∷ []) (w .session .elements .first .0 + i) (omega (arith, count-is))))
-            (stays (itemAt (w .notes .accepted) (w .session .elements .first .0 + i)) i low (c .stored i low))
+            subst (λ (y : Item). StoredAs y window (elements.acceptedOf (w .session .elements) mark .marks) (blocksOf (w .session)) (w .session .elements .first .0 + i)) (sym (item-more (l .list) (x ∷ []) (w .session .elements .first .0 + i) (omega (arith, count-is))))
+            (stays (itemAt (l .list) (w .session .elements .first .0 + i)) i low (c .stored i low))
 
-    content-more : (unaltered : Bool) → Content last pass (acceptedWorld w (withElement (w .session) mark) window unaltered x) (l .k) (l .edge)
+    content-more : (unaltered : Bool) → Content last pass (l .list ++ x ∷ []) (acceptedWorld w (withElement (w .session) mark) window unaltered x) (l .k) (l .edge)
     content-more unaltered =
         record {
           tape = c .tape;
-          seen = seen-accept x (k-low (l .course)) (c .seen);
+          seen = seen-accept x all-so (k-low (l .course)) (c .seen);
           stored = stored-more;
         }
 
   -- the filemarks before each frame stay
-  trailing-more : mark ≡ isMarker (element x) → Trailing last pass prior (w .notes .accepted ++ x ∷ []) (w .session .stage) (elements.acceptedOf (w .session .elements) mark) (w .drive) (w .flight) (l .k) (l .edge)
+  trailing-more : mark ≡ isMarker (element x) → Trailing last pass prior (l .list ++ x ∷ []) (w .notes .accepted ++ x ∷ []) (w .session .stage) (elements.acceptedOf (w .session .elements) mark) (w .drive) (w .flight) (l .k) (l .edge)
   trailing-more same =
-      let xs = w .notes .accepted in
+      let xs = l .list in
       let y = l .trailing in
       record {
         from = y .from;
+        prefix = λ i _. ap (λ (ys : List Element). itemAt (ys ++ x ∷ []) i) (sym all-so);
         marked = λ i h. marked i (eq-or-lt-of-le (let z : i ≤ w .session .elements .pending = omega (arith, plain-pending) in z));
-        trail = traces-grow xs (x ∷ []) (omega (arith, count-is)) (y .trail);
-        written = λ j own h. written-grow xs (x ∷ []) (let z = k-low (l .course) in omega arith) (y .written j own h);
-        behind = λ st j a low high q. number-grow xs (x ∷ []) (let z = k-low (l .course) in omega arith) (y .behind st j a low high q);
+        trail = traces-alike xs (xs ++ x ∷ []) (length xs) (item-more xs (x ∷ [])) (omega (arith, count-is)) (y .trail);
+        written = λ j own h. written-alike xs (xs ++ x ∷ []) (length xs) (item-more xs (x ∷ [])) (let z = k-low (l .course) in omega arith) (y .written j own h);
+        behind = λ st j a low high q. number-alike xs (xs ++ x ∷ []) (length xs) (item-more xs (x ∷ [])) (let z = k-low (l .course) in omega arith) (y .behind st j a low high q);
         queue = λ st. buffered (y .queue st);
         sent = λ a f st q.
             let due = sent-due (subst (Writing last (w .session) (w .drive) (l .k) (l .edge)) q (writing-of st)) in
-            says-grow xs (x ∷ []) (omega (arith, count-is)) (y .sent a f st q);
-        tape = λ s t. tape-grow xs (x ∷ []) (omega (arith, grown)) (y .tape s t);
+            says-alike xs (xs ++ x ∷ []) (length xs) (item-more xs (x ∷ [])) (omega (arith, count-is)) (y .sent a f st q);
+        tape = λ s t. tape-grow xs (w .notes .accepted) (xs ++ x ∷ []) (w .notes .accepted ++ x ∷ []) (item-more (w .notes .accepted) (x ∷ [])) (omega (arith, ap length all-so)) (omega (arith, grown)) (y .tape s t);
       }
     where
-      buffered : Buffered last pass prior (w .notes .accepted) (w .session .elements) (w .drive) (l .k) (l .edge)
-          → Buffered last pass prior (w .notes .accepted ++ x ∷ []) (elements.acceptedOf (w .session .elements) mark) (w .drive) (l .k) (l .edge)
-      buffered (holds fits fs) = holds (omega (arith, plain-pending)) (frames-grow (w .notes .accepted) (x ∷ []) last pass _ (l .k) (w .drive .buffer) (omega (arith, count-is)) fs)
+      buffered : Buffered last pass prior (l .list) (w .session .elements) (w .drive) (l .k) (l .edge)
+          → Buffered last pass prior (l .list ++ x ∷ []) (elements.acceptedOf (w .session .elements) mark) (w .drive) (l .k) (l .edge)
+      buffered (holds fits fs) = holds (omega (arith, plain-pending)) (frames-alike (l .list) (l .list ++ x ∷ []) (length (l .list)) (item-more (l .list) (x ∷ [])) last pass _ (l .k) (w .drive .buffer) (omega (arith, count-is)) fs)
       buffered (halted f z) = halted f z
 
       marked : (i : ℕ) → (i ≡ w .session .elements .pending) ⊎ (i < w .session .elements .pending)
-          → getD (elements.acceptedOf (w .session .elements) mark .marks) ((w .session .elements .first .0 + i) % 64) false ≡ isFilemark (w .notes .accepted ++ x ∷ []) (w .session .elements .first .0 + i)
+          → getD (elements.acceptedOf (w .session .elements) mark .marks) ((w .session .elements .first .0 + i) % 64) false ≡ isFilemark (l .list ++ x ∷ []) (w .session .elements .first .0 + i)
       marked i (inl here) =
-          subst (λ (j : ℕ). getD (elements.acceptedOf (w .session .elements) mark .marks) ((w .session .elements .first .0 + j) % 64) false ≡ isFilemark (w .notes .accepted ++ x ∷ []) (w .session .elements .first .0 + j)) (sym here)
-          (accepted-new (w .session .elements) mark (l .counted .marks) ∙ same ∙ sym (mark-new (w .notes .accepted) x (w .session .elements .first .0 + w .session .elements .pending) count-is))
+          subst (λ (j : ℕ). getD (elements.acceptedOf (w .session .elements) mark .marks) ((w .session .elements .first .0 + j) % 64) false ≡ isFilemark (l .list ++ x ∷ []) (w .session .elements .first .0 + j)) (sym here)
+          (accepted-new (w .session .elements) mark (l .counted .marks) ∙ same ∙ sym (mark-new (l .list) x (w .session .elements .first .0 + w .session .elements .pending) count-is))
       marked i (inr low) =
           mark-kept (w .session .elements .marks) (w .session .elements .first .0) i (w .session .elements .pending) mark low (omega (arith, acc .room, l .counted .wide))
           ∙ l .trailing .marked i low
-          ∙ sym (mark-more (w .notes .accepted) (x ∷ []) (w .session .elements .first .0 + i) (omega (arith, count-is)))
+          ∙ sym (mark-more (l .list) (x ∷ []) (w .session .elements .first .0 + i) (omega (arith, count-is)))
 
   live-more : mark ≡ isMarker (element x) → (window : List ℕ) (unaltered : Bool) → (unaltered ≡ true → (w .notes .unaltered ≡ true) × Gains (w .session) (w .window) window x (elements.acceptedOf (w .session .elements) mark .marks))
       → Live last pass on-newest none-bears prior (acceptedWorld w (withElement (w .session) mark) window unaltered x)
   live-more same window unaltered gain = record {
     k = l .k;
     edge = l .edge;
+    list = l .list ++ x ∷ [];
+    floor = (l .floor .0, omega (arith, l .floor .1, grown));
+    promises = record { is = promised-so; ungiven = λ _. ungiven-so; aimed = l .promises .aimed };
     going = l .going;
     counted = counted-more;
     carried = l .carried;
@@ -324,6 +339,7 @@ keeps-filemark {last} {pass} {on-newest} {none-bears} {prior} w set i te =
     go acc (live wr l) =
         live wr (live-more w set l true filemark acc refl (w .window) (w .notes .unaltered) (λ u. (u, record { keeps = λ _ _. refl; gains = accepted-new (w .session .elements) true (l .counted .marks) })))
     go acc (rejecting wr d) = rejecting wr (rejecting-more w (withElement (w .session) true) (w .window) (w .notes .unaltered) filemark d refl refl refl refl)
+    go acc (spent wr y) = clash (y .ended) (acc .going)
     go acc (over wr o) = clash (o .ended) (acc .going)
 
 pub keeps-block : {last pass : ℕ} {on-newest none-bears : Type 0} {prior : Prior} (w : World) (b lent : List ℕ) → Setting last pass → Inv last pass on-newest none-bears prior w → TakesEffect (blockOf (w .session) b lent .result .number) → Inv last pass on-newest none-bears prior (afterBlock w b lent)
@@ -358,6 +374,7 @@ keeps-block {last} {pass} {on-newest} {none-bears} {prior} w b lent set i te =
           },
         )))
     go v (rejecting wr d) = rejecting wr (rejecting-more w (withElement (w .session) false) (putBlock lent (placeOf (w .session)) b) (w .notes .unaltered && agree lent (w .window)) (block b) d refl refl refl refl)
+    go v (spent wr y) = clash (y .ended) (v .accepting-it .going)
     go v (over wr o) = clash (o .ended) (v .accepting-it .going)
 
 -- ---- close

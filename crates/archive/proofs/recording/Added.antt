@@ -6,7 +6,7 @@ use mathlib.Core.List.{List}
 use mathlib.Core.Logic.{_⊎_, inl, inr, ⊎-elim}
 use mathlib.Core.Option.{some}
 use native.Mathlib.Decide.{decLe}
-use native.Mathlib.Nat.{le-refl, eq-or-lt-of-le, mod-eq-of-lt}
+use native.Mathlib.Nat.{le-refl, le-trans, eq-or-lt-of-le, mod-eq-of-lt}
 use native.Mathlib.Omega.{arith}
 use borrow.Author.Tests.{ltb-false, lt-ltb, eqb-true, eqb-false}
 use lib.Dec.{eqb}
@@ -16,18 +16,18 @@ use Rattle.geometry.specs.Cartridge.{isUser}
 use Rattle.geometry.proofs.PickLaws.{pick-by}
 use Rattle.geometry.proofs.TestLaws.{or-false, and-true}
 use Rattle.geometry.proofs.UserFrames.{user-ranges}
-use Rattle.buffer.specs.Bytes.{get16}
+use Rattle.buffer.specs.Bytes.{get16, get32}
 use Rattle.frame.specs.declared.element.Kind.the-variants.{Marker, Eod}
 use Rattle.frame.specs.declared.trail.Trail.{Trail}
 use Rattle.header.specs.Valid.{updateOf, headerOf}
 use Rattle.judgement.specs.Judgement as judgement
 use Rattle.judgement.specs.Judgement.{endsFrom, judgeFrame}
 use Rattle.judgement.specs.declared.told.Told.{Told}
-use Rattle.judgement.proofs.Facts.{FoundAs}
-use Rattle.judgement.proofs.JudgeLaws.{below-so, earlier-so, found-told, other-pass}
+use Rattle.judgement.proofs.Facts.{Typed, FoundAs}
+use Rattle.judgement.proofs.JudgeLaws.{below-so, earlier-so, unnamed, other-pass}
 use Rattle.carried_headers.specs.Carried.{isCountedOut, addedTo}
 use Rattle.recording_state.specs.State.{OutcomeSaid, accepting}
-use Rattle.recording_state.specs.Open.{isMisfit}
+use Rattle.recording_state.specs.Open.{setupOf, isMisfit}
 use Rattle.recording_state.specs.declared.state.State.{State}
 use Rattle.recording_state.proofs.Sizes.{sizes-fit}
 use Rattle.reading_state.specs.State.{isAtEnd, endOf}
@@ -55,14 +55,14 @@ use Rattle.archive.proofs.recording.Start.{Started, refused-accepting}
 
 -- ---- an opening that was accepted
 
-pub record AddedView (r : Reading) (depth blocks : ℕ) (s : State) : Type 0 where
+pub record AddedView (r : Reading) (depth blocks tail : ℕ) (s : State) : Type 0 where
   pub finished-is : r .finished ≡ true
   pub going-on : r .ended ≡ false
   pub few : blocks ≤ 64
   pub counts : r .told .update ≤ 4294967293
   pub some-end : r .told .eod .0 ≡ 0 → ⊥
   pub named : r .told .eod .0 ≡ endOf r .0
-  pub is : addedSession depth (blocks - 1) r ≡ s
+  pub is : addedSession (setupOf depth blocks tail) r ≡ s
 
 not-true : (b : Bool) → not b ≡ true → b ≡ false
 not-true true e = absurd (true≢false (sym e))
@@ -78,9 +78,9 @@ at-end-facts r at =
     let idle = or-false (r .ended || r .exchange .awaiting) (r .exchange .again) (not-true _ (ends .1)) in
     (ends .0, or-false (r .ended) (r .exchange .awaiting) (idle .0) .0)
 
-pub added-view : (r : Reading) (depth blocks : ℕ) (s : State) → openAtEndOf r depth blocks ≡ accepting s → AddedView r depth blocks s
+pub added-view : (r : Reading) (depth blocks tail : ℕ) (s : State) → openAtEndOf r depth blocks tail ≡ accepting s → AddedView r depth blocks tail s
 unfolding openAtEndOf
-added-view r depth blocks s =
+added-view r depth blocks tail s =
     pick-by View (isAtEnd r)
     (λ at. pick-by View (isMisfit depth blocks) (λ _ q. refused-accepting 4 (omega arith) q)
     (λ fit. pick-by View (isCountedOut (r .told .update)) (λ _ q. refused-accepting 5 (omega arith) q)
@@ -100,7 +100,7 @@ added-view r depth blocks s =
     (λ _ q. refused-accepting 7 (omega arith) q)
   where
     View : OutcomeSaid → Type 0
-    View x = x ≡ accepting s → AddedView r depth blocks s
+    View x = x ≡ accepting s → AddedView r depth blocks tail s
 
 -- ---- what bears the pass at the start
 
@@ -134,7 +134,7 @@ module _ (told : Told) (last : ℕ) (t : Tape) (r : Reading) (earlier : List Ele
   end-zone : (end-at ≤ 2990) ⊎ (3000 ≤ end-at)
   end-zone = ⊎-elim (λ h. let x = h .1 in inl (omega arith)) (λ h. inr (h .0)) (user-ranges last end-at end-user)
 
-  module _ (depth blocks : ℕ) (s : State) (v : AddedView r depth blocks s) where
+  module _ (depth blocks tail : ℕ) (s : State) (v : AddedView r depth blocks tail s) where
     told-update : r .told .update ≡ told .update
     told-update = ap (λ (x : Told). x .update) (ended .told-is)
 
@@ -143,8 +143,7 @@ module _ (told : Told) (last : ℕ) (t : Tape) (r : Reading) (earlier : List Ele
 
     pub added-started : told .pass ≤ 65534 → Started last earlier end-at s
     added-started low = record {
-      depth = depth;
-      highest = blocks - 1;
+      setup = setupOf depth blocks tail;
       header = addedTo (r .told .last) (r .told .pass) (r .told .update) (endOf r);
       number = r .expected;
       trail = r .trail;
@@ -210,14 +209,15 @@ module _ (told : Told) (last : ℕ) (t : Tape) (r : Reading) (earlier : List Ele
     seen-before : foldOf (unending last (told .pass)) t end-at ≡ going (r .expected .0) earlier (r .trail)
     seen-before =
         fold-alike (unending last (told .pass)) told (sym last-is) refl t end-at
-        (λ a l. lt-ltb a (endsFrom (unending last (told .pass))) (omega (arith, ends-telling last (told .pass) (last + 1), end-low)) ∙ sym (lt-ltb a (endsFrom told) (omega (arith, ends-is))))
+        (λ a l. (omega (arith, ends-telling last (told .pass) (last + 1), end-low), omega (arith, ends-is)))
         ∙ ended .so-far
 
-    -- at the old end stands the EOD that the reading ended at
-    old-eod : FoundAs (unending last (told .pass)) (r .expected) Eod (here .frame)
+    -- at the old end stands the EOD that the reading ended at, with the next number or one below
+    old-eod : Typed told Eod (here .frame) × (get32 (drop 32768 (here .frame)) 44 ≤ r .expected .0)
     old-eod =
         let same : here .number ≡ r .expected .0 = number-same (sym (here .before) ∙ ended .so-far) in
-        found-told told (unending last (told .pass)) last-is refl (subst (λ (n : ℕ). FoundAs told (record { 0 = n }) Eod (here .frame)) same (ends-known here .0))
+        let known = ends-known here in
+        (known .0, subst (λ (n : ℕ). get32 (drop 32768 (here .frame)) 44 ≤ n) same (known .1))
       where
         number-same : {n m : ℕ} {x y : List Element} {a b : Trail} → going n x a ≡ going m y b → n ≡ m
         number-same e = cc
@@ -233,22 +233,26 @@ module _ (told : Told) (last : ℕ) (t : Tape) (r : Reading) (earlier : List Ele
             some-is z = cc
 
         at-end : (end-at ≡ b) ⊎ (end-at < b) → ⊥
-        at-end (inl at) = let z : _≡_ {A = ℕ} 0x0100 0x0200 = sym (old-eod .typed .type) ∙ ap (λ (x : List ℕ). get16 (drop 32768 x) 16) (same at) ∙ q .typed .type in omega arith
+        at-end (inl at) = let z : _≡_ {A = ℕ} 0x0100 0x0200 = sym (old-eod .0 .type) ∙ ap (λ (x : List ℕ). get16 (drop 32768 x) 16) (same at) ∙ q .typed .type in omega arith
         at-end (inr above) = none b f u above e (q .typed .written)
 
         go : Dec (end-at ≤ b) → b < end-at
         go (yes l) = absurd (at-end (eq-or-lt-of-le l))
         go (no l) = omega arith
 
+    old-typed : Typed (unending last (told .pass)) Eod (here .frame)
+    old-typed = let t = old-eod .0 in record { long = t .long; format = t .format; type = t .type; partition = t .partition; written = t .written }
+
+    old-early : (a : ℕ) → end-at ≡ a → a < endsFrom (unending last (told .pass))
+    old-early a e = omega (arith, ends-telling last (told .pass) (last + 1), end-low)
+
     quiet-there : Cartridge last t → NoneAbove last t end-at (told .pass) → Quiet last (told .pass) (length earlier) end-at t
     quiet-there cart none a f l u e i base = go (eq-or-lt-of-le l)
       where
-        eod-quiet : (end-at ≡ a) → (r .expected .0 ≡ i) ⊎ (r .expected .0 < i) → judgeFrame (unending last (told .pass)) (record { 0 = a }) (record { 0 = i }) (here .frame) ≡ judgement.skipped
-        eod-quiet at (inl same) =
-            earlier-so (unending last (told .pass)) (record { 0 = a }) (record { 0 = i }) (here .frame) (old-eod .typed) (old-eod .number ∙ same)
-            (omega (arith, ends-telling last (told .pass) (last + 1), end-low))
+        eod-quiet : (end-at ≡ a) → (get32 (drop 32768 (here .frame)) 44 ≡ i) ⊎ (get32 (drop 32768 (here .frame)) 44 < i) → judgeFrame (unending last (told .pass)) (record { 0 = a }) (record { 0 = i }) (here .frame) ≡ judgement.skipped
+        eod-quiet at (inl same) = earlier-so (unending last (told .pass)) (record { 0 = a }) (record { 0 = i }) (here .frame) old-typed same (old-early a at)
         eod-quiet at (inr above) =
-            below-so (unending last (told .pass)) (record { 0 = a }) (record { 0 = i }) (here .frame) Eod (old-eod .typed) (subst (λ (n : ℕ). n < i) (sym (old-eod .number)) above)
+            below-so (unending last (told .pass)) (record { 0 = a }) (record { 0 = i }) (here .frame) Eod (unnamed (unending last (told .pass)) (record { 0 = a }) (old-early a at) Eod) old-typed above
 
         frame-is : end-at ≡ a → here .frame ≡ f
         frame-is at = some-same (sym (here .reads) ∙ ap t at ∙ e)
@@ -257,17 +261,20 @@ module _ (told : Told) (last : ℕ) (t : Tape) (r : Reading) (earlier : List Ele
             some-same q = cc
 
         go : (end-at ≡ a) ⊎ (end-at < a) → judgeFrame (unending last (told .pass)) (record { 0 = a }) (record { 0 = i }) f ≡ judgement.skipped
-        go (inl at) = subst (λ (x : List ℕ). judgeFrame (unending last (told .pass)) (record { 0 = a }) (record { 0 = i }) x ≡ judgement.skipped) (frame-is at) (eod-quiet at (eq-or-lt-of-le (omega (arith, count-is))))
+        go (inl at) = subst (λ (x : List ℕ). judgeFrame (unending last (told .pass)) (record { 0 = a }) (record { 0 = i }) x ≡ judgement.skipped) (frame-is at) (eod-quiet at (eq-or-lt-of-le (le-trans (old-eod .1) (omega (arith, count-is)))))
         go (inr above) = other-pass (unending last (told .pass)) (record { 0 = a }) (record { 0 = i }) f (cart .long a f e) (none a f u above e)
 
-    pub added-seen : Cartridge last t → NoneAbove last t end-at (told .pass) → Seen last (told .pass) earlier (length earlier) end-at t
+    pub added-seen : Cartridge last t → NoneAbove last t end-at (told .pass) → Seen last (told .pass) earlier earlier (length earlier) end-at t
     added-seen cart none = record {
       base = length earlier;
       m = length earlier;
       floor = le-refl (length earlier);
       low = inl (le-refl (length earlier));
       high = omega arith;
+      most = omega arith;
       top = le-refl (length earlier);
+      few = le-refl (length earlier);
+      prefix = λ i h. refl;
       seen = has (r .trail) (seen-before ∙ ap (λ (n : ℕ). going n earlier (r .trail)) (sym count-is) ∙ ap (λ (x : List Element). going (length earlier) x (r .trail)) (sym (take-length earlier)));
       quiet = quiet-there cart none;
     }

@@ -1,7 +1,7 @@
 -- What a recording that reported done leaves, and that a reading opens on it. Assumes nothing.
 use Prim.Native.Nat.{ℕ, _+_, _^_, _≤_, _<_}
 use mathlib.Core.Path.{_≡_, sym, ap, subst, _∙_}
-use mathlib.Core.Bool.{true, true≢false, _||_}
+use mathlib.Core.Bool.{true, true≢false, _||_, false}
 use mathlib.Core.List.{List}
 use mathlib.Core.Logic.{_⊎_, inl, inr, ⊎-elim}
 use native.Mathlib.Omega.{arith}
@@ -10,9 +10,9 @@ use lib.Dec.{eqb}
 use lib.ListN.{length}
 use Rattle.geometry.specs.Place.{asAddress, address}
 use Rattle.geometry.specs.Cartridge.{isUser, lastOf}
-use Rattle.geometry.proofs.TestLaws.{or-true}
+use Rattle.geometry.proofs.TestLaws.{or-true, and-true}
 use Rattle.geometry.proofs.PickLaws.{pick-f}
-use Rattle.geometry.proofs.Impossible.{never}
+use Rattle.geometry.proofs.Impossible.{never, clash}
 use Rattle.judgement.specs.Judgement.{endsFrom}
 use Rattle.geometry.specs.declared.cartridge.Geometry.{Geometry}
 use Rattle.geometry.proofs.UserFrames.{User, user-ranges}
@@ -24,17 +24,21 @@ use Rattle.header.specs.Read.{CheckedSaid}
 use Rattle.header.proofs.ReadLaws.{valid-taken}
 use Rattle.header.proofs.AsRead.{read-valid, read-update, read-fields}
 use Rattle.header.proofs.Built.{built-valid, built-update, built-fields}
+use Rattle.recording_state.specs.Accept.{isSpent}
+use Rattle.recording_state.specs.State.{givenUpOf}
 use Rattle.archive.specs.Tape.{Tape, Cartridge}
 use Rattle.recording_state.specs.declared.state.Stage.the-variants as S
 use Rattle.reading_state.specs.Open as reading
 use Rattle.archive.specs.Conduct.{AtRest}
 use Rattle.archive.specs.Headers.{HeaderAt, Newest}
-use Rattle.archive.specs.Recordings.{World}
+use Rattle.archive.specs.Recordings as recordings
+use Rattle.archive.specs.Recordings.{World, Element, promised}
+use Rattle.archive.proofs.tape.Basics.{none-answered}
 use Rattle.archive.proofs.tape.Seen.{Seen}
 use Rattle.archive.proofs.tape.Closed.{seen-closed}
 use Rattle.archive.proofs.recording.Trailing.{Prior}
 use Rattle.archive.proofs.recording.HeaderCopies.{Carried, Copy, Below}
-use Rattle.archive.proofs.recording.Invariant.{Course, opening, writing, closing, finished, Content, Live, live, rejecting, over, Inv}
+use Rattle.archive.proofs.recording.Invariant.{Course, opening, writing, closing, finished, Content, Live, gaveUp, live, rejecting, spent, over, Inv}
 use Rattle.archive.proofs.recording.Setting.{Setting, HeadersLeft, Leaves}
 
 -- ---- a copy of the header
@@ -107,7 +111,7 @@ module _ {last pass spare : ℕ} (set : Setting last pass) (h : Header) (c : Car
 -- ---- done
 
 module _ {last pass : ℕ} {on-newest none-bears : Type 0} {prior : Prior} {w : World} (set : Setting last pass) (l : Live last pass on-newest none-bears prior w) (done : w .session .stage ≡ S.Done) where
-  headers-left : on-newest → Course last w (l .k) (l .edge) → HeadersLeft last pass none-bears (length (w .notes .accepted)) (w .drive .tape)
+  headers-left : on-newest → Course last (length (l .list)) w (l .k) (l .edge) → HeadersLeft last pass none-bears (length (l .list)) (w .drive .tape)
   headers-left p (opening s _ _ _) = never (cc)
   headers-left p (writing s _ _) = never (cc)
   headers-left p (closing s _ _ _ _ _) = never (cc)
@@ -120,36 +124,66 @@ module _ {last pass : ℕ} {on-newest none-bears : Type 0} {prior : Prior} {w : 
     ends = l .eod-place .named (inr s);
   }
 
-  -- all that was accepted is seen, and EOD behind it
-  all-seen : Content last pass w (l .k) (l .edge) → Course last w (l .k) (l .edge) → Seen last pass (w .notes .accepted) (length (w .notes .accepted) + 1) (last + 1) (w .drive .tape)
+  -- all that is promised is seen, and EOD behind it
+  all-seen : Content last pass (l .list) w (l .k) (l .edge) → Course last (length (l .list)) w (l .k) (l .edge) → Seen last pass (l .list) (w .notes .accepted) (length (l .list) + 1) (last + 1) (w .drive .tape)
   all-seen content (opening s _ _ _) = never (cc)
   all-seen content (writing s _ _) = never (cc)
   all-seen content (closing s _ _ _ _ _) = never (cc)
   all-seen content (finished _ v _ k edge _ _ _ _ _) =
-      subst (λ (n : ℕ). Seen last pass (w .notes .accepted) n (last + 1) (w .drive .tape)) k (subst (λ (n : ℕ). Seen last pass (w .notes .accepted) (l .k) n (w .drive .tape)) edge (content .seen))
+      subst (λ (n : ℕ). Seen last pass (l .list) (w .notes .accepted) n (last + 1) (w .drive .tape)) k (subst (λ (n : ℕ). Seen last pass (l .list) (w .notes .accepted) (l .k) n (w .drive .tape)) edge (content .seen))
 
 module _ {last pass : ℕ} {on-newest none-bears : Type 0} {prior : Prior} (w : World) (set : Setting last pass) where
-  pub closes : Inv last pass on-newest none-bears prior w → on-newest → w .notes .reported ≡ true → HeadersLeft last pass none-bears (length (w .notes .accepted)) (w .drive .tape)
-  closes (live _ l) newest reported = headers-left set l (l .reported reported) newest (l .course)
+  pub closes : Inv last pass on-newest none-bears prior w → on-newest → w .notes .reported ≡ true → HeadersLeft last pass none-bears (length (promised (w .notes))) (w .drive .tape)
+  closes (live _ l) newest reported = subst (λ (xs : List Element). HeadersLeft last pass none-bears (length xs) (w .drive .tape)) (l .promises .is) (headers-left set l (l .reported reported) newest (l .course))
   closes (rejecting _ d) newest reported = absurd (true≢false (sym reported ∙ d .unreported))
+  closes (spent _ x) newest reported = absurd (true≢false (sym reported ∙ x .unreported))
   closes (over _ o) newest reported = absurd (true≢false (sym reported ∙ o .unreported))
 
-  pub completes : Inv last pass on-newest none-bears prior w → on-newest → none-bears → w .notes .unaltered ≡ true → w .notes .reported ≡ true → Leaves last pass none-bears (w .drive .tape) (w .notes .accepted)
+  pub completes : Inv last pass on-newest none-bears prior w → on-newest → none-bears → w .notes .unaltered ≡ true → w .notes .reported ≡ true → Leaves last pass (prior .base) none-bears (w .drive .tape) (promised (w .notes)) (w .notes .accepted)
   completes (live wr l) newest none unaltered reported =
       let content = l .content none unaltered in
       let headers = headers-left set l (l .reported reported) newest (l .course) in
       let at = headers .ends in
-      record {
+      subst (λ (xs : List Element). Leaves last pass (prior .base) none-bears (w .drive .tape) xs (w .notes .accepted)) (l .promises .is) (record {
         cartridge = content .tape;
         headers = headers;
-        recorded = seen-closed (set .large) (headers .end-at) (at .frame) (at .user) (at .reads) (at .stands) (all-seen set l (l .reported reported) content (l .course));
-      }
+        reads = seen-closed (set .large) (headers .end-at) (at .frame) (at .user) (at .reads) (at .stands) (all-seen set l (l .reported reported) content (l .course));
+        floor = l .floor .1;
+      })
   completes (rejecting _ d) newest none unaltered reported = absurd (true≢false (sym reported ∙ d .unreported))
+  completes (spent _ x) newest none unaltered reported = absurd (true≢false (sym reported ∙ x .unreported))
   completes (over _ o) newest none unaltered reported = absurd (true≢false (sym reported ∙ o .unreported))
+
+  -- where a fetch asks, without a tail, a noted target is not above END
+  pub aims : Inv last pass on-newest none-bears prior w → w .session .setup .tail ≡ 0 → w .session .ended ≡ false → w .flight ≡ recordings.no-command → w .session .elements .locate ≡ true → w .session .elements .target .0 < w .session .elements .limit .0
+  aims (live wr l) none going free t = l .promises .aimed none t
+  aims (rejecting _ d) none going free t = none-answered (sym free ∙ d .replied)
+  aims (spent _ x) none going free t = clash (x .ended) going
+  aims (over _ o) none going free t = clash (o .ended) going
+
+  -- what there was before is among what is promised
+  pub reported-floor : Inv last pass on-newest none-bears prior w → w .notes .reported ≡ true → prior .base ≤ length (promised (w .notes))
+  reported-floor (live _ l) reported = subst (λ (xs : List Element). prior .base ≤ length xs) (l .promises .is) (l .floor .1)
+  reported-floor (rejecting _ d) reported = absurd (true≢false (sym reported ∙ d .unreported))
+  reported-floor (spent _ x) reported = absurd (true≢false (sym reported ∙ x .unreported))
+  reported-floor (over _ o) reported = absurd (true≢false (sym reported ∙ o .unreported))
+
+-- ---- what the close of a spent session tells
+
+pub spent-first : {last pass : ℕ} {on-newest none-bears : Type 0} {prior : Prior} (w : World) → Inv last pass on-newest none-bears prior w → isSpent (w .session) ≡ true
+    → (givenUpOf (w .session) .elements .first .0 ≡ length (promised (gaveUp w .notes))) × (prior .base ≤ length (promised (gaveUp w .notes)))
+spent-first w (live _ l) e = clash (and-true (w .session .ended) (w .session .spent) e .0) (l .going)
+spent-first w (rejecting _ d) e = clash (and-true (w .session .ended) (w .session .spent) e .0) (d .going)
+spent-first {prior = prior} w (spent _ x) e =
+    let l = x .revives in
+    let numbered = l .counted .numbered in
+    let size : length (l .list) ≡ length (promised (gaveUp w .notes)) = ap length (l .promises .is) in
+    (omega arith, subst (λ (n : ℕ). prior .base ≤ n) size (l .floor .1))
+spent-first w (over _ o) e = clash (and-true (w .session .ended) (w .session .spent) e .1) (o .final)
 
 -- ---- the drive rests
 
-rests-done : {last : ℕ} (w : World) {k edge : ℕ} → w .session .stage ≡ S.Done → Course last w k edge → AtRest (w .drive)
+rests-done : {last n : ℕ} (w : World) {k edge : ℕ} → w .session .stage ≡ S.Done → Course last n w k edge → AtRest (w .drive)
 rests-done w done (opening s _ _ _) = never (cc)
 rests-done w done (writing s _ _) = never (cc)
 rests-done w done (closing s _ _ _ _ _) = never (cc)
@@ -158,6 +192,7 @@ rests-done w done (finished _ _ _ _ _ _ _ _ rests _) = rests
 pub reported-rests : {last pass : ℕ} {on-newest none-bears : Type 0} {prior : Prior} (w : World) → Inv last pass on-newest none-bears prior w → w .notes .reported ≡ true → AtRest (w .drive)
 reported-rests w (live _ l) reported = rests-done w (l .reported reported) (l .course)
 reported-rests w (rejecting _ d) reported = absurd (true≢false (sym reported ∙ d .unreported))
+reported-rests w (spent _ x) reported = absurd (true≢false (sym reported ∙ x .unreported))
 reported-rests w (over _ o) reported = absurd (true≢false (sym reported ∙ o .unreported))
 
 -- ---- what a header that names EOD tells

@@ -72,19 +72,20 @@ not-user : (last a : ℕ) → isHeader a ≡ true → (b : Bool) → isUser last
 not-user last a h true u = absurd (header-not-user last a h u)
 not-user last a h false u = u
 
-module _ {last pass k : ℕ} (w : World) (e : Drive) (v : Option (List ℕ)) (q : e .tape ≡ put (w .drive .tape) (w .drive .at) v) (at : isHeader (w .drive .at) ≡ true) where
-  pub header-content : {edge : ℕ} → 3000 ≤ last → Left (w .drive .tape (w .drive .at)) (headerFrame (w .session .copies .header)) v → Content last pass w k edge → Content last pass (withDrive w e (w .flight)) k edge
+module _ {last pass k : ℕ} (ps : List Element) (w : World) (e : Drive) (v : Option (List ℕ)) (q : e .tape ≡ put (w .drive .tape) (w .drive .at) v) (at : isHeader (w .drive .at) ≡ true) where
+  pub header-content : {edge : ℕ} → 3000 ≤ last → Left (w .drive .tape (w .drive .at)) (headerFrame (w .session .copies .header)) v → Content last pass ps w k edge → Content last pass ps (withDrive w e (w .flight)) k edge
   header-content {edge} large left c =
       let a = w .drive .at in
       let t = w .drive .tape in
       record {
         tape = subst (Cartridge last) (sym q) (cartridge-put last t a v (header-low last a large at) (λ f x. ⊎-elim (λ y. c .tape .long a f y) (λ r. r .long ∙ header-length (w .session .copies .header)) (left-reads left x)) (c .tape));
-        seen = subst (λ x. Seen last pass (w .notes .accepted) k edge x) (sym q) (seen-elsewhere a v (not-user last a at (isUser last a) refl) (c .seen));
+        seen = subst (λ x. Seen last pass ps (w .notes .accepted) k edge x) (sym q) (seen-elsewhere a v (not-user last a at (isUser last a) refl) (c .seen));
         stored = c .stored;
       }
 
+module _ {last pass k : ℕ} (n : ℕ) (w : World) (e : Drive) (v : Option (List ℕ)) (q : e .tape ≡ put (w .drive .tape) (w .drive .at) v) (at : isHeader (w .drive .at) ≡ true) where
   -- EOD stays where it is
-  pub header-eod-place : {none-bears : Type 0} → (ElementStage (w .session) → ⊥) → EodPlace last pass none-bears w k → EodPlace last pass none-bears (withDrive w e (w .flight)) k
+  pub header-eod-place : {none-bears : Type 0} → (ElementStage (w .session) → ⊥) → EodPlace last pass none-bears n w k → EodPlace last pass none-bears n (withDrive w e (w .flight)) k
   header-eod-place no-elements x = record {
     written = λ st _ _. absurd (no-elements st);
     named = λ s.
@@ -117,27 +118,27 @@ pub most : (b : Bool) (n : ℕ) → totalOf b n ≤ n + 1
 most false n = omega arith
 most true n = omega arith
 
-module _ {last pass k : ℕ} (w : World) (f : List ℕ) (rest : List (List ℕ)) (b : w .drive .buffer ≡ f ∷ rest) (free : w .drive .failed ≡ false) (st : ElementStage (w .session)) where
+module _ {last pass k : ℕ} (ps : List Element) (w : World) (f : List ℕ) (rest : List (List ℕ)) (b : w .drive .buffer ≡ f ∷ rest) (free : w .drive .failed ≡ false) (st : ElementStage (w .session)) where
   -- the frames that the drive holds
 
-  queued : Outgoing last pass w k → Stands last pass (itemAt (w .notes .accepted) k) k f × Queue last pass (w .notes .accepted) (k + 1) rest
+  queued : Outgoing last pass ps w k → Stands last pass (itemAt ps k) k f × Queue last pass ps (k + 1) rest
   unfolding Queue
-  queued x = subst (Queue last pass (w .notes .accepted) k) b (x .queue st free)
+  queued x = subst (Queue last pass ps k) b (x .queue st free)
 
-  pub outgoing-written : (v : Option (List ℕ)) → Outgoing last pass w k → Outgoing last pass (withDrive w (wrote (w .drive) rest v) (w .flight)) (k + 1)
+  pub outgoing-written : (v : Option (List ℕ)) → Outgoing last pass ps w k → Outgoing last pass ps (withDrive w (wrote (w .drive) rest v) (w .flight)) (k + 1)
   outgoing-written v x = record { queue = λ _ _. queued x .1; sent = x .sent }
 
-  pub outgoing-failed : (v : Option (List ℕ)) → Outgoing last pass w k → Outgoing last pass (withDrive w (failing (w .drive) v) (w .flight)) k
+  pub outgoing-failed : (v : Option (List ℕ)) → Outgoing last pass ps w k → Outgoing last pass ps (withDrive w (failing (w .drive) v) (w .flight)) k
   outgoing-failed v x = record { queue = λ _ z. absurd (true≢false z); sent = x .sent }
 
-  module _ (here : isUser last (w .drive .at) ≡ true) (room : k + 1 ≤ totalOf (w .session .elements .eod) (length (w .notes .accepted))) where
+  module _ (here : isUser last (w .drive .at) ≡ true) (room : k + 1 ≤ totalOf (w .session .elements .eod) (length ps)) where
     -- EOD
 
-    eod-stood : {none-bears : Type 0} → (none-bears → Clean last pass (w .drive .at) (w .drive .tape)) → (read : List ℕ) → Stands last pass (itemAt (w .notes .accepted) k) k read → k ≡ length (w .notes .accepted) → EodAt last pass none-bears (length (w .notes .accepted)) (put (w .drive .tape) (w .drive .at) (some read)) (w .drive .at + 1 - 1)
+    eod-stood : {none-bears : Type 0} → (none-bears → Clean last pass (w .drive .at) (w .drive .tape)) → (read : List ℕ) → Stands last pass (itemAt ps k) k read → k ≡ length ps → EodAt last pass none-bears (length ps) (put (w .drive .tape) (w .drive .at) (some read)) (w .drive .at + 1 - 1)
     eod-stood {none-bears} ahead read s all =
         let back : w .drive .at ≡ w .drive .at + 1 - 1 = omega arith in
-        let item : itemAt (w .notes .accepted) k ≡ eod = item-past (w .notes .accepted) k (omega arith) in
-        subst (EodAt last pass none-bears (length (w .notes .accepted)) (put (w .drive .tape) (w .drive .at) (some read))) back (record {
+        let item : itemAt ps k ≡ eod = item-past ps k (omega arith) in
+        subst (EodAt last pass none-bears (length ps) (put (w .drive .tape) (w .drive .at) (some read))) back (record {
           frame = read;
           user = here;
           reads = put-same (w .drive .tape) (w .drive .at) (some read);
@@ -145,21 +146,21 @@ module _ {last pass k : ℕ} (w : World) (f : List ℕ) (rest : List (List ℕ))
           above = λ p. clean-behind (some read) (ahead p);
         })
 
-    pub eod-written : {none-bears : Type 0} → (none-bears → Clean last pass (w .drive .at) (w .drive .tape)) → (v : Option (List ℕ)) → Written f v → (w .session .elements .eod ≡ true → Outgoing last pass w k) → EodPlace last pass none-bears (withDrive w (wrote (w .drive) rest v) (w .flight)) (k + 1)
+    pub eod-written : {none-bears : Type 0} → (none-bears → Clean last pass (w .drive .at) (w .drive .tape)) → (v : Option (List ℕ)) → Written f v → (w .session .elements .eod ≡ true → Outgoing last pass ps w k) → EodPlace last pass none-bears (length ps) (withDrive w (wrote (w .drive) rest v) (w .flight)) (k + 1)
     eod-written ahead v (conduct.reads read r) x = record { written = λ _ e all. eod-stood ahead read (stands-read (queued (x e) .0) r) (omega arith); named = unclosed (w .session) st }
 
-    pub eod-failed : {none-bears : Type 0} (v : Option (List ℕ)) → EodPlace last pass none-bears (withDrive w (failing (w .drive) v) (w .flight)) k
-    eod-failed v = record { written = λ _ _ all. absurd (omega (arith, most (w .session .elements .eod) (length (w .notes .accepted)))); named = unclosed (w .session) st }
+    pub eod-failed : {none-bears : Type 0} (v : Option (List ℕ)) → EodPlace last pass none-bears (length ps) (withDrive w (failing (w .drive) v) (w .flight)) k
+    eod-failed v = record { written = λ _ _ all. absurd (omega (arith, most (w .session .elements .eod) (length ps))); named = unclosed (w .session) st }
 
     -- tape and window
 
-    module _ {edge : ℕ} (large : 3000 ≤ last) (c : Content last pass w k edge) (x : Outgoing last pass w k) (edge-here : edge ≡ w .drive .at) where
-      seen-here : Seen last pass (w .notes .accepted) k (w .drive .at) (w .drive .tape)
-      seen-here = subst (λ (a : ℕ). Seen last pass (w .notes .accepted) k a (w .drive .tape)) edge-here (c .seen)
+    module _ {edge : ℕ} (large : 3000 ≤ last) (c : Content last pass ps w k edge) (x : Outgoing last pass ps w k) (edge-here : edge ≡ w .drive .at) where
+      seen-here : Seen last pass ps (w .notes .accepted) k (w .drive .at) (w .drive .tape)
+      seen-here = subst (λ (a : ℕ). Seen last pass ps (w .notes .accepted) k a (w .drive .tape)) edge-here (c .seen)
 
       -- at most EOD is to come
-      within : k ≤ length (w .notes .accepted)
-      within = omega (arith, most (w .session .elements .eod) (length (w .notes .accepted)))
+      within : k ≤ length ps
+      within = omega (arith, most (w .session .elements .eod) (length ps))
 
       long-left : {v : Option (List ℕ)} → Left (w .drive .tape (w .drive .at)) f v → (g : List ℕ) → v ≡ some g → length g ≡ 33280
       long-left left g e = ⊎-elim (λ y. c .tape .long (w .drive .at) g y) (λ r. r .long ∙ stands-long (queued x .0)) (left-reads left e)
@@ -167,14 +168,14 @@ module _ {last pass k : ℕ} (w : World) (f : List ℕ) (rest : List (List ℕ))
       cartridge-left : {v : Option (List ℕ)} → Left (w .drive .tape (w .drive .at)) f v → Cartridge last (put (w .drive .tape) (w .drive .at) v)
       cartridge-left {v} left = cartridge-put last (w .drive .tape) (w .drive .at) v (user-low last (w .drive .at) large here) (long-left left) (c .tape)
 
-      pub content-written : (v : Option (List ℕ)) → Written f v → Content last pass (withDrive w (wrote (w .drive) rest v) (w .flight)) (k + 1) (w .drive .at + 1)
+      pub content-written : (v : Option (List ℕ)) → Written f v → Content last pass ps (withDrive w (wrote (w .drive) rest v) (w .flight)) (k + 1) (w .drive .at + 1)
       content-written v (conduct.reads read r) = record {
         tape = cartridge-left (as-new (some read) (conduct.reads read r));
         seen = seen-writes (w .drive .at) large here seen-here within read (stands-read (queued x .0) r);
         stored = c .stored;
       }
 
-      pub content-failed : (v : Option (List ℕ)) → Left (w .drive .tape (w .drive .at)) f v → Content last pass (withDrive w (failing (w .drive) v) (w .flight)) k (w .drive .at + 1)
+      pub content-failed : (v : Option (List ℕ)) → Left (w .drive .tape (w .drive .at)) f v → Content last pass ps (withDrive w (failing (w .drive) v) (w .flight)) k (w .drive .at + 1)
       content-failed v left = record {
         tape = cartridge-left left;
         seen = seen-fails (w .drive .at) large here seen-here within f v (queued x .0) left;

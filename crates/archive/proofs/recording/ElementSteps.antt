@@ -12,7 +12,7 @@ use lib.ListN.{length}
 use Rattle.geometry.specs.Cartridge.{isUser}
 use Rattle.geometry.specs.Place as place
 use Rattle.geometry.specs.Place.{asAddress}
-use Rattle.write_error.specs.WriteError.{stepOf, targetAddress}
+use Rattle.write_error.specs.WriteError.{stepOf, targetAddress, targetWithin}
 use Rattle.geometry.specs.declared.address.Address.{Address}
 use Rattle.geometry.specs.declared.address.Seq.{Seq}
 use Rattle.geometry.proofs.Impossible.{clash}
@@ -58,9 +58,11 @@ pub record Step (last : ℕ) (s : State) (d : Drive) (k edge : ℕ) (e : Element
   pub all : 0 < s .elements .pending → e .pending ≡ 0 → (k ≡ e .first .0) × AtRest d × (isUser last (e .next .0 - 1) ≡ true) × (e .next .0 ≡ d .at)
 
 pub data Reached (last : ℕ) (s : State) (d : Drive) (k edge : ℕ) : reply.SteppedSaid → Type 0 where
-  goes : (e : Elements) → Step last s d k edge e → Reached last s d k edge (kept e)
+  -- and where it relocates, to a target that is not above END
+  goes : (e : Elements) → Step last s d k edge e → (e .locate ≡ true → e .target .0 < e .limit .0) → Reached last s d k edge (kept e)
   unlawful : (e : Elements) → Reached last s d k edge (ending e 8)
-  full : (e : Elements) → Reached last s d k edge (ending e 9)
+  -- the write error is noted all the same
+  full : (e : Elements) → Step last s d k edge e → e .outstanding ≡ 0 → Reached last s d k edge (ending e 9)
 
 module _ (last : ℕ) (s : State) (d : Drive) (k edge : ℕ) (small : last + 65 < 2 ^ 32) (again : s .exchange .again ≡ false) (held : s .elements .outstanding ≤ s .elements .pending) (low : s .elements .pending ≤ 64) (room : s .elements .limit .0 ≤ last + 1) where
   -- nothing is confirmed
@@ -112,12 +114,11 @@ module _ (last : ℕ) (s : State) (d : Drive) (k edge : ℕ) (small : last + 65 
       unconfirmed (overflowedOf (s .elements) a) refl refl held (omega arith) refl refl refl (λ _. l .placed) (omega arith)
       (elements.at-place refl again (record { placed = l .placed; taken-is = l .taken-is; next-is = l .next-is; known = l .known; roof = l .roof; zone = l .zone; spread = l .spread; edge-is = l .edge-is }))
 
-  pub moved-step : (a : Address) → d .buffer ≡ [] → d .failed ≡ false → d .at ≡ a .0 → Moving last (heldOf s) d k edge (a .0) → Step last s d k edge (locatedOf (s .elements) a)
-  moved-step a e f p m =
+  pub moved-step : (a : Address) → d .buffer ≡ [] → d .failed ≡ false → d .at ≡ a .0 → a .0 ≤ last → Moving last (heldOf s) d k edge (a .0) → Step last s d k edge (locatedOf (s .elements) a)
+  moved-step a e f p roof m =
       let size : length (d .buffer) ≡ 0 = ap length e in
       let none-out = m .none-out in
       let first-is = m .first-is in
-      let roof = m .roof in
       let spread = m .spread in
       unconfirmed (locatedOf (s .elements) a) refl refl held room refl refl refl (λ z. clash z f) (omega arith) (elements.at-place refl again (record {
         placed = refl;
@@ -200,46 +201,67 @@ module _ (last : ℕ) (s : State) (d : Drive) (k edge : ℕ) (small : last + 65 
           spread = l .spread;
           edge-is = l .edge-is;
         }))
-        (λ p z. (omega arith, empty (no-frames (d .buffer) (omega arith)), ranges-user last (s .elements .next .0 - 1) (⊎-elim (λ y. inl (omega arith, omega arith)) (λ y. inr (omega arith, omega arith)) (l .zone)), omega arith))))
+        (λ p z. (omega arith, empty (no-frames (d .buffer) (omega arith)), ranges-user last (s .elements .next .0 - 1) (⊎-elim (λ y. inl (omega arith, omega arith)) (λ y. inr (omega arith, omega arith)) (l .zone)), omega arith)))
+        (λ t. clash t (l .placed)))
+
+    limit-low : (tail : ℕ) → limitOf tail (s .elements) .0 ≤ s .elements .limit .0
+    limit-low tail = pick-by (λ (a : Address). a .0 ≤ s .elements .limit .0) (s .elements .eod) (λ _. le-refl (s .elements .limit .0)) (λ _. omega arith)
 
     step-least : (skip : ℕ) → 1 ≤ stepOf skip
     step-least skip = pick-by (λ (n : ℕ). 1 ≤ n) (eqb skip 0) (λ _. omega arith) (λ e. let x = eqb-false skip 0 e in omega (arith, x))
 
-    pub failed-step : (p : Address) (skip : ℕ) → p .0 ≡ d .at → d .failed ≡ true → Reached last s d k edge (failedOf (s .elements) p skip)
+    pub failed-step : (tail : ℕ) (p : Address) (skip : ℕ) → p .0 ≡ d .at → d .failed ≡ true → Reached last s d k edge (failedOf tail (s .elements) p skip)
     unfolding failedOf confirmedOf
-    failed-step p skip at f =
+    failed-step tail p skip at f =
         pick-by (Reached last s d k edge) (ltb (p .0) (baseOf (s .elements) .0)) (λ _. unlawful (s .elements))
         (λ x. pick-by (Reached last s d k edge) (leb (s .elements .next .0) (p .0)) (λ _. unlawful (s .elements))
         (λ y.
         let above = ltb-false (p .0) (baseOf (s .elements) .0) x in
         let below = leb-false (s .elements .next .0) (p .0) y in
-        pick-by (λ (z : place.PlaceSaid). Reached last s d k edge (failedTo (s .elements) p skip z)) (ltb (targetAddress p skip) (limitOf (s .elements) .0)) (λ fits. relocated above below (ltb-true _ _ fits)) (λ _. full (fullOf (s .elements) p skip))))
+        pick-by (λ (z : place.PlaceSaid). Reached last s d k edge (failedTo (s .elements) p skip z)) (ltb (targetAddress p skip) (limitOf tail (s .elements) .0))
+        (λ fits. goes (notedOf (s .elements) p (asAddress (targetAddress p skip))) (relocated above below (targetAddress p skip) further (clear (landing (p .0 + stepOf skip)))) (λ _. omega (arith, ltb-true (targetAddress p skip) (limitOf tail (s .elements) .0) fits, limit-low tail)))
+        (λ _. full (fullOf (s .elements) p skip) (relocated above below (targetWithin p skip .0) within-further within-clear) refl)))
       where
-        relocated : baseOf (s .elements) .0 ≤ p .0 → p .0 < s .elements .next .0 → targetAddress p skip < limitOf (s .elements) .0 → Reached last s d k edge (kept (notedOf (s .elements) p (asAddress (targetAddress p skip))))
-        relocated above below fits =
-            let target = targetAddress p skip in
+        -- the target lies behind the failed address
+        further : p .0 < targetAddress p skip
+        further =
+            let least = past-reserved-least (p .0 + stepOf skip) in
+            let one = step-least skip in
+            omega arith
+
+        clear : Landing (p .0 + stepOf skip) (targetAddress p skip) → (targetAddress p skip ≤ 2990) ⊎ (3000 ≤ targetAddress p skip)
+        clear (before h e) = inl (omega arith)
+        clear (across h g e) = inr (omega arith)
+        clear (behind h e) = inr (omega arith)
+
+        -- and so does the highest number of 32 bits
+        within-further : p .0 < targetWithin p skip .0
+        within-further =
+            let roof = l .roof in
+            let next-is = l .next-is in
+            let known = l .known in
+            pick-by (λ (n : ℕ). p .0 < n) (ltb (targetAddress p skip) 4294967295) (λ _. further) (λ _. omega arith)
+
+        within-clear : (targetWithin p skip .0 ≤ 2990) ⊎ (3000 ≤ targetWithin p skip .0)
+        within-clear = pick-by (λ (n : ℕ). (n ≤ 2990) ⊎ (3000 ≤ n)) (ltb (targetAddress p skip) 4294967295) (λ _. clear (landing (p .0 + stepOf skip))) (λ _. inr (omega arith))
+
+        relocated : baseOf (s .elements) .0 ≤ p .0 → p .0 < s .elements .next .0 → (target : ℕ) → p .0 < target → (target ≤ 2990) ⊎ (3000 ≤ target) → Step last s d k edge (notedOf (s .elements) p (asAddress target))
+        relocated above below target past zone =
             let n = p .0 - baseOf (s .elements) .0 in
             let taken-is = l .taken-is in
             let next-is = l .next-is in
             let known = l .known in
             let spread = l .spread in
+            let roof = l .roof in
             let number = exact n (omega arith) in
-            let least = past-reserved-least (p .0 + stepOf skip) in
-            let one = step-least skip in
             let edge-is : edge ≡ d .at + 1 = l .edge-is ∙ ap (λ (b : Bool). edgeOf b (d .at)) f in
-            goes (notedOf (s .elements) p (asAddress target))
-            (confirms n target (notedOf (s .elements) p (asAddress target)) refl refl (omega arith) refl refl refl refl (omega arith) (omega arith) (omega arith) (elements.to-locate refl again refl (record {
+            confirms n target (notedOf (s .elements) p (asAddress target)) refl refl (omega arith) refl refl refl refl (omega arith) (omega arith) (omega arith) (elements.to-locate refl again refl (record {
               none-out = refl;
               first-is = omega arith;
               rests = stopped f;
-              roof = omega arith;
-              zone = clear (landing (p .0 + stepOf skip));
+              low = omega arith;
+              zone = zone;
               spread = omega arith;
               edge-is = refl;
             }))
-            (λ q z. absurd (omega arith)))
-          where
-            clear : Landing (p .0 + stepOf skip) (targetAddress p skip) → (targetAddress p skip ≤ 2990) ⊎ (3000 ≤ targetAddress p skip)
-            clear (before h e) = inl (omega arith)
-            clear (across h g e) = inr (omega arith)
-            clear (behind h e) = inr (omega arith)
+            (λ q z. absurd (omega arith))

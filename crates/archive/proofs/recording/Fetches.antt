@@ -11,8 +11,8 @@ use Rattle.geometry.specs.Place.{asAddress}
 use Rattle.geometry.specs.declared.address.Address.{Address}
 use Rattle.geometry.specs.declared.address.Seq.{Seq}
 use Rattle.geometry.proofs.TestLaws.{and-true, either-left, either-right}
-use Rattle.geometry.proofs.Impossible.{clash}
-use Rattle.geometry.proofs.PickLaws.{pick-t, pick-f}
+use Rattle.geometry.proofs.Impossible.{never, clash}
+use Rattle.geometry.proofs.PickLaws.{pick-t, pick-f, pick-by}
 use Rattle.buffer.specs.Bytes.{agree}
 use Rattle.buffer.proofs.Agreement.{agree-is}
 use Rattle.frame.specs.Header.{headerFrame}
@@ -27,9 +27,12 @@ use Rattle.copies.proofs.Placed.{PlacedOf}
 use Rattle.geometry.proofs.HeaderPlaces.{header-from-first}
 use Rattle.elements.specs.Elements.{kindOf}
 use Rattle.elements.specs.Due as due
+use Rattle.elements.specs.Elements.{limitOf}
+use Rattle.elements.specs.declared.elements.Elements.{Elements}
 use Rattle.elements.proofs.DueView as rule
-use Rattle.recording_state.specs.State.{blocksOf, windowLength}
+use Rattle.recording_state.specs.State.{blocksOf, windowLength, isSpending, endedOf}
 use Rattle.recording_state.specs.Written.{amongElements, writtenFrame}
+use Rattle.recording_state.specs.Answer as answer
 use Rattle.recording_state.specs.Fetch.{FetchedSaid, fetchOf, awaits, frameFor, sending}
 use Rattle.recording_state.specs.declared.state.State.{State}
 use Rattle.recording_state.specs.declared.state.Stage.the-variants as S
@@ -52,45 +55,13 @@ use Rattle.archive.proofs.recording.CopiesMoves.{rests-safe}
 use Rattle.archive.proofs.recording.ElementsLink as elements
 use Rattle.archive.proofs.recording.ElementsLink.{edgeOf, Linked, Moving, Asks, Writing}
 use Rattle.archive.proofs.recording.ElementsMoves.{link-safe}
-use Rattle.archive.proofs.recording.KeptAgreement.{Numbers, writing-numbers}
+use Rattle.archive.proofs.recording.KeptAgreement.{Numbers, writing-numbers, reask}
 use Rattle.archive.proofs.recording.SentFrames.{sent-element, sent-eod, kind-element, kind-eod, sent-says}
 use Rattle.archive.proofs.recording.Invariant as inv
-use Rattle.archive.proofs.recording.Invariant.{EodDue, totalOf, Course, Known, Content, Live, Safe, Inv, live, rejecting, over}
+use Rattle.archive.proofs.recording.Invariant.{EodDue, totalOf, Course, Known, Content, Live, Safe, Inv, live, rejecting, spent, over}
 use Rattle.archive.proofs.recording.InvariantLaws.{unreported}
 use Rattle.archive.proofs.recording.Setting.{Setting}
-
--- ---- the same elements, by another command
-
-relink : {last : ℕ} {d : Drive} {k edge extra : ℕ} (h v : Held) → v .first ≡ h .first → v .outstanding ≡ h .outstanding → v .next ≡ h .next → v .locate ≡ h .locate → Linked last h d k edge extra → Linked last v d k edge extra
-relink h v a b c e l =
-    let a0 = ap (λ (x : Seq). x .0) a in
-    let c0 = ap (λ (x : Address). x .0) c in
-    let taken-is = l .taken-is in
-    let next-is = l .next-is in
-    let known = l .known in
-    let roof = l .roof in
-    record {
-      placed = e ∙ l .placed;
-      taken-is = omega arith;
-      next-is = omega arith;
-      known = omega arith;
-      roof = omega arith;
-      zone = ⊎-elim (λ z. inl (omega arith)) (λ z. inr (omega arith)) (l .zone);
-      spread = l .spread;
-      edge-is = l .edge-is;
-    }
-
-remove : {last : ℕ} {d : Drive} {k edge target : ℕ} (h v : Held) → v .first ≡ h .first → v .outstanding ≡ h .outstanding → Moving last h d k edge target → Moving last v d k edge target
-remove h v a b m =
-    let a0 = ap (λ (x : Seq). x .0) a in
-    record { none-out = b ∙ m .none-out; first-is = a0 ∙ m .first-is; rests = m .rests; roof = m .roof; zone = m .zone; spread = m .spread; edge-is = m .edge-is }
-
-pub reask : {last pending : ℕ} {d : Drive} {k edge : ℕ} {c : Command} (h v : Held) → v .first ≡ h .first → v .outstanding ≡ h .outstanding → v .next ≡ h .next → v .locate ≡ h .locate → Asks last h pending d k edge c → Asks last v pending d k edge c
-reask h v a b c e (elements.writes x p due off low l) =
-    let c0 = ap (λ (y : Address). y .0) c in
-    elements.writes x (p ∙ sym c) (omega arith) (λ q. off (sym c0 ∙ q)) (omega arith) (relink h v a b c e l)
-reask h v a b c e (elements.asks l) = elements.asks (relink h v a b c e l)
-reask h v a b c e (elements.moves x m) = elements.moves x (remove h v a b m)
+use Rattle.archive.proofs.recording.GivesUp.{Spending, spending-so, settled-writing, gives-up}
 
 -- ---- the world after a fetch
 
@@ -100,11 +71,11 @@ fetchedWorld w lent x = record {
   window = lent;
   drive = w .drive;
   flight = flightAfter (x .said) (w .flight) (x .frame);
-  notes = record { accepted = w .notes .accepted; unaltered = w .notes .unaltered && agree lent (w .window); reported = reportedAfter (x .said) (w .notes .reported) };
+  notes = record { accepted = w .notes .accepted; unaltered = w .notes .unaltered && agree lent (w .window); reported = reportedAfter (x .said) (w .notes .reported); givenUp = w .notes .givenUp };
 }
 
 abbrev lentWorld : World → List ℕ → State → Flight → Bool → World
-lentWorld w lent s f reported = record { session = s; window = lent; drive = w .drive; flight = f; notes = record { accepted = w .notes .accepted; unaltered = w .notes .unaltered && agree lent (w .window); reported = reported } }
+lentWorld w lent s f reported = record { session = s; window = lent; drive = w .drive; flight = f; notes = record { accepted = w .notes .accepted; unaltered = w .notes .unaltered && agree lent (w .window); reported = reported; givenUp = w .notes .givenUp } }
 
 module _ {last pass : ℕ} {on-newest none-bears : Type 0} {prior : Prior} (w : World) (lent frame : List ℕ) (set : Setting last pass) (wr : Within last (w .drive .written)) (l : Live last pass on-newest none-bears prior w) where
   -- lent as last left
@@ -118,9 +89,9 @@ module _ {last pass : ℕ} {on-newest none-bears : Type 0} {prior : Prior} (w : 
   known-left : KnownLent → Known none-bears w
   known-left n = ⊎-elim (λ y. inl (y .0, as-left (y .1) .0)) inr n
 
-  stored-lent : lent ≡ w .window → Content last pass w (l .k) (l .edge) → (i : ℕ) → i < w .session .elements .pending
-      → StoredAs (itemAt (w .notes .accepted) (w .session .elements .first .0 + i)) lent (w .session .elements .marks) (blocksOf (w .session)) (w .session .elements .first .0 + i)
-  stored-lent e c i h = subst (λ (x : List ℕ). StoredAs (itemAt (w .notes .accepted) (w .session .elements .first .0 + i)) x (w .session .elements .marks) (blocksOf (w .session)) (w .session .elements .first .0 + i)) (sym e) (c .stored i h)
+  stored-lent : lent ≡ w .window → Content last pass (l .list) w (l .k) (l .edge) → (i : ℕ) → i < w .session .elements .pending
+      → StoredAs (itemAt (l .list) (w .session .elements .first .0 + i)) lent (w .session .elements .marks) (blocksOf (w .session)) (w .session .elements .first .0 + i)
+  stored-lent e c i h = subst (λ (x : List ℕ). StoredAs (itemAt (l .list) (w .session .elements .first .0 + i)) x (w .session .elements .marks) (blocksOf (w .session)) (w .session .elements .first .0 + i)) (sym e) (c .stored i h)
 
   -- ---- nothing goes out: idle, or done
 
@@ -128,6 +99,9 @@ module _ {last pass : ℕ} {on-newest none-bears : Type 0} {prior : Prior} (w : 
   quiet reported done = record {
     k = l .k;
     edge = l .edge;
+    list = l .list;
+    floor = l .floor;
+    promises = record { is = l .promises .is; ungiven = l .promises .ungiven; aimed = l .promises .aimed };
     going = l .going;
     counted = l .counted;
     carried = l .carried;
@@ -144,7 +118,7 @@ module _ {last pass : ℕ} {on-newest none-bears : Type 0} {prior : Prior} (w : 
     trailing = l .trailing;
   }
     where
-      course : Course last w (l .k) (l .edge) → Course last (lentWorld w lent (w .session) (w .flight) reported) (l .k) (l .edge)
+      course : Course last (length (l .list)) w (l .k) (l .edge) → Course last (length (l .list)) (lentWorld w lent (w .session) (w .flight) reported) (l .k) (l .edge)
       course (inv.opening q u t c) = inv.opening q u t c
       course (inv.writing q u a) = inv.writing q u a
       course (inv.closing q u c a b g) = inv.closing q u c a b g
@@ -156,16 +130,19 @@ module _ {last pass : ℕ} {on-newest none-bears : Type 0} {prior : Prior} (w : 
     abbrev sentWorld : World
     sentWorld = lentWorld w lent (awaits (w .session) c) (recordings.sent c (frameFor c (w .session) lent frame)) (w .notes .reported)
 
-    goes-out : (edge : ℕ) → Course last sentWorld (l .k) edge
+    goes-out : (edge : ℕ) → Course last (length (l .list)) sentWorld (l .k) edge
         → ((a : Address) (f : List ℕ) → Known none-bears sentWorld → ElementStage (w .session) → recordings.sent c (frameFor c (w .session) lent frame) ≡ recordings.sent (Write a) f
-        → Stands last pass (itemAt (w .notes .accepted) (w .session .elements .first .0 + w .session .elements .outstanding)) (w .session .elements .first .0 + w .session .elements .outstanding) f)
+        → Stands last pass (itemAt (l .list) (w .session .elements .first .0 + w .session .elements .outstanding)) (w .session .elements .first .0 + w .session .elements .outstanding) f)
         → l .edge ≤ edge
         → ((a : Address) (f : List ℕ) → ElementStage (w .session) → recordings.sent c (frameFor c (w .session) lent frame) ≡ recordings.sent (Write a) f
-        → Says last pass (w .notes .accepted) (Place prior last pass (l .k) (w .drive .at) edge (w .drive .tape)) (w .session .elements .first .0 + w .session .elements .outstanding) f)
+        → Says last pass (l .list) (Place prior last pass (l .k) (w .drive .at) edge (w .drive .tape)) (w .session .elements .first .0 + w .session .elements .outstanding) f)
         → Live last pass on-newest none-bears prior sentWorld
     goes-out edge course sent further says = record {
       k = l .k;
       edge = edge;
+      list = l .list;
+      floor = l .floor;
+      promises = record { is = l .promises .is; ungiven = l .promises .ungiven; aimed = l .promises .aimed };
       going = l .going;
       counted = let n = l .counted in record { wide = n .wide; held = n .held; windowed = n .windowed; numbered = n .numbered; marks = n .marks; room = n .room };
       carried = l .carried;
@@ -181,7 +158,7 @@ module _ {last pass : ℕ} {on-newest none-bears : Type 0} {prior : Prior} (w : 
           record { tape = x .tape; seen = seen-moves edge further (x .seen); stored = stored-lent (b .1) x };
       trailing =
           let x = trailing-edge (l .trailing) edge further in
-          record { from = x .from; marked = x .marked; trail = x .trail; written = x .written; behind = x .behind; queue = x .queue; sent = says; tape = x .tape };
+          record { from = x .from; prefix = x .prefix; marked = x .marked; trail = x .trail; written = x .written; behind = x .behind; queue = x .queue; sent = says; tape = x .tape };
     }
 
   -- ---- from a header stage
@@ -198,7 +175,7 @@ module _ {last pass : ℕ} {on-newest none-bears : Type 0} {prior : Prior} (w : 
     header-sent ReadPosition = tt
 
     header-out : (c : Command) (agree : CopiesAgree (w .session) (w .drive) (w .flight)) → CopyAsks (w .session .copies) (w .drive) c
-        → (CopiesAgree (awaits (w .session) c) (w .drive) (recordings.sent c (frameFor c (w .session) lent frame)) → Course last (sentWorld c) (l .k) (l .edge)) → Inv last pass on-newest none-bears prior (sentWorld c)
+        → (CopiesAgree (awaits (w .session) c) (w .drive) (recordings.sent c (frameFor c (w .session) lent frame)) → Course last (length (l .list)) (sentWorld c) (l .k) (l .edge)) → Inv last pass on-newest none-bears prior (sentWorld c)
     header-out c agree asked course =
         live wr
         (goes-out c (l .edge) (course (record { counts = agree .counts; placed = agree .placed; copying = copies.under-way c (frameFor c (w .session) lent frame) refl refl refl (header-sent c) asked }))
@@ -227,6 +204,9 @@ module _ {last pass : ℕ} {on-newest none-bears : Type 0} {prior : Prior} (w : 
     further : l .edge ≤ edge
     asks : Asks last (heldOf (w .session)) (w .session .elements .pending) (w .drive) (l .k) edge c
 
+  limit-low : (tail : ℕ) (e : Elements) → limitOf tail e .0 ≤ e .limit .0
+  limit-low tail e = pick-by (λ (a : Address). a .0 ≤ e .limit .0) (e .eod) (λ _. le-refl (e .limit .0)) (λ _. omega arith)
+
   edge-low : (b : Bool) (a : ℕ) → edgeOf b a ≤ a + 1
   edge-low true a = le-refl (a + 1)
   edge-low false a = omega arith
@@ -242,21 +222,21 @@ module _ {last pass : ℕ} {on-newest none-bears : Type 0} {prior : Prior} (w : 
       record {
         edge = 3000;
         further = omega arith;
-        asks = elements.moves (asAddress 3000) (record {
+        asks = elements.moves (asAddress 3000) (set .large) (record {
           none-out = none;
           first-is = omega arith;
           rests = empty (no-frames (w .drive .buffer) (omega arith));
-          roof = set .large;
+          low = let roof = x .roof in omega arith;
           zone = inr (le-refl 3000);
           spread = omega arith;
           edge-is = refl;
         });
       }
 
-  out-element : {x : CommandSaid} → rule.DueView (w .session .setup .depth) (w .session .elements) (due.send x) → w .session .exchange .again ≡ false → Writing last (w .session) (w .drive) (l .k) (l .edge) recordings.no-command → Out (commandFor x)
-  out-element (rule.relocating r) ag (elements.at-place a g x) = clash r (x .placed)
-  out-element (rule.relocating r) ag (elements.to-locate a g q x) = record { edge = l .edge; further = le-refl (l .edge); asks = elements.moves (w .session .elements .target) x }
-  out-element (rule.relocating r) ag (elements.again a g x) = clash g ag
+  out-element : {x : CommandSaid} → rule.DueView (w .session .setup .depth) (w .session .setup .tail) (w .session .elements) (due.send x) → w .session .exchange .again ≡ false → Writing last (w .session) (w .drive) (l .k) (l .edge) recordings.no-command → Out (commandFor x)
+  out-element (rule.relocating r near) ag (elements.at-place a g x) = clash r (x .placed)
+  out-element (rule.relocating r near) ag (elements.to-locate a g q x) = record { edge = l .edge; further = le-refl (l .edge); asks = elements.moves (w .session .elements .target) (omega (arith, near, l .counted .room)) x }
+  out-element (rule.relocating r near) ag (elements.again a g x) = clash g ag
   out-element (rule.settling r p o) ag (elements.at-place a g x) = record { edge = l .edge; further = le-refl (l .edge); asks = elements.asks x }
   out-element (rule.settling r p o) ag (elements.to-locate a g q x) = clash q r
   out-element (rule.settling r p o) ag (elements.again a g x) = clash g ag
@@ -267,7 +247,7 @@ module _ {last pass : ℕ} {on-newest none-bears : Type 0} {prior : Prior} (w : 
   out-element (rule.jumping r p none below gap) ag (elements.to-locate a g q x) = clash q r
   out-element (rule.jumping r p none below gap) ag (elements.again a g x) = clash g ag
   out-element (rule.writing r p room below off) ag (elements.at-place a g x) =
-      record { edge = l .edge; further = le-refl (l .edge); asks = elements.writes (w .session .elements .next) refl p off (omega (arith, below, l .counted .room)) x }
+      record { edge = l .edge; further = le-refl (l .edge); asks = elements.writes (w .session .elements .next) refl p off (omega (arith, below, l .counted .room, limit-low (w .session .setup .tail) (w .session .elements))) x }
   out-element (rule.writing r p room below off) ag (elements.to-locate a g q x) = clash q r
   out-element (rule.writing r p room below off) ag (elements.again a g x) = clash g ag
 
@@ -283,37 +263,37 @@ module _ {last pass : ℕ} {on-newest none-bears : Type 0} {prior : Prior} (w : 
   module _ (long : length lent ≡ windowLength (w .session)) (numbers : Numbers last (w .session .elements .first .0) (w .session .elements .outstanding) (w .session .elements .pending) (l .k) (w .drive))
       (phase : EodDue (w .session .elements) (w .session .closed)) where
     stands-sent : KnownLent → ElementStage (w .session) → w .session .elements .outstanding < w .session .elements .pending
-        → Stands last pass (itemAt (w .notes .accepted) (w .session .elements .first .0 + w .session .elements .outstanding)) (w .session .elements .first .0 + w .session .elements .outstanding) (writtenFrame (w .session) lent)
+        → Stands last pass (itemAt (l .list) (w .session .elements .first .0 + w .session .elements .outstanding)) (w .session .elements .first .0 + w .session .elements .outstanding) (writtenFrame (w .session) lent)
     stands-sent known st d = go phase known
       where
-        go : EodDue (w .session .elements) (w .session .closed) → KnownLent → Stands last pass (itemAt (w .notes .accepted) (w .session .elements .first .0 + w .session .elements .outstanding)) (w .session .elements .first .0 + w .session .elements .outstanding) (writtenFrame (w .session) lent)
+        go : EodDue (w .session .elements) (w .session .closed) → KnownLent → Stands last pass (itemAt (l .list) (w .session .elements .first .0 + w .session .elements .outstanding)) (w .session .elements .first .0 + w .session .elements .outstanding) (writtenFrame (w .session) lent)
         go (inv.not-yet v) (inr e) = clash e v
         go (inv.not-yet v) (inl y) =
             let b = as-left (y .1) in
             let n = l .counted .numbered in
-            let t = ap (λ (x : Bool). totalOf x (length (w .notes .accepted))) v in
-            sent-element last pass (w .session) lent (w .notes .accepted) (l .carried .last-is) (l .carried .pass-is) (set .low) long (omega (arith, numbers .low, l .counted .windowed, l .counted .wide, set .small)) st v (omega arith)
+            let t = ap (λ (x : Bool). totalOf x (length (l .list))) v in
+            sent-element last pass (w .session) lent (l .list) (l .carried .last-is) (l .carried .pass-is) (set .low) long (omega (arith, numbers .low, l .counted .windowed, l .counted .wide, set .small)) st v (omega arith)
             (stored-lent (b .1) (l .content (y .0) (b .0)) (w .session .elements .outstanding) d)
         go (inv.alone v closed one) _ =
             let n = l .counted .numbered in
-            let t = ap (λ (x : Bool). totalOf x (length (w .notes .accepted))) v in
-            sent-eod last pass (w .session) lent (w .notes .accepted) (l .carried .last-is) (l .carried .pass-is) (set .low) long (omega (arith, numbers .low, l .counted .windowed, l .counted .wide, set .small)) st v (omega arith)
+            let t = ap (λ (x : Bool). totalOf x (length (l .list))) v in
+            sent-eod last pass (w .session) lent (l .list) (l .carried .last-is) (l .carried .pass-is) (set .low) long (omega (arith, numbers .low, l .counted .windowed, l .counted .wide, set .small)) st v (omega arith)
 
     kind-due : w .session .elements .outstanding < w .session .elements .pending → EodDue (w .session .elements) (w .session .closed)
-        → kindOf (w .session .elements) ≡ kindFor (itemAt (w .notes .accepted) (w .session .elements .first .0 + w .session .elements .outstanding))
+        → kindOf (w .session .elements) ≡ kindFor (itemAt (l .list) (w .session .elements .first .0 + w .session .elements .outstanding))
     kind-due d (inv.not-yet v) =
         let n = l .counted .numbered in
-        let t = ap (λ (x : Bool). totalOf x (length (w .notes .accepted))) v in
-        kind-element last pass (w .session) lent (w .notes .accepted) (l .carried .last-is) (l .carried .pass-is) (set .low) long (omega (arith, numbers .low, l .counted .windowed, l .counted .wide, set .small)) v (omega arith)
+        let t = ap (λ (x : Bool). totalOf x (length (l .list))) v in
+        kind-element last pass (w .session) lent (l .list) (l .carried .last-is) (l .carried .pass-is) (set .low) long (omega (arith, numbers .low, l .counted .windowed, l .counted .wide, set .small)) v (omega arith)
         (l .trailing .marked (w .session .elements .outstanding) d)
     kind-due d (inv.alone v closed one) =
         let n = l .counted .numbered in
-        let t = ap (λ (x : Bool). totalOf x (length (w .notes .accepted))) v in
-        kind-eod last pass (w .session) lent (w .notes .accepted) (l .carried .last-is) (l .carried .pass-is) (set .low) long (omega (arith, numbers .low, l .counted .windowed, l .counted .wide, set .small)) v (omega arith)
+        let t = ap (λ (x : Bool). totalOf x (length (l .list))) v in
+        kind-eod last pass (w .session) lent (l .list) (l .carried .last-is) (l .carried .pass-is) (set .low) long (omega (arith, numbers .low, l .counted .windowed, l .counted .wide, set .small)) v (omega arith)
 
     -- and what it says of the filemarks before it
     says-sent : {edge : ℕ} {a : Address} → l .edge ≤ edge → ElementStage (w .session) → Asks last (heldOf (w .session)) (w .session .elements .pending) (w .drive) (l .k) edge (Write a)
-        → Says last pass (w .notes .accepted) (Place prior last pass (l .k) (w .drive .at) edge (w .drive .tape)) (w .session .elements .first .0 + w .session .elements .outstanding) (writtenFrame (w .session) lent)
+        → Says last pass (l .list) (Place prior last pass (l .k) (w .drive .at) edge (w .drive .tape)) (w .session .elements .first .0 + w .session .elements .outstanding) (writtenFrame (w .session) lent)
     says-sent {edge} further st (elements.writes a p due off low x) =
         let taken-is = x .taken-is in
         let next-is = x .next-is in
@@ -321,7 +301,7 @@ module _ {last pass : ℕ} {on-newest none-bears : Type 0} {prior : Prior} (w : 
         let spread = x .spread in
         let roof = x .roof in
         let fits : w .session .elements .first .0 + w .session .elements .outstanding < 2 ^ 32 = omega (arith, numbers .low, l .counted .windowed, l .counted .wide, set .small) in
-        sent-says last pass (w .session) lent (w .notes .accepted) (l .carried .last-is) (l .carried .pass-is) (set .low) long fits (Place prior last pass (l .k) (w .drive .at) edge (w .drive .tape)) st (kind-due due phase)
+        sent-says last pass (w .session) lent (l .list) (l .carried .last-is) (l .carried .pass-is) (set .low) long fits (Place prior last pass (l .k) (w .drive .at) edge (w .drive .tape)) st (kind-due due phase)
         (λ j b h y. place-low j b h taken-is next-is low y)
         (trail-before (set .large) (set .small) st (trailing-edge (l .trailing) edge further) (l .counted .held) fits (omega arith) (omega arith) (let e = edge-low-least (w .drive .failed) (w .drive .at) in let i = x .edge-is in omega arith) (omega arith))
       where
@@ -334,7 +314,7 @@ module _ {last pass : ℕ} {on-newest none-bears : Type 0} {prior : Prior} (w : 
         place-low j b h taken-is next-is low (on-tape _ m) = omega (arith, m .inside, set .small)
         place-low j b h taken-is next-is low (to-come g e) = omega (arith, set .small)
 
-    element-out : (c : Command) → Out c → ElementStage (w .session) → ((edge : ℕ) → Writing last (awaits (w .session) c) (w .drive) (l .k) edge (recordings.sent c (frameFor c (w .session) lent frame)) → Course last (sentWorld c) (l .k) edge)
+    element-out : (c : Command) → Out c → ElementStage (w .session) → ((edge : ℕ) → Writing last (awaits (w .session) c) (w .drive) (l .k) edge (recordings.sent c (frameFor c (w .session) lent frame)) → Course last (length (l .list)) (sentWorld c) (l .k) edge)
         → Inv last pass on-newest none-bears prior (sentWorld c)
     element-out c o st course =
         live wr
@@ -342,14 +322,14 @@ module _ {last pass : ℕ} {on-newest none-bears : Type 0} {prior : Prior} (w : 
         (λ a f known el q.
         let command-is : c ≡ Write a = cc in
         let frame-is : frameFor c (w .session) lent frame ≡ f = cc in
-        subst (λ (y : List ℕ). Stands last pass (itemAt (w .notes .accepted) (w .session .elements .first .0 + w .session .elements .outstanding)) (w .session .elements .first .0 + w .session .elements .outstanding) y)
+        subst (λ (y : List ℕ). Stands last pass (itemAt (l .list) (w .session .elements .first .0 + w .session .elements .outstanding)) (w .session .elements .first .0 + w .session .elements .outstanding) y)
         (sym (ap (λ (y : Command). frameFor y (w .session) lent frame) command-is) ∙ frame-is)
         (stands-sent known el (due-of (subst (λ (y : Command). Asks last (heldOf (w .session)) (w .session .elements .pending) (w .drive) (l .k) (o .edge) y) command-is (o .asks)))))
         (o .further)
         (λ a f el q.
         let command-is : c ≡ Write a = cc in
         let frame-is : frameFor c (w .session) lent frame ≡ f = cc in
-        subst (Says last pass (w .notes .accepted) (Place prior last pass (l .k) (w .drive .at) (o .edge) (w .drive .tape)) (w .session .elements .first .0 + w .session .elements .outstanding))
+        subst (Says last pass (l .list) (Place prior last pass (l .k) (w .drive .at) (o .edge) (w .drive .tape)) (w .session .elements .first .0 + w .session .elements .outstanding))
         (sym (ap (λ (y : Command). frameFor y (w .session) lent frame) command-is) ∙ frame-is)
         (says-sent (o .further) el (subst (λ (y : Command). Asks last (heldOf (w .session)) (w .session .elements .pending) (w .drive) (l .k) (o .edge) y) command-is (o .asks)))))
 
@@ -386,7 +366,7 @@ module _ {last pass : ℕ} {on-newest none-bears : Type 0} {prior : Prior} (w : 
 
   -- in a header stage
   module _ (st : HeaderStage (w .session)) (agree : CopiesAgree (w .session) (w .drive) (w .flight))
-      (course : (c : Command) → CopiesAgree (awaits (w .session) c) (w .drive) (recordings.sent c (frameFor c (w .session) lent frame)) → Course last (sentWorld w lent frame set wr l c) (l .k) (l .edge)) where
+      (course : (c : Command) → CopiesAgree (awaits (w .session) c) (w .drive) (recordings.sent c (frameFor c (w .session) lent frame)) → Course last (length (l .list)) (sentWorld w lent frame set wr l c) (l .k) (l .edge)) where
     fetch-header : {x : FetchedSaid} → FetchView (w .session) lent frame x → TakesEffect (fetchNumber (x .said)) → After x
     fetch-header (view.wrongPhase _) te = no-effect (omega arith) (omega arith) te
     fetch-header (view.wrongLength _ _ _) te = no-effect (omega arith) (omega arith) te
@@ -401,7 +381,7 @@ module _ {last pass : ℕ} {on-newest none-bears : Type 0} {prior : Prior} (w : 
 
   -- among the elements
   module _ (st : ElementStage (w .session)) (agree : Writing last (w .session) (w .drive) (l .k) (l .edge) (w .flight)) (phase : EodDue (w .session .elements) (w .session .closed))
-      (course : (c : Command) (edge : ℕ) → Writing last (awaits (w .session) c) (w .drive) (l .k) edge (recordings.sent c (frameFor c (w .session) lent frame)) → Course last (sentWorld w lent frame set wr l c) (l .k) edge) where
+      (course : (c : Command) (edge : ℕ) → Writing last (awaits (w .session) c) (w .drive) (l .k) edge (recordings.sent c (frameFor c (w .session) lent frame)) → Course last (length (l .list)) (sentWorld w lent frame set wr l c) (l .k) edge) where
     numbers : Numbers last (w .session .elements .first .0) (w .session .elements .outstanding) (w .session .elements .pending) (l .k) (w .drive)
     numbers = writing-numbers (l .counted .held) agree
 
@@ -413,11 +393,44 @@ module _ {last pass : ℕ} {on-newest none-bears : Type 0} {prior : Prior} (w : 
     fetch-elements (view.copying r ag h) te = header-not-element (w .session) h st
     fetch-elements (view.stepping r ag el x d) te =
         let c = commandFor x in
-        as-named c (element-out w lent frame set wr l (r .windowRight) numbers phase c (out-element w lent frame set wr l (subst (rule.DueView (w .session .setup .depth) (w .session .elements)) d (rule.due-view (w .session .setup .depth) (w .session .elements))) ag (writing-idle (r .free) agree .0)) st (course c))
+        as-named c (element-out w lent frame set wr l (r .windowRight) numbers phase c (out-element w lent frame set wr l (subst (rule.DueView (w .session .setup .depth) (w .session .setup .tail) (w .session .elements)) d (rule.due-view (w .session .setup .depth) (w .session .setup .tail) (w .session .elements))) ag (writing-idle (r .free) agree .0)) st (course c))
     fetch-elements (view.resting r ag el d) te = live wr (quiet w lent frame set wr l (w .notes .reported) (l .reported))
-    fetch-elements (view.stopping r ag el n d) te =
-        let i = writing-idle (r .free) agree in
-        over wr (record { ended = refl; none = i .1; safe = writing-safe ag (i .0); unreported = unreported l (element-not-done (w .session) st) })
+    fetch-elements (view.stopping r ag el n d) te = stops (isSpending (w .session) n) refl
+      where
+        idle : Writing last (w .session) (w .drive) (l .k) (l .edge) recordings.no-command
+        idle = writing-idle (r .free) agree .0
+
+        no-flight : w .flight ≡ recordings.no-command
+        no-flight = writing-idle (r .free) agree .1
+
+        -- nothing is outstanding
+        none-out : {x : due.DueSaid} → rule.DueView (w .session .setup .depth) (w .session .setup .tail) (w .session .elements) x → x ≡ due.refused n → Writing last (w .session) (w .drive) (l .k) (l .edge) recordings.no-command → w .session .elements .outstanding ≡ 0
+        none-out (rule.relocating _ _) q y = never (cc)
+        none-out (rule.too-far t _) q (elements.at-place a g x) = clash t (x .placed)
+        none-out (rule.too-far t _) q (elements.to-locate a g z x) = x .none-out
+        none-out (rule.too-far t _) q (elements.again a g x) = clash g ag
+        none-out (rule.resting _ _ _) q y = never (cc)
+        none-out (rule.settling _ _ _) q y = never (cc)
+        none-out (rule.confirming _ _ _) q y = never (cc)
+        none-out (rule.full _ _ o _) q y = o
+        none-out (rule.jumping _ _ _ _ _) q y = never (cc)
+        none-out (rule.writing _ _ _ _ _) q y = never (cc)
+
+        out : w .session .elements .outstanding ≡ 0
+        out = none-out (rule.due-view (w .session .setup .depth) (w .session .setup .tail) (w .session .elements)) d idle
+
+        stops : (b : Bool) → isSpending (w .session) n ≡ b → After (record { session = endedOf (w .session) n; said = answer.refused n; frame = frame })
+        stops true e =
+            let why = spending-so (w .session) n e in
+            spent wr (record {
+              ended = refl;
+              is-spent = e;
+              none = no-flight;
+              rests = settled-writing ag out idle .1;
+              unreported = unreported l (element-not-done (w .session) st);
+              revives = gives-up (lentWorld w lent (w .session) (w .flight) (w .notes .reported)) (quiet w lent frame set wr l (w .notes .reported) (l .reported)) st (why .unended) (why .tailed) no-flight ag out;
+            })
+        stops false e = over wr (record { ended = refl; final = e; none = no-flight; safe = writing-safe ag idle; unreported = unreported l (element-not-done (w .session) st) })
     fetch-elements (view.finished r ag d) te = element-not-done (w .session) st d
 
   fetch-done : {x : FetchedSaid} → w .session .stage ≡ S.Done → w .session .exchange .again ≡ false → FetchView (w .session) lent frame x → TakesEffect (fetchNumber (x .said)) → After x
@@ -430,7 +443,7 @@ module _ {last pass : ℕ} {on-newest none-bears : Type 0} {prior : Prior} (w : 
   fetch-done st ag (view.stopping r _ el n d) te = element-not-done (w .session) el st
   fetch-done st ag (view.finished r _ d) te = live wr (quiet w lent frame set wr l true (λ _. st))
 
-  live-fetch : Course last w (l .k) (l .edge) → {x : FetchedSaid} → FetchView (w .session) lent frame x → TakesEffect (fetchNumber (x .said)) → After x
+  live-fetch : Course last (length (l .list)) w (l .k) (l .edge) → {x : FetchedSaid} → FetchView (w .session) lent frame x → TakesEffect (fetchNumber (x .said)) → After x
   live-fetch (inv.opening q u t c) v te = fetch-header (inl q) c (λ _ y. inv.opening q u t y) v te
   live-fetch (inv.writing q u a) v te = fetch-elements q a u (λ _ _ y. inv.writing q u y) v te
   live-fetch (inv.closing q u c a b g) v te = fetch-header (inr q) g (λ _ y. inv.closing q u c a b y) v te
@@ -444,4 +457,5 @@ wrong-phase s lent frame e te = no-effect (omega arith) (omega arith) (subst (λ
 pub keeps-fetch : {last pass : ℕ} {on-newest none-bears : Type 0} {prior : Prior} (w : World) (lent frame : List ℕ) → Setting last pass → Inv last pass on-newest none-bears prior w → TakesEffect (fetchNumber (fetchOf (w .session) lent frame .said)) → Inv last pass on-newest none-bears prior (afterFetch w lent frame)
 keeps-fetch w lent frame set (live wr l) te = live-fetch w lent frame set wr l (l .course) (fetch-view (w .session) lent frame) te
 keeps-fetch w lent frame set (rejecting wr d) te = wrong-phase (w .session) lent frame (either-right (w .session .ended) (w .session .exchange .awaiting) (d .awaits)) te
+keeps-fetch w lent frame set (spent wr x) te = wrong-phase (w .session) lent frame (either-left (w .session .ended) (w .session .exchange .awaiting) (x .ended)) te
 keeps-fetch w lent frame set (over wr o) te = wrong-phase (w .session) lent frame (either-left (w .session .ended) (w .session .exchange .awaiting) (o .ended)) te

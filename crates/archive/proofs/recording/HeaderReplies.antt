@@ -1,9 +1,10 @@
 -- A reply in a header stage keeps the invariant. Assumes nothing.
 use Prim.Native.Nat.{ℕ, _+_, _*_, _≤_, _<_}
 use mathlib.Core.Path.{_≡_, refl, sym, ap, subst, _∙_}
-use mathlib.Core.Bool.{true, false, not, _||_}
+use mathlib.Core.Bool.{Bool, true, false, not, _&&_, _||_}
 use mathlib.Core.Logic.{_⊎_, inl, inr, ⊎-elim}
 use native.Mathlib.Omega.{arith}
+use lib.Dec.{ltb}
 use lib.ListN.{length}
 use Rattle.geometry.proofs.TestLaws.{neither}
 use Rattle.geometry.proofs.Impossible.{never, clash}
@@ -17,8 +18,9 @@ use Rattle.drive.specs.declared.command.Command.{Command}
 use Rattle.drive.specs.declared.reply.Reply.{Reply}
 use Rattle.copies.specs.Copies as copying
 use Rattle.elements.specs.declared.elements.Elements.{Elements}
-use Rattle.recording_state.specs.State.{OutcomeSaid, accepting, ending, followingOf, withStage, withCopies, settledOf}
+use Rattle.recording_state.specs.State.{OutcomeSaid, accepting, isSpending, ending, followingOf, withStage, withCopies, settledOf}
 use Rattle.recording_state.specs.Reply.{caseOf, repliedOf, repeatedOf, headerReplyBy, replyBy, replyOf}
+use Rattle.recording_state.specs.declared.state.Setup.{Setup}
 use Rattle.recording_state.specs.declared.state.State.{State}
 use Rattle.recording_state.specs.declared.state.Stage.{Stage}
 use Rattle.recording_state.specs.declared.state.Stage.the-variants as S
@@ -30,7 +32,8 @@ use Rattle.archive.specs.Demand.{Within}
 use Rattle.archive.specs.Trails.{itemAt}
 use Rattle.archive.proofs.tape.Basics.{none-sent}
 use Rattle.archive.proofs.tape.Stands.{Queue, StoredAs}
-use Rattle.archive.proofs.recording.Trailing.{Prior, Place, Frames, Buffered, holds, halted, Trailing}
+use Rattle.archive.proofs.recording.Trailing.{Prior, Trailing}
+use Rattle.archive.proofs.recording.TrailingLaws.{rests-buffered}
 use Rattle.archive.proofs.recording.TrailingMoves.{trailing-idle}
 use Rattle.archive.proofs.recording.HeaderCopies.{Carried, Copy, Below}
 use Rattle.archive.proofs.recording.CopiesLink as copies
@@ -67,68 +70,73 @@ module _ {last pass : ℕ} {on-newest none-bears : Type 0} {prior : Prior} (w : 
   abbrev After : OutcomeSaid → Type 0
   After x = Inv last pass on-newest none-bears prior (repliedWorld w (x .session))
 
-  pub ends-so : (s : State) (n : ℕ) → (w .session .stage ≡ S.Done → ⊥) → Safe last (w .drive) → After (ending s n)
-  ends-so s n d safe = over wr (record { ended = refl; none = refl; safe = safe; unreported = unreported l d })
+  pub ends-so : (s : State) (n : ℕ) → isSpending s n ≡ false → (w .session .stage ≡ S.Done → ⊥) → Safe last (w .drive) → After (ending s n)
+  ends-so s n final d safe = over wr (record { ended = refl; final = final; none = refl; safe = safe; unreported = unreported l d })
 
   module _ (st : HeaderStage (w .session)) (again : w .session .exchange .again ≡ false) (asked : w .session .exchange .awaiting ≡ true) where
     sized-same : (v : State) → v .setup .highest ≡ w .session .setup .highest → v .elements ≡ w .session .elements → _≡_ {A = Sized} (record { top = v .setup .highest; els = v .elements }) (record { top = w .session .setup .highest; els = w .session .elements })
     sized-same v high els = ap (λ (n : ℕ). record { top = n; els = v .elements }) high ∙ ap (λ (x : Elements). record { top = w .session .setup .highest; els = x }) els
 
     -- the same headers, other copies or another command
-    more-live : (v : State) → v .ended ≡ false → v .stage ≡ w .session .stage → v .setup .highest ≡ w .session .setup .highest → v .elements ≡ w .session .elements → v .copies .header ≡ w .session .copies .header
-        → Course last (repliedWorld w v) (l .k) (l .edge) → Live last pass on-newest none-bears prior (repliedWorld w v)
-    more-live v going stage high els head course = record {
-      k = l .k;
-      edge = l .edge;
-      going = going;
-      counted =
-          let c = l .counted in
-          let pending = ap (λ (x : Elements). x .pending) els in
-          let outstanding = ap (λ (x : Elements). x .outstanding) els in
-          let first = ap (λ (x : Elements). x .first .0) els in
-          let limit = ap (λ (x : Elements). x .limit .0) els in
-          record {
-            wide = subst (λ (n : ℕ). n ≤ 63) (sym high) (c .wide);
-            held = let h = c .held in omega arith;
-            windowed = let h = c .windowed in omega (arith, high);
-            numbered = ap (λ (x : Elements). x .first .0 + x .pending) els ∙ c .numbered ∙ ap (λ (x : Elements). totalOf (x .eod) (length (w .notes .accepted))) (sym els);
-            marks = ap (λ (x : Elements). length (x .marks)) els ∙ c .marks;
-            room = let h = c .room in omega arith;
+    more-live : (v : State) → v .ended ≡ false → v .stage ≡ w .session .stage → v .setup ≡ w .session .setup → v .elements ≡ w .session .elements → v .copies .header ≡ w .session .copies .header
+        → Course last (length (l .list)) (repliedWorld w v) (l .k) (l .edge) → Live last pass on-newest none-bears prior (repliedWorld w v)
+    more-live v going stage setup els head course =
+        let high : v .setup .highest ≡ w .session .setup .highest = ap (λ (x : Setup). x .highest) setup in
+        record {
+          k = l .k;
+          edge = l .edge;
+          list = l .list;
+          floor = l .floor;
+          promises = record {
+            is = l .promises .is;
+            ungiven = λ v0. l .promises .ungiven (sym (ap (λ (x : Elements). x .eod) els) ∙ v0);
+            aimed = λ none t.
+                let x = l .promises .aimed (sym (ap (λ (y : Setup). y .tail) setup) ∙ none) (sym (ap (λ (y : Elements). y .locate) els) ∙ t) in
+                omega (arith, ap (λ (y : Elements). y .target .0) els, ap (λ (y : Elements). y .limit .0) els);
           };
-      carried = subst (λ (n : ℕ). Carried last pass n (v .copies .header)) (ap spareOf (sym stage)) (subst (λ (x : Header). Carried last pass (spareOf (w .session .stage)) x) (sym head) (l .carried));
-      course = course;
-      reported = λ e. stage ∙ l .reported e;
-      outgoing = λ _. record { queue = λ el _. header-not-element (w .session) st (sym stage ∙ el); sent = λ _ _ _ z. none-sent z };
-      eod-place = record {
-        written = λ el _ _. header-not-element (w .session) st (sym stage ∙ el);
-        named = λ q. subst (λ (x : Header). EodAt last pass none-bears (length (w .notes .accepted)) (w .drive .tape) (x .eod .0)) (sym head) (l .eod-place .named (⊎-elim (λ z. inl (sym stage ∙ z)) (λ z. inr (sym stage ∙ z)) q));
-      };
-      below = λ p. subst (λ (x : Header). Below last x (w .drive .tape)) (sym head) (l .below p);
-      clean = l .clean;
-      content = λ p u.
-          let c = l .content p u in
-          record {
-            tape = c .tape;
-            seen = c .seen;
-            stored = subst (λ (p : Sized). (i : ℕ) → i < p .els .pending → StoredAs (itemAt (w .notes .accepted) (p .els .first .0 + i)) (w .window) (p .els .marks) (p .top + 1) (p .els .first .0 + i)) (sym (sized-same v high els)) (c .stored);
+          going = going;
+          counted =
+              let c = l .counted in
+              let pending = ap (λ (x : Elements). x .pending) els in
+              let outstanding = ap (λ (x : Elements). x .outstanding) els in
+              let first = ap (λ (x : Elements). x .first .0) els in
+              let limit = ap (λ (x : Elements). x .limit .0) els in
+              record {
+                wide = subst (λ (n : ℕ). n ≤ 63) (sym high) (c .wide);
+                held = let h = c .held in omega arith;
+                windowed = let h = c .windowed in omega (arith, high);
+                numbered = ap (λ (x : Elements). x .first .0 + x .pending) els ∙ c .numbered ∙ ap (λ (x : Elements). totalOf (x .eod) (length (l .list))) (sym els);
+                marks = ap (λ (x : Elements). length (x .marks)) els ∙ c .marks;
+                room = let h = c .room in omega arith;
+              };
+          carried = subst (λ (n : ℕ). Carried last pass n (v .copies .header)) (ap spareOf (sym stage)) (subst (λ (x : Header). Carried last pass (spareOf (w .session .stage)) x) (sym head) (l .carried));
+          course = course;
+          reported = λ e. stage ∙ l .reported e;
+          outgoing = λ _. record { queue = λ el _. header-not-element (w .session) st (sym stage ∙ el); sent = λ _ _ _ z. none-sent z };
+          eod-place = record {
+            written = λ el _ _. header-not-element (w .session) st (sym stage ∙ el);
+            named = λ q. subst (λ (x : Header). EodAt last pass none-bears (length (l .list)) (w .drive .tape) (x .eod .0)) (sym head) (l .eod-place .named (⊎-elim (λ z. inl (sym stage ∙ z)) (λ z. inr (sym stage ∙ z)) q));
           };
-      trailing =
-          subst (λ (y : Stage). Trailing last pass prior (w .notes .accepted) y (v .elements) (w .drive) recordings.no-command (l .k) (l .edge)) (sym stage)
-          (subst (λ (y : Elements). Trailing last pass prior (w .notes .accepted) (w .session .stage) y (w .drive) recordings.no-command (l .k) (l .edge)) (sym els) (trailing-idle (l .trailing)));
-    }
-
-  -- a drive at rest holds nothing, or has stopped
-  none-held : (w .session .elements .first .0 ≡ l .k) × (w .session .elements .locate ≡ true) × AtRest (w .drive) → Buffered last pass prior (w .notes .accepted) (w .session .elements) (w .drive) (l .k) (l .edge)
-  unfolding Frames
-  none-held (first, locate, stopped e) = halted e locate
-  none-held (first, locate, empty e) = holds (omega (arith, ap length e)) (subst (Frames last pass (w .notes .accepted) (Place prior last pass (l .k) (w .drive .at) (l .edge) (w .drive .tape)) (l .k)) (sym e) tt)
+          below = λ p. subst (λ (x : Header). Below last x (w .drive .tape)) (sym head) (l .below p);
+          clean = l .clean;
+          content = λ p u.
+              let c = l .content p u in
+              record {
+                tape = c .tape;
+                seen = c .seen;
+                stored = subst (λ (p : Sized). (i : ℕ) → i < p .els .pending → StoredAs (itemAt (l .list) (p .els .first .0 + i)) (w .window) (p .els .marks) (p .top + 1) (p .els .first .0 + i)) (sym (sized-same v high els)) (c .stored);
+              };
+          trailing =
+              subst (λ (y : Stage). Trailing last pass prior (l .list) (w .notes .accepted) y (v .elements) (w .drive) recordings.no-command (l .k) (l .edge)) (sym stage)
+              (subst (λ (y : Elements). Trailing last pass prior (l .list) (w .notes .accepted) (w .session .stage) y (w .drive) recordings.no-command (l .k) (l .edge)) (sym els) (trailing-idle (l .trailing)));
+        }
 
   -- the copies are through: another stage
   module _ (to : Stage) (spare : spareOf (w .session .stage) ≡ spareOf to) where
     abbrev onward : State
     onward = withStage (repliedOf (w .session)) to
 
-    staged-live : Course last (repliedWorld w onward) (l .k) (l .edge) → (w .notes .reported ≡ true → to ≡ S.Done) → (to ≡ S.Elements → w .drive .failed ≡ false → Queue last pass (w .notes .accepted) (l .k) (w .drive .buffer))
+    staged-live : Course last (length (l .list)) (repliedWorld w onward) (l .k) (l .edge) → (w .notes .reported ≡ true → to ≡ S.Done) → (to ≡ S.Elements → w .drive .failed ≡ false → Queue last pass (l .list) (l .k) (w .drive .buffer))
         → (to ≡ S.Elements → w .session .elements .eod ≡ true → ⊥) → ((to ≡ S.ClosingHeaders) ⊎ (to ≡ S.Done) → w .session .stage ≡ S.ClosingHeaders)
         → (to ≡ S.Elements → (w .session .elements .first .0 ≡ l .k) × (w .session .elements .locate ≡ true) × AtRest (w .drive)) → Live last pass on-newest none-bears prior (repliedWorld w onward)
     staged-live course reported queue unended named begins =
@@ -136,6 +144,9 @@ module _ {last pass : ℕ} {on-newest none-bears : Type 0} {prior : Prior} (w : 
         record {
           k = l .k;
           edge = l .edge;
+          list = l .list;
+          floor = l .floor;
+          promises = record { is = l .promises .is; ungiven = l .promises .ungiven; aimed = l .promises .aimed };
           going = l .going;
           counted = record { wide = c .wide; held = c .held; windowed = c .windowed; numbered = c .numbered; marks = c .marks; room = c .room };
           carried = subst (λ (n : ℕ). Carried last pass n (w .session .copies .header)) spare (l .carried);
@@ -150,11 +161,12 @@ module _ {last pass : ℕ} {on-newest none-bears : Type 0} {prior : Prior} (w : 
               let x = l .trailing in
               record {
                 from = x .from;
+                prefix = x .prefix;
                 marked = x .marked;
                 trail = x .trail;
                 written = x .written;
                 behind = λ el j a low high _. let y = begins el .0 in absurd (omega arith);
-                queue = λ el. none-held (begins el);
+                queue = λ el. let y = begins el in rests-buffered (w .session .elements) (w .drive) (let z = y .0 in omega arith) (y .1) (y .2);
                 sent = λ _ _ _ z. none-sent z;
                 tape = x .tape;
               };
@@ -166,10 +178,10 @@ module _ {last pass : ℕ} {on-newest none-bears : Type 0} {prior : Prior} (w : 
     abbrev opened : State
     opened = withStage (repliedOf (w .session)) S.Elements
 
-    nothing-queued : AtRest (w .drive) → w .drive .failed ≡ false → Queue last pass (w .notes .accepted) (l .k) (w .drive .buffer)
+    nothing-queued : AtRest (w .drive) → w .drive .failed ≡ false → Queue last pass (l .list) (l .k) (w .drive .buffer)
     unfolding Queue
     nothing-queued (stopped e) free = clash e free
-    nothing-queued (empty e) free = subst (Queue last pass (w .notes .accepted) (l .k)) (sym e) tt
+    nothing-queued (empty e) free = subst (Queue last pass (l .list) (l .k)) (sym e) tt
 
     opened-live : AtRest (w .drive) → Live last pass on-newest none-bears prior (repliedWorld w opened)
     opened-live rests =
@@ -179,7 +191,7 @@ module _ {last pass : ℕ} {on-newest none-bears : Type 0} {prior : Prior} (w : 
           none-out = t .none-out;
           first-is = t .first-is;
           rests = rests;
-          roof = omega (arith, t .roof);
+          low = omega (arith, t .roof, t .spread);
           zone = ⊎-elim (λ z. inl (omega arith)) (λ z. inr (omega arith)) (t .zone);
           spread = omega (arith, t .spread);
           edge-is = sym (t .target-is);
@@ -194,11 +206,11 @@ module _ {last pass : ℕ} {on-newest none-bears : Type 0} {prior : Prior} (w : 
     opening-next (next.through rests copy) safe =
         subst (λ (x : Stage). Inv last pass on-newest none-bears prior (repliedWorld w (settledOf (withStage (repliedOf (w .session)) (followingOf x))))) (sym q)
         (settled-cases opened (λ (v : State). Inv last pass on-newest none-bears prior (repliedWorld w v)) (λ _. live wr (opened-live rests)) (λ a b c z. live wr (eod-live (repliedWorld w opened) (opened-live rests) a b c z)) (λ _ b _. clash b v))
-    opening-next (next.ends n) safe = ends-so (w .session) n (λ z. never (cc)) safe
+    opening-next (next.ends n other) safe = ends-so (w .session) n (ap (λ (b : Bool). b && (ltb 0 (w .session .setup .tail) && not (w .session .elements .eod))) other) (λ z. never (cc)) safe
 
   -- ---- the closing headers
 
-  module _ (q : w .session .stage ≡ S.ClosingHeaders) (v : w .session .elements .eod ≡ true) (closed : w .session .closed ≡ true) (k0 : l .k ≡ length (w .notes .accepted) + 1) (e0 : l .edge ≡ last + 1) (again : w .session .exchange .again ≡ false) (asked : w .session .exchange .awaiting ≡ true) where
+  module _ (q : w .session .stage ≡ S.ClosingHeaders) (v : w .session .elements .eod ≡ true) (closed : w .session .closed ≡ true) (k0 : l .k ≡ length (l .list) + 1) (e0 : l .edge ≡ last + 1) (again : w .session .exchange .again ≡ false) (asked : w .session .exchange .awaiting ≡ true) where
     abbrev done : State
     done = withStage (repliedOf (w .session)) S.Done
 
@@ -214,7 +226,7 @@ module _ {last pass : ℕ} {on-newest none-bears : Type 0} {prior : Prior} (w : 
     closing-next (next.through rests copy) safe =
         subst (λ (x : Stage). Inv last pass on-newest none-bears prior (repliedWorld w (settledOf (withStage (repliedOf (w .session)) (followingOf x))))) (sym q)
         (settled-cases done (λ (v : State). Inv last pass on-newest none-bears prior (repliedWorld w v)) (λ _. live wr (done-live rests copy)) (λ a _ _ _. never (cc)) (λ a _ _. never (cc)))
-    closing-next (next.ends n) safe = ends-so (w .session) n (λ z. never (cc)) safe
+    closing-next (next.ends n other) safe = ends-so (w .session) n (ap (λ (b : Bool). b && (ltb 0 (w .session .setup .tail) && not (w .session .elements .eod))) other) (λ z. never (cc)) safe
 
   -- ---- by what the drive gave
 
@@ -249,7 +261,7 @@ module _ {last pass : ℕ} {on-newest none-bears : Type 0} {prior : Prior} (w : 
       (λ y. live wr (more-live (inl q) g a (repeatedOf (w .session)) (l .going) refl refl refl refl (inv.opening q v t (record { counts = agree .counts; placed = agree .placed; copying = copies.again refl refl y }))))
       (w .session .exchange .command) refl x
 
-  pub closing-replies : (q : w .session .stage ≡ S.ClosingHeaders) → w .session .elements .eod ≡ true → w .session .closed ≡ true → l .k ≡ length (w .notes .accepted) + 1 → l .edge ≡ last + 1 → CopiesAgree (w .session) (w .drive) (w .flight) → Copying (w .session) (w .drive) (recordings.answered r) → After (replyOf (w .session) r)
+  pub closing-replies : (q : w .session .stage ≡ S.ClosingHeaders) → w .session .elements .eod ≡ true → w .session .closed ≡ true → l .k ≡ length (l .list) + 1 → l .edge ≡ last + 1 → CopiesAgree (w .session) (w .drive) (w .flight) → Copying (w .session) (w .drive) (recordings.answered r) → After (replyOf (w .session) r)
   closing-replies q v c k0 e0 agree (copies.replied _ a g x) =
       header-replies (inr q) g a agree (λ _ y safe. closing-next q v c k0 e0 g a y safe)
       (λ y. live wr (more-live (inr q) g a (repeatedOf (w .session)) (l .going) refl refl refl refl (inv.closing q v c k0 e0 (record { counts = agree .counts; placed = agree .placed; copying = copies.again refl refl y }))))

@@ -28,7 +28,7 @@ use Rattle.recording_state.proofs.Kept.{heldOf}
 use Rattle.recording_state.proofs.Stages.{ElementStage}
 use Rattle.archive.specs.Tape.{Tape}
 use Rattle.archive.specs.Recordings as recordings
-use Rattle.archive.specs.Recordings.{World, Element}
+use Rattle.archive.specs.Recordings.{World, Element, promised}
 use Rattle.archive.specs.Chain.{first}
 use Rattle.archive.specs.Trails.{itemAt, kindFor, filemarksAmong, latestAmong, NamesLatest, sequenceNumber, markerNamed, IsFrame, FrameOn, StandsAt, on-tape, held, StandsSomewhere, HeaderGoesOut, ElementGoesOut, InFlight}
 use Rattle.archive.proofs.tape.Marks.{isFilemark, kind-marker, latest-map}
@@ -42,7 +42,7 @@ use Rattle.archive.proofs.recording.ContentMoves.{most}
 use Rattle.archive.proofs.recording.ElementsLink as elements
 use Rattle.archive.proofs.recording.ElementsLink.{Linked, Writing}
 use Rattle.archive.proofs.recording.Invariant as inv
-use Rattle.archive.proofs.recording.Invariant.{Course, Live, Inv, live, rejecting, over}
+use Rattle.archive.proofs.recording.Invariant.{Course, Live, Inv, live, rejecting, spent, over}
 use Rattle.archive.proofs.recording.Setting.{Setting}
 use Rattle.archive.proofs.recording.Trailing as trailing
 use Rattle.archive.proofs.recording.Trailing.{Prior, MarkerBelow, Place, Buffered, holds, halted}
@@ -92,15 +92,15 @@ module _ {last pass : ℕ} {on-newest none-bears : Type 0} {prior : Prior} (w : 
   copying-sent (copies.under-way _ _ _ _ _ is _) = subst (HeaderGoesOut last pass) (sym is) (header-sent (w .session .copies .header) (set .low))
 
   -- number j, which the drive holds, is among its frames, which are for user frames
-  held-at : Linked last (heldOf (w .session)) (w .drive) (l .k) (l .edge) 0 → Buffered last pass prior (w .notes .accepted) (w .session .elements) (w .drive) (l .k) (l .edge) → (j b : ℕ) → l .k ≤ j → j < l .k + length (w .drive .buffer)
-      → b + l .k ≡ w .drive .at + j → StandsAt last pass (w .drive) (kindFor (itemAt (w .notes .accepted) j)) j b
+  held-at : Linked last (heldOf (w .session)) (w .drive) (l .k) (l .edge) 0 → Buffered last pass prior (l .list) (w .session .elements) (w .drive) (l .k) (l .edge) → (j b : ℕ) → l .k ≤ j → j < l .k + length (w .drive .buffer)
+      → b + l .k ≡ w .drive .at + j → StandsAt last pass (w .drive) (kindFor (itemAt (l .list) j)) j b
   held-at x (halted _ z) j b g h e = clash z (x .placed)
   held-at x (holds _ fs) j b g h e =
       let i = j - l .k in
       let there : l .k + i ≡ j = omega arith in
-      let found = frames-at last pass (w .notes .accepted) _ (l .k) (w .drive .buffer) i (omega arith) fs .found in
+      let found = frames-at last pass (l .list) _ (l .k) (w .drive .buffer) i (omega arith) fs .found in
       held i (omega arith) (place-held (l .k) (w .drive .at) j b g e) user
-      (is-frame (subst (λ (n : ℕ). FoundAs (telling last pass 0) (record { 0 = n }) (kindFor (itemAt (w .notes .accepted) n)) (getD (w .drive .buffer) i [])) there found))
+      (is-frame (subst (λ (n : ℕ). FoundAs (telling last pass 0) (record { 0 = n }) (kindFor (itemAt (l .list) n)) (getD (w .drive .buffer) i [])) there found))
     where
       user : isUser last b ≡ true
       user =
@@ -110,18 +110,18 @@ module _ {last pass : ℕ} {on-newest none-bears : Type 0} {prior : Prior} (w : 
           let spread = x .spread in
           ranges-user last b (⊎-elim (λ z. inl (omega arith, omega arith)) (λ z. inr (omega arith, omega arith)) (x .zone))
 
-  stands-at : ElementStage (w .session) → Linked last (heldOf (w .session)) (w .drive) (l .k) (l .edge) 0 → (j b : ℕ) → j < l .k + length (w .drive .buffer) → isFilemark (w .notes .accepted) j ≡ true → Place prior last pass (l .k) (w .drive .at) (l .edge) (w .drive .tape) j b
+  stands-at : ElementStage (w .session) → Linked last (heldOf (w .session)) (w .drive) (l .k) (l .edge) 0 → (j b : ℕ) → j < l .k + length (w .drive .buffer) → isFilemark (l .list) j ≡ true → Place prior last pass (l .k) (w .drive .at) (l .edge) (w .drive .tape) j b
       → (j < prior .base → prior .same) → StandsAt last pass (w .drive) Marker j b
   stands-at st x j b h m (trailing.on-tape _ y) s = on-tape (marker-on (y .there s))
   stands-at st x j b h m (trailing.to-come g e) s =
-      subst (λ (k : Kind). StandsAt last pass (w .drive) k j b) (kind-marker (w .notes .accepted) j m) (held-at x (l .trailing .queue st) j b g h e)
+      subst (λ (k : Kind). StandsAt last pass (w .drive) k j b) (kind-marker (l .list) j m) (held-at x (l .trailing .queue st) j b g h e)
 
   -- each number of the session's before those that the drive holds is on tape
   stands-before : ElementStage (w .session) → Linked last (heldOf (w .session)) (w .drive) (l .k) (l .edge) 0 → (j : ℕ) → prior .base ≤ j → j < l .k + length (w .drive .buffer)
-      → StandsSomewhere last pass (w .drive) (kindFor (itemAt (w .notes .accepted) j)) j
+      → StandsSomewhere last pass (w .drive) (kindFor (itemAt (l .list) j)) j
   stands-before st x j own h = go (decLe (l .k) j)
     where
-      go : Dec (l .k ≤ j) → StandsSomewhere last pass (w .drive) (kindFor (itemAt (w .notes .accepted) j)) j
+      go : Dec (l .k ≤ j) → StandsSomewhere last pass (w .drive) (kindFor (itemAt (l .list) j)) j
       go (yes g) = let spread = x .spread in record { place = w .drive .at + (j - l .k); there = held-at x (l .trailing .queue st) j (w .drive .at + (j - l .k)) g h (omega arith) }
       go (no g) =
           let y = l .trailing .written j own (omega arith) in
@@ -129,7 +129,7 @@ module _ {last pass : ℕ} {on-newest none-bears : Type 0} {prior : Prior} (w : 
           record { place = y .place; there = on-tape (record { frame = z .frame; user = z .user; reads = z .reads; is = is-frame (z .found) }) }
 
   abbrev xs : List Element
-  xs = w .notes .accepted
+  xs = l .list
 
   -- the frames that the drive holds are numbered from k on
   numbered-at : ElementStage (w .session) → Linked last (heldOf (w .session)) (w .drive) (l .k) (l .edge) 0 → (i : ℕ) → i < length (w .drive .buffer) → sequenceNumber (getD (w .drive .buffer) i []) ≡ l .k + i
@@ -173,14 +173,17 @@ module _ {last pass : ℕ} {on-newest none-bears : Type 0} {prior : Prior} (w : 
   header-out : Copying (w .session) (w .drive) (recordings.sent (Write a) f) → Out
   header-out c = record { puts = copying-puts c; header = λ _. copying-sent c; element = λ off. clash (copying-header c) off }
 
-  live-out : Course last w (l .k) (l .edge) → Out
+  live-out : Course last (length (l .list)) w (l .k) (l .edge) → Out
   live-out (inv.opening _ _ _ c) = header-out (subst (Copying (w .session) (w .drive)) q (c .copying))
   live-out (inv.writing st _ x) = let y = subst (Writing last (w .session) (w .drive) (l .k) (l .edge)) q x in let out = element-out st y in record { puts = writing-puts y; header = λ at. absurd (header-not-user last (a .0) at (out .user)); element = λ _. out }
   live-out (inv.closing _ _ _ _ _ c) = header-out (subst (Copying (w .session) (w .drive)) q (c .copying))
   live-out (inv.finished _ _ _ _ _ none _ _ _ _) = none-sent (sym none ∙ q)
 
+-- and the elements that there were before are among those that are promised
 pub goes-out : {last pass : ℕ} {on-newest none-bears : Type 0} {prior : Prior} (w : World) → Setting last pass → Inv last pass on-newest none-bears prior w → (a : Address) (f : List ℕ) → w .flight ≡ recordings.sent (Write a) f
-    → InFlight last pass (prior .base) (w .notes .accepted) (w .drive) (prior .same) (a .0) f
-goes-out w set (live _ l) a f q = live-out w set l a f q (l .course)
+    → InFlight last pass (prior .base) (promised (w .notes)) (w .drive) (prior .same) (a .0) f × (prior .base ≤ length (promised (w .notes)))
+goes-out {last} {pass} {prior = prior} w set (live _ l) a f q =
+    subst (λ (ys : List Element). InFlight last pass (prior .base) ys (w .drive) (prior .same) (a .0) f × (prior .base ≤ length ys)) (l .promises .is) (live-out w set l a f q (l .course), l .floor .1)
 goes-out w set (rejecting _ x) a f q = answered-sent (sym (x .replied) ∙ q)
+goes-out w set (spent _ x) a f q = none-sent (sym (x .none) ∙ q)
 goes-out w set (over _ x) a f q = none-sent (sym (x .none) ∙ q)

@@ -5,6 +5,7 @@ use mathlib.Core.Path.{_≡_, sym, subst, _∙_}
 use mathlib.Core.Bool.{true, false}
 use mathlib.Core.List.{List}
 use mathlib.Core.Logic.{_⊎_, inl, inr}
+use lib.ListN.{length}
 use Rattle.geometry.specs.Cartridge.{isHeader}
 use Rattle.geometry.specs.declared.address.Address.{Address}
 use Rattle.geometry.proofs.Impossible.{never}
@@ -31,7 +32,7 @@ use Rattle.archive.proofs.recording.ElementsLink as elements
 use Rattle.archive.proofs.recording.ElementsLink.{Asks, Writing}
 use Rattle.archive.proofs.recording.ElementsMoves.{asks-off-header}
 use Rattle.archive.proofs.recording.Invariant as invariant
-use Rattle.archive.proofs.recording.Invariant.{Course, Live, Inv, live, rejecting, over}
+use Rattle.archive.proofs.recording.Invariant.{Course, Live, Inv, live, rejecting, spent, over}
 
 -- what a session has sent, and awaits the reply to
 pub record Issued (s : State) (c : Command) : Type 0 where
@@ -56,7 +57,7 @@ copies-read (copies.seeks b p s) a e = never (cc)
 elements-read : {last : ℕ} {h : Held} {pending : ℕ} {d : Drive} {k edge : ℕ} {c : Command} → Asks last h pending d k edge c → (a : Address) → c ≡ Read a → ⊥
 elements-read (elements.writes b p due off low l) a e = never (cc)
 elements-read (elements.asks l) a e = never (cc)
-elements-read (elements.moves b m) a e = never (cc)
+elements-read (elements.moves b _ m) a e = never (cc)
 
 module _ (w : World) (c : Command) (f : List ℕ) where
   header-issued : w .session .ended ≡ false → HeaderStage (w .session) → Copying (w .session) (w .drive) (recordings.sent c f) → Issued (w .session) c
@@ -82,7 +83,7 @@ module _ (w : World) (c : Command) (f : List ℕ) where
   }
 
 module _ {last pass : ℕ} {on-newest none-bears : Type 0} {prior : Prior} (w : World) (c : Command) (f : List ℕ) (q : w .flight ≡ recordings.sent c f) where
-  live-issued : (l : Live last pass on-newest none-bears prior w) → Course last w (l .k) (l .edge) → Issued (w .session) c
+  live-issued : (l : Live last pass on-newest none-bears prior w) → Course last (length (l .list)) w (l .k) (l .edge) → Issued (w .session) c
   live-issued l (invariant.opening st _ _ agree) = header-issued w c f (l .going) (inl st) (subst (Copying (w .session) (w .drive)) q (agree .copying))
   live-issued l (invariant.writing st _ a) = element-issued w c f (l .going) st (subst (Writing last (w .session) (w .drive) (l .k) (l .edge)) q a)
   live-issued l (invariant.closing st _ _ _ _ agree) = header-issued w c f (l .going) (inr st) (subst (Copying (w .session) (w .drive)) q (agree .copying))
@@ -91,6 +92,7 @@ module _ {last pass : ℕ} {on-newest none-bears : Type 0} {prior : Prior} (w : 
   issued : Inv last pass on-newest none-bears prior w → Issued (w .session) c
   issued (live _ l) = live-issued l (l .course)
   issued (rejecting _ d) = answered-sent (sym (d .replied) ∙ q)
+  issued (spent _ x) = none-sent (sym (x .none) ∙ q)
   issued (over _ o) = none-sent (sym (o .none) ∙ q)
 
   module _ (i : Inv last pass on-newest none-bears prior w) (r : Reply) where

@@ -1,5 +1,5 @@
 -- The headers that a recording gives and leaves name where EOD is. Assumes nothing.
-use Prim.Native.Nat.{ℕ}
+use Prim.Native.Nat.{ℕ, _≤_}
 use mathlib.Core.Path.{_≡_, sym, ap, subst, _∙_}
 use mathlib.Core.Bool.{true, false}
 use mathlib.Core.List.{List}
@@ -26,13 +26,14 @@ use Rattle.recording_state.proofs.FetchView.{FetchView, fetch-view}
 use Rattle.archive.specs.Tape.{Tape}
 use Rattle.archive.specs.Headers.{Newest}
 use Rattle.archive.specs.Recordings as recordings
+use Rattle.archive.specs.Recordings.{Element, promised}
 use Rattle.archive.specs.EndNamed.{EndsAt}
 use Rattle.archive.proofs.tape.Basics.{reads-itself}
 use Rattle.archive.proofs.tape.StandsLaws.{eod-ends}
 use Rattle.archive.proofs.recording.Trailing.{Prior}
 use Rattle.archive.proofs.recording.Setting.{Setting, EodAt}
-use Rattle.archive.proofs.recording.Invariant.{Inv, live, rejecting, over}
-use Rattle.archive.proofs.recording.Completion.{copy-fields, ends-named, user-some, closes}
+use Rattle.archive.proofs.recording.Invariant.{Inv, live, rejecting, spent, over}
+use Rattle.archive.proofs.recording.Completion.{copy-fields, ends-named, user-some, closes, reported-floor}
 
 -- EOD at an address, in the terms of a header that names it
 ends-at : {last pass n : ℕ} {none-bears : Type 0} {t : Tape} (h : Header) → h .last .0 ≡ last → h .pass ≡ pass → EodAt last pass none-bears n t (h .eod .0) → EndsAt h n t
@@ -69,22 +70,28 @@ module _ (s : State) (lent frame : List ℕ) (a : ℕ) (closing : s .stage ≡ S
   given-so (view.finished _ _ _) e = never (cc)
 
 given-end : {last pass : ℕ} {on-newest none-bears : Type 0} {prior : Prior} (w : recordings.World) (frame : List ℕ) → Setting last pass → Inv last pass on-newest none-bears prior w → w .session .stage ≡ S.ClosingHeaders → Given (w .session) frame
-    → EndsAt (headerOf frame) (length (w .notes .accepted)) (w .drive .tape)
-given-end w frame set (live _ l) closing x =
+    → EndsAt (headerOf frame) (length (promised (w .notes))) (w .drive .tape) × (prior .base ≤ length (promised (w .notes)))
+given-end {prior = prior} w frame set (live _ l) closing x =
     let h = w .session .copies .header in
     let fields : headerOf (headerFrame h) ≡ h = copy-fields set h (l .carried) (reads-itself (headerFrame h)) in
-    subst (λ (y : Header). EndsAt y (length (w .notes .accepted)) (w .drive .tape)) (sym (ap headerOf (x .as-carried) ∙ fields)) (ends-at h (l .carried .last-is) (l .carried .pass-is) (l .eod-place .named (inl closing)))
+    subst (λ (xs : List Element). EndsAt (headerOf frame) (length xs) (w .drive .tape) × (prior .base ≤ length xs)) (l .promises .is) (
+      subst (λ (y : Header). EndsAt y (length (l .list)) (w .drive .tape)) (sym (ap headerOf (x .as-carried) ∙ fields)) (ends-at h (l .carried .last-is) (l .carried .pass-is) (l .eod-place .named (inl closing))),
+      l .floor .1,
+    )
 given-end w frame set (rejecting _ d) closing x = clash (d .awaits) (x .free)
+given-end w frame set (spent _ o) closing x = clash (o .ended) (x .going)
 given-end w frame set (over _ o) closing x = clash (o .ended) (x .going)
 
--- ---- by the invariant
+-- ---- by the invariant; the elements that there were before are among those that are promised
 
 module _ {last pass : ℕ} {on-newest none-bears : Type 0} {prior : Prior} (w : recordings.World) (set : Setting last pass) (i : Inv last pass on-newest none-bears prior w) where
   pub given-named : (lent frame : List ℕ) (a : ℕ) → w .session .stage ≡ S.ClosingHeaders → fetchOf (w .session) lent frame .said ≡ command 0x0A a
-      → EndsAt (headerOf (fetchOf (w .session) lent frame .frame)) (length (w .notes .accepted)) (w .drive .tape)
+      → EndsAt (headerOf (fetchOf (w .session) lent frame .frame)) (length (promised (w .notes))) (w .drive .tape) × (prior .base ≤ length (promised (w .notes)))
   given-named lent frame a closing said = given-end w (fetchOf (w .session) lent frame .frame) set i closing (given-so (w .session) lent frame a closing (fetch-view (w .session) lent frame) said)
 
-  pub newest-named : on-newest → w .notes .reported ≡ true → (h : List ℕ) → Newest last (w .drive .tape) h → EndsAt (headerOf h) (length (w .notes .accepted)) (w .drive .tape)
+  pub newest-named : on-newest → w .notes .reported ≡ true → (h : List ℕ) → Newest last (w .drive .tape) h → EndsAt (headerOf h) (length (promised (w .notes))) (w .drive .tape) × (prior .base ≤ length (promised (w .notes)))
   newest-named newest reported h n =
-      let l = closes w set i newest reported in
-      ends-at (headerOf h) (valid-last last h (n .here .valid)) (l .passes h n) (subst (EodAt last pass none-bears (length (w .notes .accepted)) (w .drive .tape)) (sym (l .names h n)) (l .ends))
+      let l = closes w set i newest reported in (
+        ends-at (headerOf h) (valid-last last h (n .here .valid)) (l .passes h n) (subst (EodAt last pass none-bears (length (promised (w .notes))) (w .drive .tape)) (sym (l .names h n)) (l .ends)),
+        reported-floor w set i reported,
+      )

@@ -20,7 +20,7 @@ noted earlier kept w = record {
   window = w .window;
   drive = w .drive;
   flight = w .flight;
-  notes = record { accepted = earlier ++ w .notes .accepted; unaltered = kept && w .notes .unaltered; reported = w .notes .reported };
+  notes = record { accepted = earlier ++ w .notes .accepted; unaltered = kept && w .notes .unaltered; reported = w .notes .reported; givenUp = w .notes .givenUp };
 }
 
 accepted-with : (earlier xs : List Element) (x : Element) (n : ℕ) → acceptedAfter n (earlier ++ xs) x ≡ earlier ++ acceptedAfter n xs x
@@ -36,7 +36,7 @@ kept-with false b c = refl
 
 module _ (earlier : List Element) (kept : Bool) where
   abbrev as-noted : World → List Element → Bool → World
-  as-noted w xs u = record { session = w .session; window = w .window; drive = w .drive; flight = w .flight; notes = record { accepted = xs; unaltered = u; reported = w .notes .reported } }
+  as-noted w xs u = record { session = w .session; window = w .window; drive = w .drive; flight = w .flight; notes = record { accepted = xs; unaltered = u; reported = w .notes .reported; givenUp = w .notes .givenUp } }
 
   refuses-with : (w : World) (c : Call) → 1 ≤ refusal (w .session) c → refusal (w .session) c ≤ 7 → Calls (noted earlier kept w) c (noted earlier kept (afterRefusal w c))
   refuses-with w (accept-block b lent) l h = refuses (accept-block b lent) l h

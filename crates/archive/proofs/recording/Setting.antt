@@ -11,7 +11,8 @@ use Rattle.archive.specs.Tape.{Tape, Cartridge}
 use Rattle.archive.specs.Headers.{Newest}
 use Rattle.archive.specs.Recordings.{Element}
 use Rattle.archive.specs.Trails.{eod}
-use Rattle.archive.proofs.tape.Seen.{NoneFrom, Recorded}
+use Rattle.archive.proofs.tape.Seen.{NoneFrom}
+use Rattle.archive.proofs.tape.Closed.{ReadsAll}
 use Rattle.archive.proofs.tape.Stands.{Stands}
 
 -- the numbers that the geometry and the opening fix
@@ -38,8 +39,9 @@ pub record HeadersLeft (last pass : ℕ) (none-bears : Type 0) (n : ℕ) (t : Ta
   pub names : (h : List ℕ) → Newest last t h → headerOf h .eod .0 ≡ end-at
   pub ends : EodAt last pass none-bears n t end-at
 
--- and all that it leaves
-pub record Leaves (last pass : ℕ) (none-bears : Type 0) (t : Tape) (xs : List Element) : Type 0 where
+-- and all that it leaves: of the elements xs those that are promised, ps, are read, and at most one more
+pub record Leaves (last pass base : ℕ) (none-bears : Type 0) (t : Tape) (ps xs : List Element) : Type 0 where
   pub cartridge : Cartridge last t
-  pub headers : HeadersLeft last pass none-bears (length xs) t
-  pub recorded : Recorded last pass t xs (headers .end-at)
+  pub headers : HeadersLeft last pass none-bears (length ps) t
+  pub reads : ReadsAll last pass ps xs (headers .end-at) t
+  pub floor : base ≤ length ps

@@ -33,7 +33,8 @@ use Rattle.copies.proofs.Counts.{start-counts}
 use Rattle.copies.proofs.Placed.{start-placed}
 use Rattle.recording_state.specs.State.{OutcomeSaid, accepting}
 use Rattle.carried_headers.specs.Carried.{isExhausted, renewed, openingHeader}
-use Rattle.recording_state.specs.Open.{startedAt, fresh, openRefused, isMisfit, openWith, openFor, openOf, openBlankFor, openBlankOf}
+use Rattle.recording_state.specs.Open.{setupOf, startedAt, fresh, openRefused, isMisfit, openWith, openFor, openOf, openBlankFor, openBlankOf}
+use Rattle.recording_state.specs.declared.state.Setup.{Setup}
 use Rattle.recording_state.specs.declared.state.State.{State}
 use Rattle.recording_state.proofs.Sizes.{sizes-fit}
 use Rattle.recording_state.specs.declared.state.Stage.the-variants as S
@@ -44,6 +45,7 @@ use Rattle.archive.specs.Demand.{newPass, Opening, on-header, on-none, o
 use Rattle.archive.specs.Fold.{foldOf}
 use Rattle.archive.specs.Trails.{filemarksAmong, latestAmong}
 use Rattle.archive.proofs.tape.Stands.{unending}
+use Rattle.archive.proofs.tape.Basics.{promised-all}
 use Rattle.archive.proofs.tape.Seen.{has, Seen, Clean}
 use Rattle.archive.proofs.tape.FoldLaws.{fold-none}
 use Rattle.archive.proofs.recording.Trailing.{Marked, Traces, TapeTrails, priorOf}
@@ -57,13 +59,12 @@ use Rattle.archive.proofs.recording.Setting.{Setting}
 -- ---- an opening that was accepted, behind elements that the cartridge holds already
 
 pub record Started (last : ℕ) (earlier : List Element) (at : ℕ) (s : State) : Type 0 where
-  pub depth : ℕ
-  pub highest : ℕ
+  pub setup : Setup
   pub header : Header
   pub number : Seq
   pub trail : Trail
-  pub is : startedAt depth highest header (asAddress at) number trail ≡ s
-  pub narrow : highest ≤ 63
+  pub is : startedAt setup header (asAddress at) number trail ≡ s
+  pub narrow : setup .highest ≤ 63
   pub last-is : header .last .0 ≡ last
   pub pass-low : header .pass ≤ 65534
   pub eod-zero : header .eod .0 ≡ 0
@@ -77,29 +78,29 @@ pub record Started (last : ℕ) (earlier : List Element) (at : ℕ) (s : State) 
 pub refused-accepting : {X : Type 0} {s : State} (n : ℕ) → 1 ≤ n → openRefused n ≡ accepting s → X
 refused-accepting n l e = let z : n ≡ 0 = ap (λ (r : OutcomeSaid). r .number) e in absurd (omega arith)
 
-opened-with : (depth blocks : ℕ) (exhausted : Bool) (h : Header) (s : State) → openWith depth blocks exhausted h ≡ accepting s → (fresh depth (blocks - 1) h ≡ s) × (blocks ≤ 64) × (exhausted ≡ false)
+opened-with : (depth blocks tail : ℕ) (exhausted : Bool) (h : Header) (s : State) → openWith depth blocks tail exhausted h ≡ accepting s → (fresh (setupOf depth blocks tail) h ≡ s) × (blocks ≤ 64) × (exhausted ≡ false)
 unfolding openWith
-opened-with depth blocks exhausted h s =
-    pick-by (λ (r : OutcomeSaid). r ≡ accepting s → (fresh depth (blocks - 1) h ≡ s) × (blocks ≤ 64) × (exhausted ≡ false)) (isMisfit depth blocks) (λ _ e. refused-accepting 4 (omega arith) e)
-    (λ sizes. pick-by (λ (r : OutcomeSaid). r ≡ accepting s → (fresh depth (blocks - 1) h ≡ s) × (blocks ≤ 64) × (exhausted ≡ false)) exhausted (λ _ e. refused-accepting 5 (omega arith) e)
+opened-with depth blocks tail exhausted h s =
+    pick-by (λ (r : OutcomeSaid). r ≡ accepting s → (fresh (setupOf depth blocks tail) h ≡ s) × (blocks ≤ 64) × (exhausted ≡ false)) (isMisfit depth blocks) (λ _ e. refused-accepting 4 (omega arith) e)
+    (λ sizes. pick-by (λ (r : OutcomeSaid). r ≡ accepting s → (fresh (setupOf depth blocks tail) h ≡ s) × (blocks ≤ 64) × (exhausted ≡ false)) exhausted (λ _ e. refused-accepting 5 (omega arith) e)
     (λ x e. (ap (λ (r : OutcomeSaid). r .session) e, sizes-fit depth blocks sizes .1, x)))
 
-module _ (g : Geometry) (last depth blocks : ℕ) (s : State) (e : lastOf g ≡ address last) where
+module _ (g : Geometry) (last depth blocks tail : ℕ) (s : State) (e : lastOf g ≡ address last) where
   pub record OnHeader (h : List ℕ) : Type 0 where
     pub valid : validHeader (asAddress last) h ≡ true
-    pub with : (fresh depth (blocks - 1) (renewed (headerOf h)) ≡ s) × (blocks ≤ 64) × (isExhausted (headerOf h) ≡ false)
+    pub with : (fresh (setupOf depth blocks tail) (renewed (headerOf h)) ≡ s) × (blocks ≤ 64) × (isExhausted (headerOf h) ≡ false)
 
-  on-header-view : (h : List ℕ) → openOf g depth blocks h ≡ accepting s → OnHeader h
+  on-header-view : (h : List ℕ) → openOf g depth blocks tail h ≡ accepting s → OnHeader h
   unfolding openOf
   on-header-view h = go (readHeader g h) refl
     where
       With : Header → Type 0
-      With x = (fresh depth (blocks - 1) (renewed x) ≡ s) × (blocks ≤ 64) × (isExhausted x ≡ false)
+      With x = (fresh (setupOf depth blocks tail) (renewed x) ≡ s) × (blocks ≤ 64) × (isExhausted x ≡ false)
 
-      go : (c : CheckedSaid) → readHeader g h ≡ c → openFor c depth blocks ≡ accepting s → OnHeader h
+      go : (c : CheckedSaid) → readHeader g h ≡ c → openFor c depth blocks tail ≡ accepting s → OnHeader h
       go (checked.valid fields) r q =
           let taken = taken-valid g h e r in
-          record { valid = taken .is-valid; with = subst With (taken .told) (opened-with depth blocks (isExhausted fields) (renewed fields) s q) }
+          record { valid = taken .is-valid; with = subst With (taken .told) (opened-with depth blocks tail (isExhausted fields) (renewed fields) s q) }
       go (checked.refused n) r q = refused-accepting n (refused-number g h e r) q
 
   fresh-counts : (h : List ℕ) → OnHeader h → (headerOf h .pass < 65534) × (headerOf h .update ≤ 4294967293)
@@ -113,8 +114,7 @@ module _ (g : Geometry) (last depth blocks : ℕ) (s : State) (e : lastOf g ≡ 
       let small : (headerOf h .pass + 1) % 2 ^ 16 ≡ headerOf h .pass + 1 = mod-eq-of-lt (let y = x .0 in omega arith) in
       let few : (headerOf h .update + 1) % 2 ^ 32 ≡ headerOf h .update + 1 = mod-eq-of-lt (let y = x .1 in omega arith) in
       record {
-        depth = depth;
-        highest = blocks - 1;
+        setup = setupOf depth blocks tail;
         header = renewed (headerOf h);
         number = asSeq 0;
         trail = noTrail;
@@ -131,16 +131,15 @@ module _ (g : Geometry) (last depth blocks : ℕ) (s : State) (e : lastOf g ≡ 
         count-fits = let y = x .1 in omega (arith, few);
       }
 
-  blank-with : openBlankOf g depth blocks ≡ accepting s → (fresh depth (blocks - 1) (openingHeader (asAddress last) 1 0) ≡ s) × (blocks ≤ 64) × (false ≡ false)
+  blank-with : openBlankOf g depth blocks tail ≡ accepting s → (fresh (setupOf depth blocks tail) (openingHeader (asAddress last) 1 0) ≡ s) × (blocks ≤ 64) × (false ≡ false)
   unfolding openBlankOf
-  blank-with q = opened-with depth blocks false (openingHeader (asAddress last) 1 0) s (sym (ap (λ (y : PlaceSaid). openBlankFor y depth blocks) e) ∙ q)
+  blank-with q = opened-with depth blocks tail false (openingHeader (asAddress last) 1 0) s (sym (ap (λ (y : PlaceSaid). openBlankFor y depth blocks tail) e) ∙ q)
 
-  started-none : 3000 ≤ last → openBlankOf g depth blocks ≡ accepting s → Started last [] 10 s
+  started-none : 3000 ≤ last → openBlankOf g depth blocks tail ≡ accepting s → Started last [] 10 s
   started-none large q =
       let o = blank-with q in
       record {
-        depth = depth;
-        highest = blocks - 1;
+        setup = setupOf depth blocks tail;
         header = openingHeader (asAddress last) 1 0;
         number = asSeq 0;
         trail = noTrail;
@@ -157,11 +156,11 @@ module _ (g : Geometry) (last depth blocks : ℕ) (s : State) (e : lastOf g ≡ 
         count-fits = omega arith;
       }
 
-  pub started-as : 3000 ≤ last → (o : Opening) → opened g depth blocks o ≡ accepting s → Started last [] 10 s
+  pub started-as : 3000 ≤ last → (o : Opening) → opened g depth blocks tail o ≡ accepting s → Started last [] 10 s
   started-as large (on-header h) q = started-header large h (on-header-view h q)
   started-as large on-none q = started-none large q
 
-  pub pass-is : (o : Opening) → opened g depth blocks o ≡ accepting s → s .copies .header .pass ≡ newPass o
+  pub pass-is : (o : Opening) → opened g depth blocks tail o ≡ accepting s → s .copies .header .pass ≡ newPass o
   pass-is (on-header h) q =
       let o = on-header-view h q in
       let small : (headerOf h .pass + 1) % 2 ^ 16 ≡ headerOf h .pass + 1 = mod-eq-of-lt (let y = fresh-counts h o .0 in omega arith) in
@@ -169,12 +168,21 @@ module _ (g : Geometry) (last depth blocks : ℕ) (s : State) (e : lastOf g ≡ 
   pass-is on-none q = sym (ap (λ (r : State). r .copies .header .pass) (blank-with q .0))
 
   -- it starts with no filemark
-  pub trail-none : (o : Opening) → opened g depth blocks o ≡ accepting s → s .elements .trail ≡ noTrail
+  pub trail-none : (o : Opening) → opened g depth blocks tail o ≡ accepting s → s .elements .trail ≡ noTrail
   trail-none (on-header h) q = sym (ap (λ (r : State). r .elements .trail) (on-header-view h q .with .0))
   trail-none on-none q = sym (ap (λ (r : State). r .elements .trail) (blank-with q .0))
 
+  -- it keeps the tail that was asked for, and is not spent
+  pub opened-tail : (o : Opening) → opened g depth blocks tail o ≡ accepting s → s .setup .tail ≡ tail
+  opened-tail (on-header h) q = sym (ap (λ (r : State). r .setup .tail) (on-header-view h q .with .0))
+  opened-tail on-none q = sym (ap (λ (r : State). r .setup .tail) (blank-with q .0))
+
+  pub opened-unspent : (o : Opening) → opened g depth blocks tail o ≡ accepting s → s .spent ≡ false
+  opened-unspent (on-header h) q = sym (ap (λ (r : State). r .spent) (on-header-view h q .with .0))
+  opened-unspent on-none q = sym (ap (λ (r : State). r .spent) (blank-with q .0))
+
   -- every valid header that the cartridge holds counts less
-  pub starts-below : (t : Tape) (o : Opening) → opened g depth blocks o ≡ accepting s → OnNewest last t o → Below last (s .copies .header) t
+  pub starts-below : (t : Tape) (o : Opening) → opened g depth blocks tail o ≡ accepting s → OnNewest last t o → Below last (s .copies .header) t
   starts-below t (on-header h) q n a f at =
       let o = on-header-view h q in
       let x = fresh-counts h o in
@@ -194,7 +202,7 @@ sets g last earlier at s seg trk e x =
 
 -- ---- what a reading sees at the start of a fresh recording
 
-pub nothing-seen : (last pass : ℕ) (t : Tape) → Cartridge last t → NoneBears last t pass → Seen last pass [] 0 10 t
+pub nothing-seen : (last pass : ℕ) (t : Tape) → Cartridge last t → NoneBears last t pass → Seen last pass [] [] 0 10 t
 unfolding foldOf
 nothing-seen last pass t cart none = record {
   base = 0;
@@ -202,7 +210,10 @@ nothing-seen last pass t cart none = record {
   floor = le-refl 0;
   low = inl (le-refl 0);
   high = omega arith;
+  most = omega arith;
   top = le-refl 0;
+  few = le-refl 0;
+  prefix = λ i h. refl;
   seen = has noTrail (fold-none (unending last pass) t 0 10 (omega arith) (λ c f l u w _. low c u (user-ranges last c w)));
   quiet = λ a f l u q i h. other-pass (unending last pass) (record { 0 = a }) (record { 0 = i }) f (cart .long a f q) (none a f u q);
 }
@@ -223,13 +234,16 @@ nothing-traced P trail e = record { counts = ap (λ (x : Trail). x .filemarks) e
 -- ---- the start
 
 pub begins : (last : ℕ) (d : Drive) (window : List ℕ) (earlier : List Element) (kept : Bool) (at : ℕ) (s : State) (x : Started last earlier at s) (on-newest none-bears same : Type 0) → Setting last (s .copies .header .pass) → d .written ≡ [] → AtRest d
-    → Cartridge last (d .tape) → (on-newest → Below last (s .copies .header) (d .tape)) → (none-bears → kept ≡ true → Seen last (s .copies .header .pass) earlier (length earlier) at (d .tape)) → (none-bears → Clean last (s .copies .header .pass) at (d .tape))
+    → Cartridge last (d .tape) → (on-newest → Below last (s .copies .header) (d .tape)) → (none-bears → kept ≡ true → Seen last (s .copies .header .pass) earlier earlier (length earlier) at (d .tape)) → (none-bears → Clean last (s .copies .header .pass) at (d .tape))
     → Traces earlier (Marked (priorOf last (s .copies .header .pass) earlier at (d .tape) same) last (s .copies .header .pass) at (d .tape)) (length earlier) (s .elements .trail)
     → Inv last (s .copies .header .pass) on-newest none-bears (priorOf last (s .copies .header .pass) earlier at (d .tape) same) (noted earlier kept (recordings.started s window d))
 begins last d window earlier kept at s x on-newest none-bears same set unwritten rest cart below seen clean traced =
     live (subst (demand.Within last) (sym unwritten) demand.nothing-written) (record {
       k = length earlier;
       edge = at;
+      list = earlier ++ [];
+      floor = (le-refl (length earlier), omega (arith, ap length (append-nil earlier)));
+      promises = record { is = sym (promised-all (noted earlier kept (recordings.started s window d) .notes) refl); ungiven = λ _. refl; aimed = λ _ _. aimed };
       going = ap (λ (r : State). r .ended) (sym (x .is));
       counted = subst (λ (r : State). inv.Counted last (length (earlier ++ [])) r) (x .is) (record {
         wide = x .narrow;
@@ -246,7 +260,7 @@ begins last d window earlier kept at s x on-newest none-bears same set unwritten
         old-low = x .old-low;
         count-fits = x .count-fits;
       });
-      course = subst (λ (r : State). inv.Course last (noted earlier kept (recordings.started r window d)) (length earlier) (at)) (x .is)
+      course = subst (λ (r : State). inv.Course last (length (earlier ++ [])) (noted earlier kept (recordings.started r window d)) (length earlier) (at)) (x .is)
           (inv.opening refl refl (record { first-is = x .number-is; none-out = refl; relocates = refl; target-is = refl; roof = x .roof; zone = x .zone; spread = x .spread }) (record {
             counts = start-counts (x .header);
             placed = start-placed (x .header);
@@ -260,11 +274,12 @@ begins last d window earlier kept at s x on-newest none-bears same set unwritten
       content = λ p u.
           record {
             tape = cart;
-            seen = subst (λ (xs : List Element). Seen last (s .copies .header .pass) xs (length earlier) (at) (d .tape)) (sym (append-nil earlier)) (seen p (and-true kept true u .0));
+            seen = subst (λ (xs : List Element). Seen last (s .copies .header .pass) xs xs (length earlier) (at) (d .tape)) (sym (append-nil earlier)) (seen p (and-true kept true u .0));
             stored = λ i h. absurd (none-pending i h);
           };
       trailing = record {
         from = omega (arith, first-is);
+        prefix = λ i l. refl;
         marked = λ i h. absurd (none-pending i h);
         trail =
             subst (λ (n : ℕ). Traces (earlier ++ []) (Marked (priorOf last (s .copies .header .pass) earlier at (d .tape) same) last (s .copies .header .pass) at (d .tape)) n (s .elements .trail)) (sym first-is)
@@ -273,12 +288,19 @@ begins last d window earlier kept at s x on-newest none-bears same set unwritten
         behind = λ st. absurd (opening-stage st);
         queue = λ st. absurd (opening-stage st);
         sent = λ _ _ st. absurd (opening-stage st);
-        tape = λ _ t. subst (λ (xs : List Element). TapeTrails last (s .copies .header .pass) xs at (d .tape)) (sym (append-nil earlier)) t;
+        tape = λ _ t. subst (λ (xs : List Element). TapeTrails last (s .copies .header .pass) xs xs (length earlier) at (d .tape)) (sym (append-nil earlier)) t;
       };
     })
   where
     room : (x .header .last .0 + 1) % 2 ^ 32 ≤ last + 1
     room = let e : (x .header .last .0 + 1) % 2 ^ 32 ≡ x .header .last .0 + 1 = mod-eq-of-lt (omega (arith, x .last-is, set .small)) in omega (arith, x .last-is)
+
+    aimed : s .elements .target .0 < s .elements .limit .0
+    aimed =
+        let e : (x .header .last .0 + 1) % 2 ^ 32 ≡ x .header .last .0 + 1 = mod-eq-of-lt (omega (arith, x .last-is, set .small)) in
+        let target : at ≡ s .elements .target .0 = ap (λ (r : State). r .elements .target .0) (x .is) in
+        let limit : (x .header .last .0 + 1) % 2 ^ 32 ≡ s .elements .limit .0 = ap (λ (r : State). r .elements .limit .0) (x .is) in
+        omega (arith, x .last-is, x .roof)
 
     none-pending : (i : ℕ) → i < s .elements .pending → ⊥
     none-pending i h = let e : 0 ≡ s .elements .pending = ap (λ (r : State). r .elements .pending) (x .is) in omega arith

@@ -81,19 +81,21 @@ unfoldable pub Frames : ℕ → ℕ → List Element → (ℕ → ℕ → Type 0
 Frames last pass xs P n [] = Unit {0}
 Frames last pass xs P n (f ∷ fs) = Says last pass xs P n f × Frames last pass xs P (n + 1) fs
 
--- by one on tape
-pub record TapeSays (last pass : ℕ) (xs : List Element) (edge : ℕ) (t : Tape) (i : ℕ) (kind : Kind) (f : List ℕ) : Type 0 where
+-- by one on tape, where k are: its number is no higher, nor behind EOD's. Of the elements ys the first, xs, are promised; one that was given up may
+-- stand at its bad spot
+pub record TapeSays (last pass : ℕ) (xs ys : List Element) (k edge : ℕ) (t : Tape) (i : ℕ) (kind : Kind) (f : List ℕ) : Type 0 where
   pub among : i ≤ length xs
-  pub is : (kind ≡ kindFor (itemAt xs i)) ⊎ (kind ≡ Eod)
-  pub counts : filemarksBefore f ≡ filemarksAmong xs i
-  pub names : NamesLatest (latestAmong xs i) (MarkerBelow last pass edge t) (markerNamed f)
+  pub upto : i ≤ k
+  pub is : (kind ≡ kindFor (itemAt ys i)) ⊎ (kind ≡ Eod)
+  pub counts : filemarksBefore f ≡ filemarksAmong ys i
+  pub names : NamesLatest (latestAmong ys i) (MarkerBelow last pass edge t) (markerNamed f)
 
-abbrev pub TapeTrails : ℕ → ℕ → List Element → ℕ → Tape → Type 0
-TapeTrails last pass xs edge t = (a i : ℕ) (f : List ℕ) (kind : Kind) → isUser last a ≡ true → t a ≡ some f → FoundAs (telling last pass 0) (record { 0 = i }) kind f → TapeSays last pass xs edge t i kind f
+abbrev pub TapeTrails : ℕ → ℕ → List Element → List Element → ℕ → ℕ → Tape → Type 0
+TapeTrails last pass xs ys k edge t = (a i : ℕ) (f : List ℕ) (kind : Kind) → isUser last a ≡ true → t a ≡ some f → FoundAs (telling last pass 0) (record { 0 = i }) kind f → TapeSays last pass xs ys k edge t i kind f
 
 -- behind elements that the cartridge holds already, up to an address
 abbrev pub priorOf : ℕ → ℕ → List Element → ℕ → Tape → Type 0 → Prior
-priorOf last pass earlier at t same = record { base = length earlier; same = same; trailed = TapeTrails last pass earlier at t }
+priorOf last pass earlier at t same = record { base = length earlier; same = same; trailed = TapeTrails last pass earlier earlier (length earlier) at t }
 
 -- ---- the drive's buffer
 
@@ -102,10 +104,12 @@ pub data Buffered (last pass : ℕ) (prior : Prior) (xs : List Element) (e : Ele
   holds : k + length (d .buffer) ≤ e .first .0 + e .pending → Frames last pass xs (Place prior last pass k (d .at) edge (d .tape)) k (d .buffer) → Buffered last pass prior xs e d k edge
   halted : d .failed ≡ true → e .locate ≡ true → Buffered last pass prior xs e d k edge
 
--- ---- the whole, of a session's stage and elements, the drive and the command in flight; k are on tape
+-- ---- the whole, of a session's stage and elements, the drive and the command in flight. Of the elements ys the first, xs, are promised; of these k
+-- are on tape, EOD counted as one more
 
-pub record Trailing (last pass : ℕ) (prior : Prior) (xs : List Element) (st : Stage) (e : Elements) (d : Drive) (g : Flight) (k edge : ℕ) : Type 0 where
+pub record Trailing (last pass : ℕ) (prior : Prior) (xs ys : List Element) (st : Stage) (e : Elements) (d : Drive) (g : Flight) (k edge : ℕ) : Type 0 where
   pub from : prior .base ≤ e .first .0
+  pub prefix : (i : ℕ) → i < length xs → itemAt ys i ≡ itemAt xs i
   -- the marks are those of the pending elements
   pub marked : (i : ℕ) → i < e .pending → getD (e .marks) ((e .first .0 + i) % 64) false ≡ isFilemark xs (e .first .0 + i)
   -- the trail is that before the oldest of them
@@ -118,4 +122,4 @@ pub record Trailing (last pass : ℕ) (prior : Prior) (xs : List Element) (st : 
   pub queue : st ≡ S.Elements → Buffered last pass prior xs e d k edge
   pub sent : (a : Address) (f : List ℕ) → st ≡ S.Elements → g ≡ recordings.sent (Write a) f → Says last pass xs (Place prior last pass k (d .at) edge (d .tape)) (e .first .0 + e .outstanding) f
   -- the tape
-  pub tape : prior .same → prior .trailed → TapeTrails last pass xs edge (d .tape)
+  pub tape : prior .same → prior .trailed → TapeTrails last pass xs ys k edge (d .tape)

@@ -6,7 +6,7 @@ use mathlib.Core.List.{List, [], _∷_, _++_}
 use mathlib.Core.Logic.{_⊎_, inl, inr, ⊎-elim}
 use mathlib.Core.Option.{Option, some}
 use native.Mathlib.Decide.{ℕ-discrete}
-use native.Mathlib.Nat.{eq-or-lt-of-le, mod-eq-of-lt}
+use native.Mathlib.Nat.{le-refl, eq-or-lt-of-le, mod-eq-of-lt}
 use native.Mathlib.Omega.{arith}
 use lib.Dec.{lit≤}
 use lib.ListN.{length, getD}
@@ -24,13 +24,13 @@ use Rattle.judgement.proofs.Unread.{found-as-sent}
 use Rattle.elements.specs.Trail.{trailOf}
 use Rattle.elements.specs.declared.elements.Elements.{Elements}
 use Rattle.archive.specs.Tape.{Tape, put}
-use Rattle.archive.specs.Conduct.{Drive}
+use Rattle.archive.specs.Conduct.{Drive, AtRest, empty, stopped}
 use Rattle.archive.specs.Recordings.{Element}
 use Rattle.archive.specs.Trails.{Item, itemAt, kindFor, latestAmong, NamesLatest, markerNamed}
 use Rattle.archive.proofs.tape.FoldLaws.{put-same, put-other}
-use Rattle.archive.proofs.tape.Marks.{isFilemark, kind-marker, filemarks-few, filemarks-more, latest-more, filemarks-marked, filemarks-plain, latest-marked, latest-plain, latest-map}
+use Rattle.archive.proofs.tape.Marks.{isFilemark, kind-marker, filemarks-few, filemarks-alike, latest-alike, filemarks-marked, filemarks-plain, latest-marked, latest-plain, latest-map}
 use Rattle.archive.proofs.tape.Stands.{telling}
-use Rattle.archive.proofs.tape.StandsLaws.{item-past, item-more}
+use Rattle.archive.proofs.tape.StandsLaws.{item-past}
 use Rattle.archive.proofs.tape.Judged.{kind-same}
 use Rattle.archive.proofs.recording.Trailing.{MarkerBelow, Prior, Marked, Place, on-tape, to-come, NumberAt, NumberBelow, Traces, Says, Frames, TapeSays, TapeTrails, Buffered, holds, halted}
 
@@ -89,49 +89,66 @@ frames-at last pass xs P n [] i h x = absurd (omega arith)
 frames-at last pass xs P n (f ∷ fs) zero h x = let e : n ≡ n + 0 = omega arith in subst (λ (m : ℕ). Says last pass xs P m f) e (x .0)
 frames-at last pass xs P n (f ∷ fs) (suc i) h x = let e : n + 1 + i ≡ n + suc i = omega arith in subst (λ (m : ℕ). Says last pass xs P m (getD fs i [])) e (frames-at last pass xs P (n + 1) fs i (omega arith) (x .1))
 
--- ---- one element more
+-- ---- of other elements that are alike up to a number
 
-module _ (xs ys : List Element) where
-  pub traces-grow : {P : ℕ → ℕ → Type 0} {n : ℕ} {trail : Trail} → n ≤ length xs → Traces xs P n trail → Traces (xs ++ ys) P n trail
-  traces-grow {P} {n} {trail} h x = record {
-    counts = x .counts ∙ sym (filemarks-more xs ys n h);
-    names = subst (λ (o : Option ℕ). NamesLatest o P (trail .marker .0)) (sym (latest-more xs ys n h)) (x .names);
+module _ (xs ys : List Element) (upto : ℕ) (alike : (i : ℕ) → i < upto → itemAt ys i ≡ itemAt xs i) where
+  pub traces-alike : {P : ℕ → ℕ → Type 0} {n : ℕ} {trail : Trail} → n ≤ upto → Traces xs P n trail → Traces ys P n trail
+  traces-alike {P} {n} {trail} h x = record {
+    counts = x .counts ∙ sym (filemarks-alike xs ys n (λ i l. alike i (omega arith)));
+    names = subst (λ (o : Option ℕ). NamesLatest o P (trail .marker .0)) (sym (latest-alike xs ys n (λ i l. alike i (omega arith)))) (x .names);
   }
 
-  found-grow : {last pass n : ℕ} {f : List ℕ} → n < length xs → FoundAs (telling last pass 0) (record { 0 = n }) (kindFor (itemAt xs n)) f → FoundAs (telling last pass 0) (record { 0 = n }) (kindFor (itemAt (xs ++ ys) n)) f
-  found-grow {last} {pass} {n} {f} h x = subst (λ (y : Item). FoundAs (telling last pass 0) (record { 0 = n }) (kindFor y) f) (sym (item-more xs ys n h)) x
+  found-alike : {last pass n : ℕ} {f : List ℕ} → n < upto → FoundAs (telling last pass 0) (record { 0 = n }) (kindFor (itemAt xs n)) f → FoundAs (telling last pass 0) (record { 0 = n }) (kindFor (itemAt ys n)) f
+  found-alike {last} {pass} {n} {f} h x = subst (λ (y : Item). FoundAs (telling last pass 0) (record { 0 = n }) (kindFor y) f) (sym (alike n h)) x
 
-  pub says-grow : {last pass : ℕ} {P : ℕ → ℕ → Type 0} {n : ℕ} {f : List ℕ} → n < length xs → Says last pass xs P n f → Says last pass (xs ++ ys) P n f
-  says-grow {P = P} {n} {f} h x = record {
-    found = found-grow h (x .found);
-    counts = x .counts ∙ sym (filemarks-more xs ys n (omega arith));
-    names = subst (λ (o : Option ℕ). NamesLatest o P (markerNamed f)) (sym (latest-more xs ys n (omega arith))) (x .names);
+  pub says-alike : {last pass : ℕ} {P : ℕ → ℕ → Type 0} {n : ℕ} {f : List ℕ} → n < upto → Says last pass xs P n f → Says last pass ys P n f
+  says-alike {P = P} {n} {f} h x = record {
+    found = found-alike h (x .found);
+    counts = x .counts ∙ sym (filemarks-alike xs ys n (λ i l. alike i (omega arith)));
+    names = subst (λ (o : Option ℕ). NamesLatest o P (markerNamed f)) (sym (latest-alike xs ys n (λ i l. alike i (omega arith)))) (x .names);
   }
 
-  pub frames-grow : (last pass : ℕ) (P : ℕ → ℕ → Type 0) (n : ℕ) (fs : List (List ℕ)) → n + length fs ≤ length xs → Frames last pass xs P n fs → Frames last pass (xs ++ ys) P n fs
+  pub frames-alike : (last pass : ℕ) (P : ℕ → ℕ → Type 0) (n : ℕ) (fs : List (List ℕ)) → n + length fs ≤ upto → Frames last pass xs P n fs → Frames last pass ys P n fs
   unfolding Frames
-  frames-grow last pass P n [] h x = tt
-  frames-grow last pass P n (f ∷ fs) h x = (says-grow (omega arith) (x .0), frames-grow last pass P (n + 1) fs (omega arith) (x .1))
+  frames-alike last pass P n [] h x = tt
+  frames-alike last pass P n (f ∷ fs) h x = (says-alike (omega arith) (x .0), frames-alike last pass P (n + 1) fs (omega arith) (x .1))
 
-  pub number-grow : {last pass : ℕ} {t : Tape} {j a : ℕ} → j < length xs → NumberAt last pass xs t j a → NumberAt last pass (xs ++ ys) t j a
-  number-grow h x = record { frame = x .frame; user = x .user; reads = x .reads; found = found-grow h (x .found) }
+  pub number-alike : {last pass : ℕ} {t : Tape} {j a : ℕ} → j < upto → NumberAt last pass xs t j a → NumberAt last pass ys t j a
+  number-alike h x = record { frame = x .frame; user = x .user; reads = x .reads; found = found-alike h (x .found) }
 
-  pub tape-grow : {last pass edge : ℕ} {t : Tape} → (length xs ≤ length (xs ++ ys)) → TapeTrails last pass xs edge t → TapeTrails last pass (xs ++ ys) edge t
-  tape-grow {last} {pass} {edge} {t} longer x a i f kind u r q =
-      let y = x a i f kind u r q in
-      record {
-        among = let h = y .among in omega arith;
-        is = ⊎-elim (λ e. element-or-end e (eq-or-lt-of-le (y .among))) (λ e. inr e) (y .is);
-        counts = y .counts ∙ sym (filemarks-more xs ys i (y .among));
-        names = subst (λ (o : Option ℕ). NamesLatest o (MarkerBelow last pass edge t) (markerNamed f)) (sym (latest-more xs ys i (y .among))) (y .names);
-      }
-    where
-      element-or-end : kind ≡ kindFor (itemAt xs i) → (i ≡ length xs) ⊎ (i < length xs) → (kind ≡ kindFor (itemAt (xs ++ ys) i)) ⊎ (kind ≡ Eod)
-      element-or-end e (inl last-one) = inr (e ∙ ap kindFor (item-past xs i (omega arith)))
-      element-or-end e (inr inside) = inl (e ∙ ap kindFor (sym (item-more xs ys i inside)))
+  pub written-alike : {last pass edge : ℕ} {t : Tape} {j : ℕ} → j < upto → NumberBelow last pass xs edge t j → NumberBelow last pass ys edge t j
+  written-alike h x = record { place = x .place; low = x .low; there = number-alike h (x .there) }
 
-  pub written-grow : {last pass edge : ℕ} {t : Tape} {j : ℕ} → j < length xs → NumberBelow last pass xs edge t j → NumberBelow last pass (xs ++ ys) edge t j
-  written-grow h x = record { place = x .place; low = x .low; there = number-grow h (x .there) }
+-- ---- of a tape
+
+-- an element of xs, or EOD behind them, by other elements
+element-or-end : (xs ys : List Element) {kind : Kind} {i : ℕ} → ((j : ℕ) → j < length xs → itemAt ys j ≡ itemAt xs j) → i ≤ length xs → kind ≡ kindFor (itemAt xs i) → (kind ≡ kindFor (itemAt ys i)) ⊎ (kind ≡ Eod)
+element-or-end xs ys {kind} {i} alike few e = go (eq-or-lt-of-le few)
+  where
+    go : (i ≡ length xs) ⊎ (i < length xs) → (kind ≡ kindFor (itemAt ys i)) ⊎ (kind ≡ Eod)
+    go (inl last-one) = inr (e ∙ ap kindFor (item-past xs i (omega arith)))
+    go (inr inside) = inl (e ∙ ap kindFor (sym (alike i inside)))
+
+-- of more elements, of which as many are promised
+pub tape-grow : {last pass k edge : ℕ} {t : Tape} (xs ys ps zs : List Element) → ((j : ℕ) → j < length ys → itemAt zs j ≡ itemAt ys j) → length xs ≤ length ys → length xs ≤ length ps → TapeTrails last pass xs ys k edge t → TapeTrails last pass ps zs k edge t
+tape-grow {last} {pass} {k} {edge} {t} xs ys ps zs alike few longer x a i f kind u r q =
+    let y = x a i f kind u r q in
+    let h = y .among in
+    record {
+      among = omega arith;
+      upto = y .upto;
+      is = ⊎-elim (λ e. element-or-end ys zs alike (omega arith) e) (λ e. inr e) (y .is);
+      counts = y .counts ∙ sym (filemarks-alike ys zs i (λ j l. alike j (omega arith)));
+      names = subst (λ (o : Option ℕ). NamesLatest o (MarkerBelow last pass edge t) (markerNamed f)) (sym (latest-alike ys zs i (λ j l. alike j (omega arith)))) (y .names);
+    }
+
+-- where those that are not on tape are given up
+pub tape-gives : {last pass k edge : ℕ} {t : Tape} {xs ys : List Element} (ps : List Element) → length ps ≡ k → TapeTrails last pass xs ys k edge t → TapeTrails last pass ps ys k edge t
+tape-gives ps size x a i f kind u r q = let y = x a i f kind u r q in record { among = let h = y .upto in omega arith; upto = y .upto; is = y .is; counts = y .counts; names = y .names }
+
+-- one more is on tape
+pub tape-upto : {last pass k edge : ℕ} {t : Tape} {xs ys : List Element} → TapeTrails last pass xs ys k edge t → TapeTrails last pass xs ys (k + 1) edge t
+tape-upto x a i f kind u r q = let y = x a i f kind u r q in record { among = y .among; upto = let h = y .upto in omega arith; is = y .is; counts = y .counts; names = y .names }
 
 -- ---- a tape that is written at one address
 
@@ -142,39 +159,41 @@ number-put {t = t} {a = a} b v other x = record { frame = x .frame; user = x .us
 pub written-moves : {last pass : ℕ} {xs : List Element} {edge further : ℕ} {t u : Tape} {j : ℕ} (x : NumberBelow last pass xs edge t j) → x .place < further → u (x .place) ≡ t (x .place) → NumberBelow last pass xs further u j
 written-moves x low same = record { place = x .place; low = low; there = let y = x .there in record { frame = y .frame; user = y .user; reads = same ∙ y .reads; found = y .found } }
 
-says-moves : {last pass : ℕ} {xs : List Element} {edge further : ℕ} {t u : Tape} {i : ℕ} {kind : Kind} {f : List ℕ} → ((j b : ℕ) → MarkerBelow last pass edge t j b → MarkerBelow last pass further u j b) → TapeSays last pass xs edge t i kind f → TapeSays last pass xs further u i kind f
-says-moves {last} {pass} {xs} {edge} {further} {t} {u} {i} {kind} {f} keeps y = record { among = y .among; is = y .is; counts = y .counts; names = latest-map xs i (MarkerBelow last pass edge t) (MarkerBelow last pass further u) (markerNamed f) (λ j _ _ m. keeps j (markerNamed f) m) (y .names) }
+says-moves : {last pass k : ℕ} {xs ys : List Element} {edge further : ℕ} {t u : Tape} {i : ℕ} {kind : Kind} {f : List ℕ} → ((j b : ℕ) → MarkerBelow last pass edge t j b → MarkerBelow last pass further u j b) → TapeSays last pass xs ys k edge t i kind f → TapeSays last pass xs ys k further u i kind f
+says-moves {last} {pass} {k} {xs} {ys} {edge} {further} {t} {u} {i} {kind} {f} keeps y = record { among = y .among; upto = y .upto; is = y .is; counts = y .counts; names = latest-map ys i (MarkerBelow last pass edge t) (MarkerBelow last pass further u) (markerNamed f) (λ j _ _ m. keeps j (markerNamed f) m) (y .names) }
 
 -- where markers stay, and other user frames too
-pub tape-moves : {last pass : ℕ} {xs : List Element} {edge further : ℕ} {t u : Tape} → ((j b : ℕ) → MarkerBelow last pass edge t j b → MarkerBelow last pass further u j b)
-    → ((a : ℕ) (f : List ℕ) → isUser last a ≡ true → u a ≡ some f → t a ≡ some f) → TapeTrails last pass xs edge t → TapeTrails last pass xs further u
+pub tape-moves : {last pass k : ℕ} {xs ys : List Element} {edge further : ℕ} {t u : Tape} → ((j b : ℕ) → MarkerBelow last pass edge t j b → MarkerBelow last pass further u j b)
+    → ((a : ℕ) (f : List ℕ) → isUser last a ≡ true → u a ≡ some f → t a ≡ some f) → TapeTrails last pass xs ys k edge t → TapeTrails last pass xs ys k further u
 tape-moves keeps stays x a i f kind us r q = says-moves keeps (x a i f kind us (stays a f us r) q)
 
 -- what is on tape stays there
 pub keeps-put : {last pass : ℕ} (t : Tape) (at : ℕ) (v : Option (List ℕ)) (j b : ℕ) → MarkerBelow last pass at t j b → MarkerBelow last pass (at + 1) (put t at v) j b
 keeps-put t at v j b m = below-put (at + 1) at v (omega arith) (λ e. let l = m .low in omega arith) m
 
-module _ {prior : Prior} {last pass : ℕ} {xs : List Element} (t : Tape) (at k : ℕ) (v : Option (List ℕ)) (low : k ≤ length xs) where
+module _ {prior : Prior} {last pass : ℕ} {xs ys : List Element} (t : Tape) (at k : ℕ) (v : Option (List ℕ)) (low : k ≤ length xs) (alike : (j : ℕ) → j < length xs → itemAt ys j ≡ itemAt xs j) where
   -- number k is tried at an address: it reads as before, as the frame that was sent, or not at all
-  pub tape-tried : (sent : List ℕ) → ((f : List ℕ) → v ≡ some f → (t at ≡ some f) ⊎ ReadsAs sent f) → Says last pass xs (Place prior last pass k at at t) k sent → prior .same → TapeTrails last pass xs at t → TapeTrails last pass xs (at + 1) (put t at v)
+  pub tape-tried : (sent : List ℕ) → ((f : List ℕ) → v ≡ some f → (t at ≡ some f) ⊎ ReadsAs sent f) → Says last pass xs (Place prior last pass k at at t) k sent → prior .same → TapeTrails last pass xs ys k at t → TapeTrails last pass xs ys k (at + 1) (put t at v)
   tape-tried sent left says s x a i f kind u r q = go (ℕ-discrete a at)
     where
-      fresh : ReadsAs sent f → TapeSays last pass xs (at + 1) (put t at v) i kind f
+      fresh : ReadsAs sent f → TapeSays last pass xs ys k (at + 1) (put t at v) i kind f
       fresh as-sent =
           let new = says-read as-sent says in
           let number : k ≡ i = sym (new .found .number) ∙ q .number in
-          subst (λ (n : ℕ). TapeSays last pass xs (at + 1) (put t at v) n kind f) number (record {
+          subst (λ (n : ℕ). TapeSays last pass xs ys k (at + 1) (put t at v) n kind f) number (record {
             among = low;
-            is = inl (kind-same q (new .found));
-            counts = new .counts;
-            names = latest-map xs k (Place prior last pass k at at t) (MarkerBelow last pass (at + 1) (put t at v)) (markerNamed f) (λ j l _ p. stood j l p) (new .names);
+            upto = le-refl k;
+            is = element-or-end xs ys alike low (kind-same q (new .found));
+            counts = new .counts ∙ sym (filemarks-alike xs ys k (λ j l. alike j (omega arith)));
+            names = subst (λ (o : Option ℕ). NamesLatest o (MarkerBelow last pass (at + 1) (put t at v)) (markerNamed f)) (sym (latest-alike xs ys k (λ j l. alike j (omega arith))))
+                (latest-map xs k (Place prior last pass k at at t) (MarkerBelow last pass (at + 1) (put t at v)) (markerNamed f) (λ j l _ p. stood j l p) (new .names));
           })
         where
           stood : (j : ℕ) → j < k → Place prior last pass k at at t j (markerNamed f) → MarkerBelow last pass (at + 1) (put t at v) j (markerNamed f)
           stood j l (on-tape _ m) = keeps-put t at v j (markerNamed f) (m .there (λ _. s))
           stood j l (to-come h _) = absurd (omega arith)
 
-      go : Dec (a ≡ at) → TapeSays last pass xs (at + 1) (put t at v) i kind f
+      go : Dec (a ≡ at) → TapeSays last pass xs ys k (at + 1) (put t at v) i kind f
       go (yes e) =
           ⊎-elim (λ y. says-moves (keeps-put t at v) (x at i f kind (subst (λ (b : ℕ). isUser last b ≡ true) e u) y q)) fresh (left f (sym (put-same t at v) ∙ ap (put t at v) (sym e) ∙ r))
       go (no n) = says-moves (keeps-put t at v) (x a i f kind u (sym (put-other t at v a n) ∙ r) q)
@@ -209,6 +228,16 @@ pub buffered-as : {last pass : ℕ} {prior : Prior} {xs : List Element} {d : Dri
     → Buffered last pass prior xs e d k edge → Buffered last pass prior xs f d k edge
 buffered-as e f more moving (holds fits fs) = holds (omega arith) fs
 buffered-as e f more moving (halted failed l) = halted failed (moving failed l)
+
+-- it holds nothing
+pub none-buffered : {last pass : ℕ} {prior : Prior} {xs : List Element} {k edge : ℕ} (e : Elements) (d : Drive) → k ≤ e .first .0 + e .pending → d .buffer ≡ [] → Buffered last pass prior xs e d k edge
+unfolding Frames
+none-buffered {last} {pass} {prior} {xs} {k} {edge} e d few none = holds (omega (arith, ap length none)) (subst (Frames last pass xs (Place prior last pass k (d .at) edge (d .tape)) k) (sym none) tt)
+
+-- or it rests, and a LOCATE is due
+pub rests-buffered : {last pass : ℕ} {prior : Prior} {xs : List Element} {k edge : ℕ} (e : Elements) (d : Drive) → k ≤ e .first .0 + e .pending → e .locate ≡ true → AtRest d → Buffered last pass prior xs e d k edge
+rests-buffered e d few locate (stopped f) = halted f locate
+rests-buffered e d few locate (empty none) = none-buffered e d few none
 
 -- ---- the trail of the session
 

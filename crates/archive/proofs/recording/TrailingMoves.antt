@@ -37,14 +37,15 @@ use Rattle.archive.proofs.tape.Stands.{telling}
 use Rattle.archive.proofs.recording.ContentMoves.{left-reads, user-low}
 use Rattle.archive.proofs.recording.ElementSteps.{Step}
 use Rattle.archive.proofs.recording.Trailing.{Prior, MarkerBelow, Marked, Place, on-tape, to-come, NumberAt, NumberBelow, Traces, Says, Frames, TapeTrails, Buffered, holds, halted, Trailing}
-use Rattle.archive.proofs.recording.TrailingLaws.{below-moves, below-put, marked-map, traces-map, says-map, frames-map, place-map, frames-more, says-read, number-put, written-moves, tape-moves, keeps-put, tape-tried, number-written, place-written, buffered-as, traces-on}
+use Rattle.archive.proofs.recording.TrailingLaws.{below-moves, below-put, marked-map, traces-map, says-map, frames-map, place-map, frames-more, says-read, number-put, written-moves, tape-moves, keeps-put, tape-tried, tape-upto, number-written, place-written, buffered-as, traces-on}
 
 -- ---- nothing but the address that the drive has tried, or nothing at all, changes
 
-module _ {last pass : ℕ} {prior : Prior} {xs : List Element} {st : Stage} {e : Elements} {d : Drive} {g : Flight} {k edge : ℕ} (x : Trailing last pass prior xs st e d g k edge) where
-  pub trailing-edge : (further : ℕ) → edge ≤ further → Trailing last pass prior xs st e d g k further
+module _ {last pass : ℕ} {prior : Prior} {xs ys : List Element} {st : Stage} {e : Elements} {d : Drive} {g : Flight} {k edge : ℕ} (x : Trailing last pass prior xs ys st e d g k edge) where
+  pub trailing-edge : (further : ℕ) → edge ≤ further → Trailing last pass prior xs ys st e d g k further
   trailing-edge further h = record {
     from = x .from;
+    prefix = x .prefix;
     marked = x .marked;
     trail = traces-map (λ j a m. marked-map (below-moves further h) m) (x .trail);
     written = λ j l m. let y = x .written j l m in written-moves y (let z = y .low in omega arith) refl;
@@ -59,21 +60,22 @@ module _ {last pass : ℕ} {prior : Prior} {xs : List Element} {st : Stage} {e :
       on (halted f l) = halted f l
 
   -- the command was answered, or is to be given again
-  pub trailing-unsent : (h : Flight) → ((a : Address) (f : List ℕ) → h ≡ recordings.sent (Write a) f → ⊥) → Trailing last pass prior xs st e d h k edge
-  trailing-unsent h none = record { from = x .from; marked = x .marked; trail = x .trail; written = x .written; behind = x .behind; queue = x .queue; sent = λ a f _ q. absurd (none a f q); tape = x .tape }
+  pub trailing-unsent : (h : Flight) → ((a : Address) (f : List ℕ) → h ≡ recordings.sent (Write a) f → ⊥) → Trailing last pass prior xs ys st e d h k edge
+  trailing-unsent h none = record { from = x .from; prefix = x .prefix; marked = x .marked; trail = x .trail; written = x .written; behind = x .behind; queue = x .queue; sent = λ a f _ q. absurd (none a f q); tape = x .tape }
 
-  pub trailing-answered : (r : Reply) → Trailing last pass prior xs st e d (recordings.answered r) k edge
+  pub trailing-answered : (r : Reply) → Trailing last pass prior xs ys st e d (recordings.answered r) k edge
   trailing-answered r = trailing-unsent (recordings.answered r) (λ _ _ q. answered-sent q)
 
   -- the drive has moved
-  pub trailing-moved : (r : Reply) (to : ℕ) → e .first .0 ≡ k → Trailing last pass prior xs st e (moved d to) (recordings.answered r) k edge
+  pub trailing-moved : (r : Reply) (to : ℕ) → e .first .0 ≡ k → Trailing last pass prior xs ys st e (moved d to) (recordings.answered r) k edge
   unfolding Frames
-  trailing-moved r to all = record { from = x .from; marked = x .marked; trail = x .trail; written = x .written; behind = λ _ j a l h _. absurd (omega arith); queue = λ _. holds (omega arith) tt; sent = λ _ _ _ q. answered-sent q; tape = x .tape }
+  trailing-moved r to all = record { from = x .from; prefix = x .prefix; marked = x .marked; trail = x .trail; written = x .written; behind = λ _ j a l h _. absurd (omega arith); queue = λ _. holds (omega arith) tt; sent = λ _ _ _ q. answered-sent q; tape = x .tape }
 
   -- another stage than the elements'
-  pub trailing-header : (u : Drive) (h : Flight) (v : Option (List ℕ)) → u .tape ≡ put (d .tape) (d .at) v → isHeader (d .at) ≡ true → (st ≡ S.Elements → ⊥) → Trailing last pass prior xs st e u h k edge
+  pub trailing-header : (u : Drive) (h : Flight) (v : Option (List ℕ)) → u .tape ≡ put (d .tape) (d .at) v → isHeader (d .at) ≡ true → (st ≡ S.Elements → ⊥) → Trailing last pass prior xs ys st e u h k edge
   trailing-header u h v q at outside = record {
     from = x .from;
+    prefix = x .prefix;
     marked = x .marked;
     trail = traces-map (λ j b m. marked-map (keeps j b) m) (x .trail);
     written = λ j l m. let y = x .written j l m in written-moves y (y .low) (ap (λ (z : Tape). z (y .place)) q ∙ put-other (d .tape) (d .at) v (y .place) (apart (y .place) (y .there .user)));
@@ -89,27 +91,29 @@ module _ {last pass : ℕ} {prior : Prior} {xs : List Element} {st : Stage} {e :
       keeps : (j b : ℕ) → MarkerBelow last pass edge (d .tape) j b → MarkerBelow last pass edge (u .tape) j b
       keeps j b m = subst (λ (y : Tape). MarkerBelow last pass edge y j b) (sym q) (below-put edge (d .at) v (le-refl edge) (apart b (m .user)) m)
 
-  pub trailing-tape : (u : Drive) (h : Flight) → u .tape ≡ d .tape → (st ≡ S.Elements → ⊥) → Trailing last pass prior xs st e u h k edge
+  pub trailing-tape : (u : Drive) (h : Flight) → u .tape ≡ d .tape → (st ≡ S.Elements → ⊥) → Trailing last pass prior xs ys st e u h k edge
   trailing-tape u h q outside = record {
     from = x .from;
+    prefix = x .prefix;
     marked = x .marked;
     trail = subst (λ (y : Tape). Traces xs (Marked prior last pass edge y) (e .first .0) (e .trail)) (sym q) (x .trail);
     written = λ j l m. let y = x .written j l m in written-moves y (y .low) (ap (λ (z : Tape). z (y .place)) q);
     behind = λ s. absurd (outside s);
     queue = λ s. absurd (outside s);
     sent = λ _ _ s. absurd (outside s);
-    tape = λ s t. subst (TapeTrails last pass xs edge) (sym q) (x .tape s t);
+    tape = λ s t. subst (TapeTrails last pass xs ys k edge) (sym q) (x .tape s t);
   }
 
 -- nothing is in flight
-pub trailing-idle : {last pass : ℕ} {prior : Prior} {xs : List Element} {st : Stage} {e : Elements} {d : Drive} {g : Flight} {k edge : ℕ} → Trailing last pass prior xs st e d g k edge → Trailing last pass prior xs st e d recordings.no-command k edge
+pub trailing-idle : {last pass : ℕ} {prior : Prior} {xs ys : List Element} {st : Stage} {e : Elements} {d : Drive} {g : Flight} {k edge : ℕ} → Trailing last pass prior xs ys st e d g k edge → Trailing last pass prior xs ys st e d recordings.no-command k edge
 trailing-idle x = trailing-unsent x recordings.no-command (λ _ _ q. none-sent q)
 
 -- the closing headers begin: nothing of the user's is above LAST
-pub trailing-closed : {last pass : ℕ} {prior : Prior} {xs : List Element} {st : Stage} {e : Elements} {d : Drive} {g : Flight} {k edge : ℕ} → 3000 ≤ last → Trailing last pass prior xs st e d g k edge
-    → Trailing last pass prior xs S.ClosingHeaders e d recordings.no-command k (last + 1)
+pub trailing-closed : {last pass : ℕ} {prior : Prior} {xs ys : List Element} {st : Stage} {e : Elements} {d : Drive} {g : Flight} {k edge : ℕ} → 3000 ≤ last → Trailing last pass prior xs ys st e d g k edge
+    → Trailing last pass prior xs ys S.ClosingHeaders e d recordings.no-command k (last + 1)
 trailing-closed {last} {pass} {d = d} {edge = edge} large x = record {
   from = x .from;
+  prefix = x .prefix;
   marked = x .marked;
   trail = traces-map (λ j b m. marked-map (keeps j b) m) (x .trail);
   written = λ j l m. let y = x .written j l m in written-moves y (omega (arith, user-low last (y .place) large (y .there .user))) refl;
@@ -123,10 +127,11 @@ trailing-closed {last} {pass} {d = d} {edge = edge} large x = record {
     keeps j b m = record { frame = m .frame; user = m .user; low = omega (arith, user-low last b large (m .user)); reads = m .reads; found = m .found }
 
 -- a WRITE was taken
-pub trailing-taken : {last pass : ℕ} {prior : Prior} {xs : List Element} {st : Stage} {e : Elements} {d : Drive} {k edge : ℕ} (a : Address) (f : List ℕ) (r : Reply) → st ≡ S.Elements → e .locate ≡ false → e .outstanding < e .pending → e .first .0 + e .outstanding ≡ k + length (d .buffer)
-    → Trailing last pass prior xs st e d (recordings.sent (Write a) f) k edge → Trailing last pass prior xs st e (taking d f) (recordings.answered r) k edge
-trailing-taken {last} {pass} {prior} {xs} {st} {e} {d} {k} {edge} a f r is placed due there x = record {
+pub trailing-taken : {last pass : ℕ} {prior : Prior} {xs ys : List Element} {st : Stage} {e : Elements} {d : Drive} {k edge : ℕ} (a : Address) (f : List ℕ) (r : Reply) → st ≡ S.Elements → e .locate ≡ false → e .outstanding < e .pending → e .first .0 + e .outstanding ≡ k + length (d .buffer)
+    → Trailing last pass prior xs ys st e d (recordings.sent (Write a) f) k edge → Trailing last pass prior xs ys st e (taking d f) (recordings.answered r) k edge
+trailing-taken {last} {pass} {prior} {xs} {ys} {st} {e} {d} {k} {edge} a f r is placed due there x = record {
   from = x .from;
+  prefix = x .prefix;
   marked = x .marked;
   trail = x .trail;
   written = x .written;
@@ -144,10 +149,10 @@ trailing-taken {last} {pass} {prior} {xs} {st} {e} {d} {k} {edge} a f r is place
 
 -- ---- the drive tries an address
 
-module _ {last pass : ℕ} {prior : Prior} {xs : List Element} {st : Stage} {e : Elements} {d : Drive} {g : Flight} {k edge : ℕ} (f : List ℕ) (rest : List (List ℕ)) (b : d .buffer ≡ f ∷ rest) (free : d .failed ≡ false) (is : st ≡ S.Elements)
-    (large : 3000 ≤ last) (here : isUser last (d .at) ≡ true) (edge-here : edge ≡ d .at) (low : k ≤ length xs) (before : Trailing last pass prior xs st e d g k edge) where
-  x : Trailing last pass prior xs st e d g k (d .at)
-  x = subst (λ (n : ℕ). Trailing last pass prior xs st e d g k n) edge-here before
+module _ {last pass : ℕ} {prior : Prior} {xs ys : List Element} {st : Stage} {e : Elements} {d : Drive} {g : Flight} {k edge : ℕ} (f : List ℕ) (rest : List (List ℕ)) (b : d .buffer ≡ f ∷ rest) (free : d .failed ≡ false) (is : st ≡ S.Elements)
+    (large : 3000 ≤ last) (here : isUser last (d .at) ≡ true) (edge-here : edge ≡ d .at) (low : k ≤ length xs) (before : Trailing last pass prior xs ys st e d g k edge) where
+  x : Trailing last pass prior xs ys st e d g k (d .at)
+  x = subst (λ (n : ℕ). Trailing last pass prior xs ys st e d g k n) edge-here before
 
   held : (k + length (d .buffer) ≤ e .first .0 + e .pending) × Frames last pass xs (Place prior last pass k (d .at) (d .at) (d .tape)) k (d .buffer)
   held = go (x .queue is)
@@ -160,8 +165,8 @@ module _ {last pass : ℕ} {prior : Prior} {xs : List Element} {st : Stage} {e :
   unfolding Frames
   head = subst (Frames last pass xs (Place prior last pass k (d .at) (d .at) (d .tape)) k) b (held .1)
 
-  tape-so : (v : Option (List ℕ)) → Left (d .tape (d .at)) f v → prior .same → prior .trailed → TapeTrails last pass xs (d .at + 1) (put (d .tape) (d .at) v)
-  tape-so v left s t = tape-tried (d .tape) (d .at) k v low f (λ h q. left-reads left q) (head .0) s (x .tape s t)
+  tape-so : (v : Option (List ℕ)) → Left (d .tape (d .at)) f v → prior .same → prior .trailed → TapeTrails last pass xs ys k (d .at + 1) (put (d .tape) (d .at) v)
+  tape-so v left s t = tape-tried (d .tape) (d .at) k v low (x .prefix) f (λ h q. left-reads left q) (head .0) s (x .tape s t)
 
   -- those on tape before it stay
   stays : (v : Option (List ℕ)) (j a : ℕ) → e .first .0 ≤ j → j < k → a + k ≡ d .at + j → NumberAt last pass xs (put (d .tape) (d .at) v) j a
@@ -170,9 +175,10 @@ module _ {last pass : ℕ} {prior : Prior} {xs : List Element} {st : Stage} {e :
   keeps-written : (v : Option (List ℕ)) (j : ℕ) → prior .base ≤ j → j < k → NumberBelow last pass xs (d .at + 1) (put (d .tape) (d .at) v) j
   keeps-written v j l h = let y = x .written j l h in let low = y .low in written-moves y (omega arith) (put-other (d .tape) (d .at) v (y .place) (λ z. omega arith))
 
-  pub trailing-failed : (v : Option (List ℕ)) → Left (d .tape (d .at)) f v → Trailing last pass prior xs st e (failing d v) g k (d .at + 1)
+  pub trailing-failed : (v : Option (List ℕ)) → Left (d .tape (d .at)) f v → Trailing last pass prior xs ys st e (failing d v) g k (d .at + 1)
   trailing-failed v left = record {
     from = x .from;
+    prefix = x .prefix;
     marked = x .marked;
     trail = traces-map (λ j c m. marked-map (keeps-put (d .tape) (d .at) v j c) m) (x .trail);
     written = keeps-written v;
@@ -182,9 +188,10 @@ module _ {last pass : ℕ} {prior : Prior} {xs : List Element} {st : Stage} {e :
     tape = tape-so v left;
   }
 
-  pub trailing-written : (v : Option (List ℕ)) → Written f v → Trailing last pass prior xs st e (wrote d rest v) g (k + 1) (d .at + 1)
+  pub trailing-written : (v : Option (List ℕ)) → Written f v → Trailing last pass prior xs ys st e (wrote d rest v) g (k + 1) (d .at + 1)
   trailing-written v (conduct.reads read r) = record {
     from = x .from;
+    prefix = x .prefix;
     marked = x .marked;
     trail = traces-map (λ j c m. marked-map (keeps-put (d .tape) (d .at) (some read) j c) m) (x .trail);
     written = λ j l h. one-more j l (eq-or-lt-of-le (let z : j ≤ k = omega arith in z));
@@ -193,7 +200,7 @@ module _ {last pass : ℕ} {prior : Prior} {xs : List Element} {st : Stage} {e :
         let one = ap length b in
         holds (omega (arith, held .0, one)) (frames-map last pass xs _ _ (k + 1) rest (place-written xs (d .tape) (d .at) k read here (user-low last (d .at) large here) found) (head .1));
     sent = λ a h s q. says-map (place-written xs (d .tape) (d .at) k read here (user-low last (d .at) large here) found) (x .sent a h s q);
-    tape = tape-so (some read) (as-new (some read) (conduct.reads read r));
+    tape = λ s t. tape-upto (tape-so (some read) (as-new (some read) (conduct.reads read r)) s t);
   }
     where
       found : FoundAs (telling last pass 0) (record { 0 = k }) (kindFor (itemAt xs k)) read
@@ -211,7 +218,7 @@ module _ {last pass : ℕ} {prior : Prior} {xs : List Element} {st : Stage} {e :
 
 -- ---- the trail over outstanding elements
 
-module _ {last pass : ℕ} {prior : Prior} {xs : List Element} {st : Stage} {e : Elements} {d : Drive} {g : Flight} {k edge : ℕ} (large : 3000 ≤ last) (small : last + 65 < 2 ^ 32) (is : st ≡ S.Elements) (x : Trailing last pass prior xs st e d g k edge) where
+module _ {last pass : ℕ} {prior : Prior} {xs ys : List Element} {st : Stage} {e : Elements} {d : Drive} {g : Flight} {k edge : ℕ} (large : 3000 ≤ last) (small : last + 65 < 2 ^ 32) (is : st ≡ S.Elements) (x : Trailing last pass prior xs ys st e d g k edge) where
   -- one that is on tape
   marker-behind : (i a : ℕ) → e .first .0 + i < k → a + k ≡ d .at + (e .first .0 + i) → d .at ≤ edge → isFilemark xs (e .first .0 + i) ≡ true → Marked prior last pass edge (d .tape) (e .first .0 + i) a × (a < 2 ^ 32)
   marker-behind i a h q tried m =
@@ -259,15 +266,16 @@ module _ {last pass : ℕ} {prior : Prior} {xs : List Element} {st : Stage} {e :
 
 -- ---- a reply among the elements
 
-pub trailing-stepped : {last pass : ℕ} {prior : Prior} {xs : List Element} {s : State} {d : Drive} {g : Flight} {k edge : ℕ} (e : Elements) (step : Step last s d k edge e) → 3000 ≤ last → last + 65 < 2 ^ 32 → s .stage ≡ S.Elements → s .elements .outstanding ≤ s .elements .pending → s .elements .first .0 + s .elements .pending < 2 ^ 32
-    → Trailing last pass prior xs (s .stage) (s .elements) d g k edge → Trailing last pass prior xs (s .stage) e d recordings.no-command k (step .tried)
-trailing-stepped {last} {pass} {prior} {xs} {s} {d} {g} {k} {edge} e step large small is few fits before =
+pub trailing-stepped : {last pass : ℕ} {prior : Prior} {xs ys : List Element} {s : State} {d : Drive} {g : Flight} {k edge : ℕ} (e : Elements) (step : Step last s d k edge e) → 3000 ≤ last → last + 65 < 2 ^ 32 → s .stage ≡ S.Elements → s .elements .outstanding ≤ s .elements .pending → s .elements .first .0 + s .elements .pending < 2 ^ 32
+    → Trailing last pass prior xs ys (s .stage) (s .elements) d g k edge → Trailing last pass prior xs ys (s .stage) e d recordings.no-command k (step .tried)
+trailing-stepped {last} {pass} {prior} {xs} {ys} {s} {d} {g} {k} {edge} e step large small is few fits before =
     let first-is = step .first-is in
     let pending-is = step .pending-is in
     let confirmed = step .confirmed in
     let x = trailing-edge before (step .tried) (step .further) in
     record {
       from = let f = x .from in omega arith;
+      prefix = x .prefix;
       marked = λ i h.
           let at : s .elements .first .0 + (step .n + i) ≡ e .first .0 + i = omega arith in
           subst (λ (m : List Bool). getD m ((e .first .0 + i) % 64) false ≡ isFilemark xs (e .first .0 + i)) (sym (step .marks-is))

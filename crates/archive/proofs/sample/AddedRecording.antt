@@ -9,6 +9,7 @@ use native.Mathlib.Omega.{arith}
 use lib.Dec.{lit<, lit≤}
 use lib.ListN.{length}
 use Rattle.geometry.specs.Place.{asAddress}
+use Rattle.geometry.specs.declared.cartridge.Geometry.{Geometry}
 use Rattle.geometry.proofs.UserFrames.{User, user-ranges}
 use Rattle.frame.specs.Frame.{blank, elementFrame}
 use Rattle.frame.specs.Header.{headerFrame}
@@ -24,7 +25,7 @@ use Rattle.elements.specs.Trail.{trailOf}
 use Rattle.elements.specs.Due.{dueOf}
 use Rattle.elements.specs.Reply as reply
 use Rattle.elements.specs.declared.elements.Elements.{Elements}
-use Rattle.recording_state.specs.Open.{startedAt, fresh}
+use Rattle.recording_state.specs.Open.{startedAt, setupOf, fresh}
 use Rattle.recording_state.specs.State.{accepting, settledOf}
 use Rattle.recording_state.specs.Due.{decisionOf}
 use Rattle.recording_state.specs.Written.{writtenFrame, writtenElement, elementOf}
@@ -34,11 +35,11 @@ use Rattle.reading_state.specs.State.{endOf}
 use Rattle.reading_state.specs.Open as reading
 use Rattle.adding_opening.specs.AtEnd.{openAtEndOf}
 use Rattle.archive.specs.Headers.{Newest}
-use Rattle.archive.specs.Recordings.{Element, World, Call, Runs, started}
+use Rattle.archive.specs.Recordings.{Element, Notes, World, Call, Runs, started}
 use Rattle.archive.specs.Readings as readings
 use Rattle.archive.specs.Demand.{on-none, Readable}
 use Rattle.archive.specs.Chain as chain
-use Rattle.archive.specs.Chain.{NoneAbove, Adds, Continued, Chain, Chains}
+use Rattle.archive.specs.Chain.{NoneAbove, Adds, Continued, Chain, acceptedIn, NoneGiven, ReadTogether, Chains}
 use Rattle.archive.specs.Sample.{geometry, depth, blocks, good, stopped, older, firstOpening, window, firstElements, firstBlock, firstFilemark, firstEod, firstClosing, firstCalls, firstReading, addedOpening, addedElements, addedError, addedFilemark, addedEod, addedClosing, addedCalls}
 use Rattle.archive.proofs.tape.Basics.{none-some}
 use Rattle.archive.proofs.tape.FoldLaws.{put-other}
@@ -47,7 +48,7 @@ use Rattle.archive.proofs.sample.Flush.{buffered}
 use Rattle.archive.proofs.sample.Headers.{writing, ending, finished, headersWritten, opening-written-at, closing-written}
 use Rattle.archive.proofs.sample.Tapes.{empty, same-reads, headers-elsewhere, headers-newest}
 use Rattle.archive.proofs.sample.Elements.{element-failed}
-use Rattle.archive.proofs.sample.Filemark.{located, eodDue, eodOnTape, filemark-begun, filemark-taken, filemark-written, eod-written}
+use Rattle.archive.proofs.sample.Filemark.{reaches, located, eodDue, eodOnTape, filemark-begun, filemark-taken, filemark-written, eod-written}
 use Rattle.archive.proofs.sample.FirstRecording.{window-long, afterFailure, afterBlock, afterFilemark, firstOpened, firstWritten, firstLeft, firstEnd, first-opened, first-runs, first-cartridge, first-on-none, first-bears-none, first-newest}
 use Rattle.archive.proofs.sample.FirstReading.{firstTrail, firstRead, first-reading-opened, first-read}
 use Rattle.archive.proofs.sample.SecondRecording.{second-cartridge}
@@ -56,16 +57,16 @@ use Rattle.archive.proofs.Chain.{adds, chains}
 -- ---- the opening
 
 abbrev addedState : State
-addedState = startedAt depth 0 addedOpening (asAddress 46) (record { 0 = 2 }) firstTrail
+addedState = startedAt (setupOf depth 1 0) addedOpening (asAddress 46) (record { 0 = 2 }) firstTrail
 
-pub added-opened : (b : List ℕ) → openAtEndOf (firstRead b .session) depth blocks ≡ accepting addedState
+pub added-opened : (b : List ℕ) → openAtEndOf (firstRead b .session) depth blocks 0 ≡ accepting addedState
 unfolding openAtEndOf
 added-opened b = refl
 
 -- ---- the filemark fails at 46 and is due again at 80
 
 abbrev filemarkTaken : Elements
-filemarkTaken = reply.takenOf (located 46 2 firstTrail)
+filemarkTaken = reply.takenOf (located 11999 46 2 firstTrail)
 
 abbrev filemarkFailed : Elements
 filemarkFailed = reply.relocatedOf (reply.confirmedOf filemarkTaken 0) (asAddress 80)
@@ -73,20 +74,20 @@ filemarkFailed = reply.relocatedOf (reply.confirmedOf filemarkTaken 0) (asAddres
 abbrev relocated : Elements
 relocated = reply.locatedOf filemarkFailed (asAddress 80)
 
-filemark-failed : Step (writing addedOpening filemarkTaken (Write (asAddress 46))) ReadPosition addedError (writing addedOpening filemarkFailed ReadPosition)
+filemark-failed : Step (writing 0 addedOpening filemarkTaken (Write (asAddress 46))) ReadPosition addedError (writing 0 addedOpening filemarkFailed ReadPosition)
 unfolding decisionOf dueOf replyOf replyBy reply.failedOf reply.confirmedOf trailOf settledOf meaningIn
 filemark-failed = record { free = refl; sized = refl; decided = refl; replied = refl }
 
-filemark-relocated : Step (writing addedOpening filemarkFailed ReadPosition) (Locate (asAddress 80)) good (writing addedOpening relocated (Locate (asAddress 80)))
+filemark-relocated : Step (writing 0 addedOpening filemarkFailed ReadPosition) (Locate (asAddress 80)) good (writing 0 addedOpening relocated (Locate (asAddress 80)))
 unfolding decisionOf dueOf replyOf replyBy reply.confirmedOf settledOf meaningIn
 filemark-relocated = record { free = refl; sized = refl; decided = refl; replied = refl }
 
 -- and is then written, with EOD behind it
 abbrev marks : List Bool
-marks = located 46 2 firstTrail .marks
+marks = located 11999 46 2 firstTrail .marks
 
 abbrev eodWritten : Elements
-eodWritten = eodOnTape 80 2 80 firstTrail marks
+eodWritten = eodOnTape 11999 80 2 80 firstTrail marks
 
 -- ---- the tape, by what was written
 
@@ -115,15 +116,15 @@ addedLeft b = headersWritten addedClosing (addedWritten b)
 
 -- the close has reported done
 abbrev pub addedEnd : List ℕ → World
-addedEnd b = reported window addedElements (finished addedClosing eodWritten) (addedLeft b)
+addedEnd b = reported window addedElements (finished 0 addedClosing eodWritten) (addedLeft b)
 
 -- ---- the list
 
-filemark-frame : writtenFrame (writing addedOpening relocated (Locate (asAddress 80))) window ≡ elementFrame addedFilemark blank
+filemark-frame : writtenFrame (writing 0 addedOpening relocated (Locate (asAddress 80))) window ≡ elementFrame addedFilemark blank
 unfolding writtenFrame writtenElement elementOf elementFrame reply.confirmedOf trailOf
 filemark-frame = refl
 
-eod-frame : writtenFrame (ending addedOpening (eodDue 80 2 80 firstTrail marks) ReadPosition) window ≡ elementFrame addedEod blank
+eod-frame : writtenFrame (ending 0 addedOpening (eodDue 11999 80 2 80 firstTrail marks) ReadPosition) window ≡ elementFrame addedEod blank
 unfolding writtenFrame writtenElement elementOf elementFrame reply.confirmedOf trailOf
 eod-frame = refl
 
@@ -132,12 +133,12 @@ unfolding reply.confirmedOf trailOf
 added-runs b =
     let t : Tape = addedOpened b .tape in
     let past : List ℕ = addedOpened b .written in
-    opening-written-at window window-long addedOpening (asAddress 46) (record { 0 = 2 }) firstTrail (addedStart b)
-    (filemark-begun 46 2 firstTrail addedOpening t (addedOpened b .at) past
-    (element-failed window window-long addedElements t past 46 34 80 (filemark-taken 46 2 46 firstTrail marks addedOpening (lit< tt) (Locate (asAddress 46))) filemark-failed filemark-relocated
-    (filemark-written 80 2 80 firstTrail marks addedOpening (lit< tt) addedElements (afterError t) (46 ∷ past) (elementFrame addedFilemark blank) (Locate (asAddress 80)) filemark-frame
-    (eod-written 80 2 80 firstTrail marks addedOpening (lit< tt) addedElements (afterMark t) (80 ∷ 46 ∷ past) (elementFrame addedEod blank) eod-frame
-    (closing-written window window-long addedElements eodWritten addedClosing (addedWritten b))))))
+    opening-written-at 0 window window-long addedOpening (asAddress 46) (record { 0 = 2 }) firstTrail (addedStart b)
+    (filemark-begun 11999 46 2 firstTrail reaches addedOpening (lit< tt) t (addedOpened b .at) past
+    (element-failed window window-long addedElements t past 46 34 80 (filemark-taken 11999 46 2 46 firstTrail marks addedOpening reaches (lit< tt) (Locate (asAddress 46))) filemark-failed filemark-relocated
+    (filemark-written 11999 80 2 80 firstTrail marks addedOpening reaches (lit< tt) addedElements (afterError t) (46 ∷ past) (elementFrame addedFilemark blank) (Locate (asAddress 80)) filemark-frame
+    (eod-written 11999 80 2 80 firstTrail marks addedOpening reaches (lit< tt) addedElements (afterMark t) (80 ∷ 46 ∷ past) (elementFrame addedEod blank) eod-frame
+    (closing-written 0 window window-long addedElements eodWritten addedClosing (addedWritten b))))))
 
 -- ---- the premises
 
@@ -162,12 +163,12 @@ none-above b pass a f user high reads bears = none-some (sym (above-empty b a hi
 
 -- ---- a chain, and a session behind it that adds where a reading of its tape ended, on a drive with nothing buffered
 
-module _ (t : Tape) (xs : List Element) (before : Chain geometry 11999 chain.afresh t xs) (at : ℕ) (s : State) (h : List ℕ) (r : readings.World) (read : chain.HasRead geometry 11999 t h r)
-    (opened : openAtEndOf (r .session) depth blocks ≡ accepting s) (newest : Newest 11999 t h) (clear : NoneAbove 11999 t (endOf (r .session) .0) (headerOf h .pass)) where
+module _ (g : Geometry) (last : ℕ) (t : Tape) (ns : List Notes) (before : Chain g last chain.afresh t [] ns) (at : ℕ) (s : State) (h : List ℕ) (r : readings.World) (read : chain.HasRead g last t h r)
+    (opened : openAtEndOf (r .session) depth blocks 0 ≡ accepting s) (newest : Newest last t h) (clear : NoneAbove last t (endOf (r .session) .0) (headerOf h .pass)) where
   pub chain-continued : (calls : List Call) (w : World) → Runs (started s window (buffered t at [] [])) calls w → w .notes .unaltered ≡ true → w .notes .reported ≡ true
-      → Chain geometry 11999 chain.afresh (w .drive .tape) (xs ++ w .notes .accepted)
+      → Chain g last chain.afresh (w .drive .tape) [] (ns ++ w .notes ∷ [])
   chain-continued calls w runs unaltered reported =
-      chain.more t xs before (buffered t at [] []) s (chain.added depth blocks t h r read opened) w (read .cartridge) refl (λ _ _. refl) newest (record {
+      chain.more t [] ns before (buffered t at [] []) s (chain.added depth blocks 0 t h r read opened) w (read .cartridge) refl (λ _ _. refl) newest (record {
         unwritten = refl;
         rests = conduct.empty refl;
         on-newest = newest;
@@ -180,11 +181,18 @@ module _ (t : Tape) (xs : List Element) (before : Chain geometry 11999 chain.afr
         reported = reported;
       })
 
+-- where nothing was given up, reading gives all that was accepted
+pub chain-readable : (t : Tape) (ns : List Notes) → Chain geometry 11999 chain.afresh t [] ns → NoneGiven ns → Readable geometry 11999 t (acceptedIn ns)
+unfolding Chains
+chain-readable t ns c ungiven =
+    let together : ReadTogether geometry 11999 t [] ns = chains geometry 11999 chain.afresh t [] ns (lit< tt) (lit< tt) refl c .0 in
+    subst (λ (xs : List Element). Readable geometry 11999 t xs) (together .whole ungiven) (together .readable)
+
 -- ---- the chain of the first recording and this one
 
 module _ (b : List ℕ) (full : length b ≡ 32768) where
-  pub first-chain : Chain geometry 11999 chain.afresh (firstLeft b .tape) (firstElements b)
-  first-chain = chain.first stopped (fresh depth 0 firstOpening) (chain.fresh depth blocks on-none first-opened) (firstEnd b) first-cartridge refl (record {
+  pub first-chain : Chain geometry 11999 chain.afresh (firstLeft b .tape) [] (firstEnd b .notes ∷ [])
+  first-chain = chain.first stopped (fresh (setupOf depth 1 0) firstOpening) (chain.fresh depth blocks 0 on-none first-opened) (firstEnd b) first-cartridge refl (record {
     unwritten = refl;
     rests = conduct.stopped refl;
     on-newest = first-on-none;
@@ -209,15 +217,15 @@ module _ (b : List ℕ) (full : length b ≡ 32768) where
   none-in-the-way : NoneAbove 11999 (firstLeft b .tape) 46 (headerOf (headerFrame firstClosing) .pass)
   none-in-the-way = none-above b (headerOf (headerFrame firstClosing) .pass)
 
-  pub added-chain : Chain geometry 11999 chain.afresh (addedLeft b .tape) (firstElements b ++ addedElements)
+  pub added-chain : Chain geometry 11999 chain.afresh (addedLeft b .tape) [] (firstEnd b .notes ∷ addedEnd b .notes ∷ [])
   added-chain =
-      chain-continued (firstLeft b .tape) (firstElements b) first-chain (firstLeft b .at) addedState (headerFrame firstClosing) (firstRead b) first-read-at (added-opened b) (first-newest b) none-in-the-way
+      chain-continued geometry 11999 (firstLeft b .tape) (firstEnd b .notes ∷ []) first-chain (firstLeft b .at) addedState (headerFrame firstClosing) (firstRead b) first-read-at (added-opened b) (first-newest b) none-in-the-way
       addedCalls (addedEnd b) (added-runs b) refl refl
 
   -- reading gives the elements of both
   pub added-readable : Readable geometry 11999 (addedLeft b .tape) (firstElements b ++ addedElements)
-  unfolding Chains
-  added-readable = chains geometry 11999 chain.afresh (addedLeft b .tape) (firstElements b ++ addedElements) (lit< tt) (lit< tt) refl added-chain
+  unfolding acceptedIn NoneGiven
+  added-readable = chain-readable (addedLeft b .tape) (firstEnd b .notes ∷ addedEnd b .notes ∷ []) added-chain (refl, (refl, tt))
 
 -- the newest header of the cartridge as left
 pub added-valid : validHeader (asAddress 11999) (headerFrame addedClosing) ≡ true
@@ -230,14 +238,14 @@ added-newest b = headers-newest addedClosing (addedWritten b) 11999 added-valid
 module _ (b : List ℕ) (full : length b ≡ 32768) where
   -- what Adds says of this session
   abbrev atFirstEnd : chain.Start geometry 11999 addedState
-  atFirstEnd = chain.added depth blocks (firstLeft b .tape) (headerFrame firstClosing) (firstRead b) (first-read-at b full) (added-opened b)
+  atFirstEnd = chain.added depth blocks 0 (firstLeft b .tape) (headerFrame firstClosing) (firstRead b) (first-read-at b full) (added-opened b)
 
   added-continued : Continued geometry 11999 (firstLeft b .tape) addedState atFirstEnd (addedEnd b)
   unfolding Adds
   added-continued = adds geometry 11999 (addedStart b) addedState atFirstEnd window addedCalls (addedEnd b) (lit< tt) (lit< tt) refl (second-cartridge b full) refl (conduct.empty refl) (added-runs b)
 
   pub added-cartridge : Cartridge 11999 (addedLeft b .tape)
-  added-cartridge = added-continued .readable (first-newest b) (λ _ _. refl) (none-in-the-way b full) refl refl .1
+  added-cartridge = added-continued .readable refl (first-newest b) (λ _ _. refl) (none-in-the-way b full) refl refl .1
 
   pub added-clear : NoneAbove 11999 (addedLeft b .tape) 81 (headerOf (headerFrame addedClosing) .pass)
   added-clear =

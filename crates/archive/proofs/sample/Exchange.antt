@@ -3,9 +3,10 @@ use Prim.Native.Nat.{ℕ, _≤_}
 use mathlib.Core.Path.{_≡_, refl, sym, ap, subst, _∙_}
 use mathlib.Core.Bool.{Bool, true, false, _&&_, _||_}
 use mathlib.Core.List.{List, [], _∷_, _++_}
-use mathlib.Core.Logic.{inl}
+use mathlib.Core.Logic.{inl, inr}
 use native.Mathlib.Omega.{arith}
 use lib.ListN.{length}
+use Rattle.geometry.proofs.PickLaws.{pick-f}
 use Rattle.buffer.proofs.Agreement.{agree-same}
 use Rattle.buffer.specs.Bytes.{agree}
 use Rattle.frame.proofs.Frames.{header-length}
@@ -15,7 +16,7 @@ use Rattle.drive.specs.declared.command.Command.{Command}
 use Rattle.drive.specs.declared.reply.Reply.{Reply}
 use Rattle.drive.proofs.CaseLaws.{command-by}
 use Rattle.recording_state.specs.State.{OutcomeSaid, windowLength, accepting, refusing}
-use Rattle.recording_state.specs.Accept.{StoredSaid, blockOf, filemarkOf, closeOf}
+use Rattle.recording_state.specs.Accept.{StoredSaid, blockOf, filemarkOf, isSpent, closeOf}
 use Rattle.recording_state.specs.Answer as answer
 use Rattle.recording_state.specs.Answer.{giving}
 use Rattle.recording_state.specs.Due.{decisionOf}
@@ -23,7 +24,7 @@ use Rattle.recording_state.specs.Fetch.{FetchedSaid, awaits, frameFor, sending,
 use Rattle.recording_state.specs.Reply.{replyOf}
 use Rattle.recording_state.specs.declared.state.State.{State}
 use Rattle.recording_state.proofs.FetchView.{fetch-decided, fetch-sends}
-use Rattle.archive.specs.Recordings.{Element, block, filemark, Flight, no-command, answered, World, Call, accept-block, accept-filemark, close, fetch, reply, refusal, returned, fetchNumber, flightAfter, reportedAfter, Calls, refuses, accepts-block, accepts-filemark, closes, fetches, replies, acts, answers, Runs, stop, call, drive, windowAfter, sent, acceptedAfter}
+use Rattle.archive.specs.Recordings.{Element, block, filemark, Flight, no-command, answered, World, Call, accept-block, accept-filemark, close, fetch, reply, refusal, returned, fetchNumber, flightAfter, reportedAfter, TakesEffect, Calls, refuses, accepts-block, accepts-filemark, closes, fetches, replies, acts, answers, Runs, stop, call, drive, windowAfter, sent, acceptedAfter}
 use Rattle.archive.specs.Sample.{firstOpening, frame}
 
 pub framed : length frame ≡ 33280
@@ -38,7 +39,7 @@ pub record Step (s : State) (c : Command) (r : Reply) (next : State) : Type 0 wh
 
 module _ (window : List ℕ) (accepted : List Element) where
   abbrev pub world : State → Drive → Flight → World
-  world s d f = record { session = s; window = window; drive = d; flight = f; notes = record { accepted = accepted; unaltered = true; reported = false } }
+  world s d f = record { session = s; window = window; drive = d; flight = f; notes = record { accepted = accepted; unaltered = true; reported = false; givenUp = 0 } }
 
   -- between two commands
   abbrev pub between : State → Drive → World
@@ -46,7 +47,7 @@ module _ (window : List ℕ) (accepted : List Element) where
 
   -- the close has reported done
   abbrev pub reported : State → Drive → World
-  reported s d = record { session = s; window = window; drive = d; flight = no-command; notes = record { accepted = accepted; unaltered = true; reported = true } }
+  reported s d = record { session = s; window = window; drive = d; flight = no-command; notes = record { accepted = accepted; unaltered = true; reported = true; givenUp = 0 } }
 
   abbrev fetchedWorld : Drive → Bool → FetchedSaid → World
   fetchedWorld d same x = record {
@@ -54,7 +55,7 @@ module _ (window : List ℕ) (accepted : List Element) where
     window = window;
     drive = d;
     flight = flightAfter (x .said) no-command (x .frame);
-    notes = record { accepted = accepted; unaltered = same; reported = reportedAfter (x .said) false };
+    notes = record { accepted = accepted; unaltered = same; reported = reportedAfter (x .said) false; givenUp = 0 };
   }
 
 module _ (window : List ℕ) (accepted : List Element) (s : State) (d : Drive) where
@@ -70,7 +71,7 @@ module _ (window : List ℕ) (accepted : List Element) (s : State) (d : Drive) w
 
   -- the world after a block is stored
   abbrev storedWorld : List ℕ → Bool → StoredSaid → World
-  storedWorld b same x = record { session = x .result .session; window = x .window; drive = d; flight = no-command; notes = record { accepted = acceptedAfter (x .result .number) accepted (block b); unaltered = same; reported = false } }
+  storedWorld b same x = record { session = x .result .session; window = x .window; drive = d; flight = no-command; notes = record { accepted = acceptedAfter (x .result .number) accepted (block b); unaltered = same; reported = false; givenUp = 0 } }
 
 module _ (window : List ℕ) (accepted : List Element) (s : State) (d : Drive) {cs : List Call} {u : World} where
   -- what the drive does by itself
@@ -78,26 +79,40 @@ module _ (window : List ℕ) (accepted : List Element) (s : State) (d : Drive) {
   acting a rest = drive (acts _ a) rest
 
   -- a fetch that gives a command
-  pub given : {next : State} {c : Command} {r : Reply} → length window ≡ 32768 → Step s c r next → Runs (world window accepted (awaits s c) d (sent c (frameFor c s window frame))) cs u
+  asked : {c : Command} → length window ≡ 32768 → s .ended || s .exchange .awaiting ≡ false → windowLength s ≡ 32768 → decisionOf s ≡ giving (commandSaid c)
+      → Runs (world window accepted (awaits s c) d (sent c (frameFor c s window frame))) cs u
       → Runs (between window accepted s d) (fetch window frame ∷ cs) u
   unfolding sending
-  given {next} {c} {r} long step rest =
+  asked {c} long free sized decided rest =
       let p = ap (λ (x : Command). world window accepted (awaits s c) d (sent x (frameFor c s window frame))) (command-by c) in
-      call (subst (λ v. Calls (between window accepted s d) (fetch window frame) v) p (fetched window accepted s d _ (fetch-sends s window frame (step .free) (long ∙ sym (step .sized)) framed c (step .decided)) refl)) rest
+      call (subst (λ v. Calls (between window accepted s d) (fetch window frame) v) p (fetched window accepted s d _ (fetch-sends s window frame free (long ∙ sym sized) framed c decided) refl)) rest
 
-  -- the drive's answer to it, and its reply
-  taken-in : {next : State} {e : Drive} {c : Command} {r : Reply} → Step s c r next → Answers d (frameFor c s window frame) c r e → Runs (between window accepted next e) cs u
+  pub given : {next : State} {c : Command} {r : Reply} → length window ≡ 32768 → Step s c r next → Runs (world window accepted (awaits s c) d (sent c (frameFor c s window frame))) cs u
+      → Runs (between window accepted s d) (fetch window frame ∷ cs) u
+  given long step rest = asked long (step .free) (step .sized) (step .decided) rest
+
+  -- the drive's answer to it, and its reply, which takes effect
+  taken-in : {next : State} {e : Drive} {c : Command} {r : Reply} (n : ℕ) → TakesEffect n → replyOf (awaits s c) r ≡ record { session = next; number = n } → Answers d (frameFor c s window frame) c r e
+      → Runs (between window accepted next e) cs u
       → Runs (world window accepted (awaits s c) d (sent c (frameFor c s window frame))) (reply r ∷ cs) u
-  taken-in {next} {e} {c} {r} step answer rest =
+  taken-in {next} {e} {c} {r} n effect replied answer rest =
       let w : World = world window accepted (awaits s c) e (answered r) in
-      let p : between window accepted (replyOf (awaits s c) r .session) e ≡ between window accepted next e = ap (λ (x : OutcomeSaid). between window accepted (x .session) e) (step .replied) in
-      let t : Calls w (reply r) (between window accepted next e) = subst (λ v. Calls w (reply r) v) p (replies r refl (inl (ap (λ (x : OutcomeSaid). x .number) (step .replied)))) in
+      let p : between window accepted (replyOf (awaits s c) r .session) e ≡ between window accepted next e = ap (λ (x : OutcomeSaid). between window accepted (x .session) e) replied in
+      let number : n ≡ replyOf (awaits s c) r .number = sym (ap (λ (x : OutcomeSaid). x .number) replied) in
+      let t : Calls w (reply r) (between window accepted next e) = subst (λ v. Calls w (reply r) v) p (replies r refl (subst TakesEffect number effect)) in
       drive (answers c (frameFor c s window frame) r e refl answer) (call t rest)
 
 module _ (window : List ℕ) (accepted : List Element) (s : State) (d : Drive) {cs : List Call} {u : World} where
   pub exchange : {next : State} {e : Drive} {c : Command} {r : Reply} → length window ≡ 32768 → Step s c r next → Answers d (frameFor c s window frame) c r e
       → Runs (between window accepted next e) cs u → Runs (between window accepted s d) (fetch window frame ∷ reply r ∷ cs) u
-  exchange long step answer rest = given window accepted s d long step (taken-in window accepted s d step answer rest)
+  exchange long step answer rest = given window accepted s d long step (taken-in window accepted s d 0 (inl refl) (step .replied) answer rest)
+
+  -- one whose reply ends the session
+  pub exchange-ended : {next : State} {e : Drive} {c : Command} {r : Reply} (n : ℕ) → 8 ≤ n → length window ≡ 32768 → s .ended || s .exchange .awaiting ≡ false → windowLength s ≡ 32768
+      → decisionOf s ≡ giving (commandSaid c) → replyOf (awaits s c) r ≡ record { session = next; number = n } → Answers d (frameFor c s window frame) c r e
+      → Runs (between window accepted next e) cs u → Runs (between window accepted s d) (fetch window frame ∷ reply r ∷ cs) u
+  exchange-ended n high long free sized decided replied answer rest =
+      asked window accepted s d long free sized decided (taken-in window accepted s d n (inr high) replied answer rest)
 
   pub filemark-accepted : {next : State} → filemarkOf s ≡ accepting next → Runs (between window (accepted ++ filemark ∷ []) next d) cs u → Runs (between window accepted s d) (accept-filemark ∷ cs) u
   filemark-accepted {next} e rest =
@@ -111,10 +126,12 @@ module _ (window : List ℕ) (accepted : List Element) (s : State) (d : Drive) {
       let p : storedWorld window accepted s d b (true && agree window window) (blockOf s b window) ≡ between after (accepted ++ block b ∷ []) next d = ap (λ t. storedWorld window accepted s d b t (blockOf s b window)) (agree-same window) ∙ ap (λ x. storedWorld window accepted s d b true x) e in
       call (subst (λ v. Calls (between window accepted s d) (accept-block b window) v) p (accepts-block b window (inl (ap (λ (x : StoredSaid). x .result .number) e)))) rest
 
-  pub close-accepted : {next : State} → closeOf s ≡ accepting next → Runs (between window accepted next d) cs u → Runs (between window accepted s d) (close ∷ cs) u
-  close-accepted {next} e rest =
+  pub close-accepted : {next : State} → isSpent s ≡ false → closeOf s ≡ accepting next → Runs (between window accepted next d) cs u → Runs (between window accepted s d) (close ∷ cs) u
+  close-accepted {next} unspent e rest =
       call
-      (subst (λ v. Calls (between window accepted s d) close v) (ap (λ (x : OutcomeSaid). between window accepted (x .session) d) e) (closes (inl (ap (λ (x : OutcomeSaid). x .number) e)))) rest
+      (subst (λ v. Calls (between window accepted s d) close v) (ap (λ (x : OutcomeSaid). between window accepted (x .session) d) e)
+      (subst (λ (n : ℕ). Calls (between window accepted s d) close (record { session = closeOf s .session; window = window; drive = d; flight = no-command; notes = record { accepted = accepted; unaltered = true; reported = false; givenUp = n } })) (pick-f _ unspent)
+      (closes (inl (ap (λ (x : OutcomeSaid). x .number) e))))) rest
 
   -- a call refused with 1 to 7 counts for nothing
   refused : (c : Call) (n : ℕ) → 1 ≤ n → n ≤ 7 → refusal s c ≡ n → returned s c ≡ s → windowAfter (between window accepted s d) c ≡ window

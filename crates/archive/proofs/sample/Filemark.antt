@@ -1,13 +1,13 @@
 -- A filemark that is the only element of a sample session, and EOD behind it: accepted, located and written without an error, wherever it goes. Assumes nothing.
-use Prim.Native.Nat.{ℕ, _+_, _%_, _^_, _<_}
-use mathlib.Core.Path.{_≡_, refl}
+use Prim.Native.Nat.{ℕ, _+_, _-_, _%_, _^_, _≤_, _<_}
+use mathlib.Core.Path.{_≡_, refl, ap, _∙_}
 use mathlib.Core.Bool.{Bool, true, false}
 use mathlib.Core.List.{List, [], _∷_}
 use mathlib.Core.Option.{some}
 use native.Mathlib.Nat.{mod-eq-of-lt}
 use native.Mathlib.Omega.{arith}
 use borrow.Author.Tests.{lt-leb, ne-eqb}
-use lib.Dec.{eqb, leb}
+use lib.Dec.{eqb, leb, lit<, lit≤}
 use Rattle.geometry.specs.Place.{asAddress, asSeq}
 use Rattle.frame.specs.declared.header.Header.{Header}
 use Rattle.frame.specs.declared.trail.Trail.{Trail}
@@ -34,107 +34,122 @@ use Rattle.archive.proofs.sample.Headers.{writing, ending, closing}
 use Rattle.archive.proofs.sample.Elements.{element-written}
 use Rattle.archive.proofs.sample.FirstRecording.{window-long}
 
--- ---- accepted and located, by a session that begins at an address with a number, behind a trail
-
-module _ (a number : ℕ) (trail : Trail) where
-  abbrev unaccepted : Elements
-  unaccepted = elements.startOf (asAddress 11999) (asAddress a) (asSeq number) trail
-
-  abbrev accepted : Elements
-  accepted = elements.acceptedOf unaccepted true
-
-  abbrev pub located : Elements
-  located = reply.locatedOf accepted (asAddress a)
-
-  module _ (h : Header) where
-    in-time : filemarkOf (writing h unaccepted ReadPosition) ≡ accepting (writing h accepted ReadPosition)
-    unfolding filemarkOf
-    in-time = refl
-
-    filemark-located : Step (writing h accepted ReadPosition) (Locate (asAddress a)) good (writing h located (Locate (asAddress a)))
-    unfolding decisionOf dueOf replyOf replyBy settledOf meaningIn
-    filemark-located = record { free = refl; sized = refl; decided = refl; replied = refl }
-
-    pub filemark-begun : (t : Tape) (place : ℕ) (past : List ℕ) {cs : List Call} {u : World}
-        → Runs (between window (filemark ∷ []) (writing h located (Locate (asAddress a))) (buffered t a past [])) cs u
-        → Runs (between window [] (writing h unaccepted ReadPosition) (buffered t place past [])) (accept-filemark ∷ exchanges window 1 cs) u
-    unfolding meaningIn
-    filemark-begun t place past rest =
-        filemark-accepted window [] (writing h unaccepted ReadPosition) (buffered t place past []) in-time
-        (exchange window (filemark ∷ []) (writing h accepted ReadPosition) (buffered t place past []) window-long filemark-located (locates (asAddress a) good refl) rest)
-
--- ---- due at an address, with nothing outstanding: written, and EOD at the next
-
 user-frame : (a : ℕ) → a < 2990 → eqb a 2990 ≡ false
 user-frame a low = ne-eqb a 2990 (λ e. omega arith)
 
-room : (a : ℕ) → a < 2990 → leb 12000 a ≡ false
-room a low = lt-leb 12000 a (omega arith)
+-- a cartridge reaches beyond the second header group's start, and its addresses have 32 bits
+abbrev pub Reaches : ℕ → Type 0
+Reaches last = (2990 ≤ last) × (last + 1 < 2 ^ 32)
 
-module _ (a number target : ℕ) (trail : Trail) (marks : List Bool) where
-  abbrev due : Elements
-  due = record {
-    first = asSeq number;
-    pending = 1;
-    outstanding = 0;
-    next = asAddress a;
-    limit = asAddress 12000;
-    locate = false;
-    target = asAddress target;
-    eod = false;
-    trail = trail;
-    marks = marks;
-  }
+pub reaches : Reaches 11999
+reaches = (lit≤ tt, lit< tt)
 
-  abbrev taken : Elements
-  taken = reply.takenOf due
+-- a cartridge of any size, and no tail
+module _ (last : ℕ) where
+  abbrev limit : ℕ
+  limit = (last + 1) % 2 ^ 32
 
-  abbrev pub onTape : Elements
-  onTape = reply.confirmedOf taken 1
+  room : Reaches last → (a : ℕ) → a < 2990 → leb limit a ≡ false
+  room large a low = ap (λ (n : ℕ). leb n a) (mod-eq-of-lt (large .1)) ∙ lt-leb (last + 1) a (omega (arith, large .0))
 
-  abbrev pub eodDue : Elements
-  eodDue = elements.eodDue onTape
+  element-room : Reaches last → (a : ℕ) → a < 2990 → leb (limit - 0) a ≡ false
+  element-room large a low = let whole : limit - 0 ≡ limit = omega arith in ap (λ (n : ℕ). leb n a) whole ∙ room large a low
 
-  abbrev eodTaken : Elements
-  eodTaken = reply.takenOf eodDue
+  -- ---- accepted and located, by a session that begins at an address with a number, behind a trail
 
-  abbrev pub eodOnTape : Elements
-  eodOnTape = reply.confirmedOf eodTaken 1
+  module _ (a number : ℕ) (trail : Trail) where
+    abbrev unaccepted : Elements
+    unaccepted = elements.startOf (asAddress last) (asAddress a) (asSeq number) trail
 
-  module _ (h : Header) where
-    pub close-called : closeOf (writing h onTape ReadPosition) ≡ accepting (ending h eodDue ReadPosition)
-    unfolding closeOf settledOf reply.confirmedOf
-    close-called = refl
+    abbrev accepted : Elements
+    accepted = elements.acceptedOf unaccepted true
 
-    module _ (low : a < 2989) where
-      pub filemark-taken : (c : Command) → Step (writing h due c) (Write (asAddress a)) good (writing h taken (Write (asAddress a)))
+    abbrev pub located : Elements
+    located = reply.locatedOf accepted (asAddress a)
+
+    module _ (large : Reaches last) (h : Header) (low : a < 2990) where
+      in-time : filemarkOf (writing 0 h unaccepted ReadPosition) ≡ accepting (writing 0 h accepted ReadPosition)
+      unfolding filemarkOf
+      in-time = refl
+
+      filemark-located : Step (writing 0 h accepted ReadPosition) (Locate (asAddress a)) good (writing 0 h located (Locate (asAddress a)))
       unfolding decisionOf dueOf replyOf replyBy settledOf meaningIn
-      filemark-taken c = record { free = refl; sized = refl; decided = rw (room a (omega arith), user-frame a (omega arith)); replied = refl }
+      filemark-located = record { free = refl; sized = refl; decided = rw (room large a low); replied = refl }
 
-      filemark-confirmed : Step (writing h taken (Write (asAddress a))) ReadPosition good (writing h onTape ReadPosition)
-      unfolding decisionOf dueOf replyOf replyBy reply.countedOf reply.confirmedOf settledOf meaningIn
-      filemark-confirmed = record { free = refl; sized = refl; decided = refl; replied = refl }
+      pub filemark-begun : (t : Tape) (place : ℕ) (past : List ℕ) {cs : List Call} {u : World}
+          → Runs (between window (filemark ∷ []) (writing 0 h located (Locate (asAddress a))) (buffered t a past [])) cs u
+          → Runs (between window [] (writing 0 h unaccepted ReadPosition) (buffered t place past [])) (accept-filemark ∷ exchanges window 1 cs) u
+      unfolding meaningIn
+      filemark-begun t place past rest =
+          filemark-accepted window [] (writing 0 h unaccepted ReadPosition) (buffered t place past []) in-time
+          (exchange window (filemark ∷ []) (writing 0 h accepted ReadPosition) (buffered t place past []) window-long filemark-located (locates (asAddress a) good refl) rest)
 
-      next-address : (a + 1) % 2 ^ 32 ≡ a + 1
-      next-address = mod-eq-of-lt (omega arith)
+  -- ---- due at an address, with nothing outstanding: written, and EOD at the next
 
-      pub eod-taken : Step (ending h eodDue ReadPosition) (Write (asAddress (a + 1))) good (ending h eodTaken (Write (asAddress (a + 1))))
-      unfolding decisionOf dueOf replyOf replyBy reply.confirmedOf settledOf meaningIn
-      eod-taken = record { free = refl; sized = refl; decided = rw (next-address, room (a + 1) (omega arith), user-frame (a + 1) (omega arith)); replied = refl }
+  module _ (a number target : ℕ) (trail : Trail) (marks : List Bool) where
+    abbrev due : Elements
+    due = record {
+      first = asSeq number;
+      pending = 1;
+      outstanding = 0;
+      next = asAddress a;
+      limit = asAddress limit;
+      locate = false;
+      target = asAddress target;
+      eod = false;
+      trail = trail;
+      marks = marks;
+    }
 
-      eod-confirmed : Step (ending h eodTaken (Write (asAddress (a + 1)))) ReadPosition good (closing (closingOf h (eodOnTape .next)) eodOnTape)
-      unfolding decisionOf dueOf replyOf replyBy reply.countedOf reply.confirmedOf settledOf meaningIn
-      eod-confirmed = record { free = refl; sized = refl; decided = refl; replied = refl }
+    abbrev taken : Elements
+    taken = reply.takenOf due
 
-      module _ (accepted : List Element) (t : Tape) (past : List ℕ) (f : List ℕ) {cs : List Call} {u : World} where
-        pub filemark-written : (c : Command) → writtenFrame (writing h due c) window ≡ f
-            → Runs (between window accepted (writing h onTape ReadPosition) (buffered (put t a (some f)) (a + 1) (a ∷ past) [])) cs u
-            → Runs (between window accepted (writing h due c) (buffered t a past [])) (exchanges window 2 cs) u
-        filemark-written c sent rest = element-written window window-long accepted t past a f sent (filemark-taken c) filemark-confirmed rest
+    abbrev pub onTape : Elements
+    onTape = reply.confirmedOf taken 1
 
-        pub eod-written : writtenFrame (ending h eodDue ReadPosition) window ≡ f
-            → Runs (between window accepted (closing (closingOf h (eodOnTape .next)) eodOnTape) (buffered (put t (a + 1) (some f)) (a + 1 + 1) ((a + 1) ∷ past) [])) cs u
-            → Runs (between window accepted (writing h onTape ReadPosition) (buffered t (a + 1) past [])) (close ∷ exchanges window 2 cs) u
-        eod-written sent rest =
-            close-accepted window accepted (writing h onTape ReadPosition) (buffered t (a + 1) past []) close-called
-            (element-written window window-long accepted t past (a + 1) f sent eod-taken eod-confirmed rest)
+    abbrev pub eodDue : Elements
+    eodDue = elements.eodDue onTape
+
+    abbrev eodTaken : Elements
+    eodTaken = reply.takenOf eodDue
+
+    abbrev pub eodOnTape : Elements
+    eodOnTape = reply.confirmedOf eodTaken 1
+
+    module _ (h : Header) where
+      pub close-called : closeOf (writing 0 h onTape ReadPosition) ≡ accepting (ending 0 h eodDue ReadPosition)
+      unfolding closeOf settledOf reply.confirmedOf
+      close-called = refl
+
+      module _ (large : Reaches last) (low : a < 2989) where
+        pub filemark-taken : (c : Command) → Step (writing 0 h due c) (Write (asAddress a)) good (writing 0 h taken (Write (asAddress a)))
+        unfolding decisionOf dueOf replyOf replyBy settledOf meaningIn
+        filemark-taken c = record { free = refl; sized = refl; decided = rw (element-room large a (omega arith), user-frame a (omega arith)); replied = refl }
+
+        filemark-confirmed : Step (writing 0 h taken (Write (asAddress a))) ReadPosition good (writing 0 h onTape ReadPosition)
+        unfolding decisionOf dueOf replyOf replyBy reply.countedOf reply.confirmedOf settledOf meaningIn
+        filemark-confirmed = record { free = refl; sized = refl; decided = refl; replied = refl }
+
+        next-address : (a + 1) % 2 ^ 32 ≡ a + 1
+        next-address = mod-eq-of-lt (omega arith)
+
+        pub eod-taken : Step (ending 0 h eodDue ReadPosition) (Write (asAddress (a + 1))) good (ending 0 h eodTaken (Write (asAddress (a + 1))))
+        unfolding decisionOf dueOf replyOf replyBy reply.confirmedOf settledOf meaningIn
+        eod-taken = record { free = refl; sized = refl; decided = rw (next-address, room large (a + 1) (omega arith), user-frame (a + 1) (omega arith)); replied = refl }
+
+        eod-confirmed : Step (ending 0 h eodTaken (Write (asAddress (a + 1)))) ReadPosition good (closing 0 (closingOf h (eodOnTape .next)) eodOnTape)
+        unfolding decisionOf dueOf replyOf replyBy reply.countedOf reply.confirmedOf settledOf meaningIn
+        eod-confirmed = record { free = refl; sized = refl; decided = refl; replied = refl }
+
+        module _ (accepted : List Element) (t : Tape) (past : List ℕ) (f : List ℕ) {cs : List Call} {u : World} where
+          pub filemark-written : (c : Command) → writtenFrame (writing 0 h due c) window ≡ f
+              → Runs (between window accepted (writing 0 h onTape ReadPosition) (buffered (put t a (some f)) (a + 1) (a ∷ past) [])) cs u
+              → Runs (between window accepted (writing 0 h due c) (buffered t a past [])) (exchanges window 2 cs) u
+          filemark-written c sent rest = element-written window window-long accepted t past a f sent (filemark-taken c) filemark-confirmed rest
+
+          pub eod-written : writtenFrame (ending 0 h eodDue ReadPosition) window ≡ f
+              → Runs (between window accepted (closing 0 (closingOf h (eodOnTape .next)) eodOnTape) (buffered (put t (a + 1) (some f)) (a + 1 + 1) ((a + 1) ∷ past) [])) cs u
+              → Runs (between window accepted (writing 0 h onTape ReadPosition) (buffered t (a + 1) past [])) (close ∷ exchanges window 2 cs) u
+          eod-written sent rest =
+              close-accepted window accepted (writing 0 h onTape ReadPosition) (buffered t (a + 1) past []) refl close-called
+              (element-written window window-long accepted t past (a + 1) f sent eod-taken eod-confirmed rest)

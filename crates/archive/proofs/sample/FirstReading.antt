@@ -29,7 +29,7 @@ use Rattle.archive.proofs.tape.Basics.{reads-itself}
 use Rattle.archive.proofs.tape.FoldLaws.{put-other}
 use Rattle.archive.proofs.tape.WrittenFrames.{block-fits}
 use Rattle.archive.proofs.sample.Tapes.{empty, same-reads, headers-elsewhere}
-use Rattle.archive.proofs.sample.ReadingExchange.{between, before, address-located, address-located-again, frame-read, unreadable-skipped, blank-jumped, end-said, reading-opened}
+use Rattle.archive.proofs.sample.ReadingExchange.{between, before, address-located, address-located-again, frame-read, unreadable-skipped, blank-jumped, end-said, toldOn, reading-opened}
 use Rattle.archive.proofs.sample.FirstRecording.{older-fits, afterFailure, afterBlock, afterFilemark, firstOpened, firstWritten, firstLeft, first-valid, first-newest, first-readable}
 
 pub first-reading-opened : openOf geometry (headerFrame firstClosing) ≡ record { session = fresh (toldOf firstClosing); number = 0 }
@@ -37,9 +37,8 @@ first-reading-opened = reading-opened firstClosing (lit< tt) (lit< tt) (lit< tt)
 
 -- ---- the frames, as a reading of pass 1 judges them
 
--- what the header of a closed recording of pass 1 tells
 abbrev pub toldAt : ℕ → ℕ → Told
-toldAt eod update = record { last = asAddress 11999; pass = 1; eod = asAddress eod; old = asAddress 0; update = update }
+toldAt = toldOn 11999
 
 module _ (eod update : ℕ) where
   older-passed-over : judgement.judgeFrame (toldAt eod update) (asAddress 10) (record { 0 = 0 }) (elementFrame older blank) ≡ judgement.skipped

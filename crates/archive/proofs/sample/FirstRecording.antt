@@ -25,7 +25,7 @@ use Rattle.elements.specs.Trail.{trailOf}
 use Rattle.elements.specs.Due.{dueOf}
 use Rattle.elements.specs.Reply as reply
 use Rattle.elements.specs.declared.elements.Elements.{Elements}
-use Rattle.recording_state.specs.Open.{fresh, openWith, openBlankOf}
+use Rattle.recording_state.specs.Open.{setupOf, fresh, openWith, openBlankOf}
 use Rattle.recording_state.specs.State.{accepting, refusing, settledOf}
 use Rattle.recording_state.specs.Accept.{blockOf, filemarkOf, closeOf}
 use Rattle.recording_state.specs.Due.{decisionOf}
@@ -50,7 +50,7 @@ use Rattle.archive.proofs.EndNamed.{end-named}
 
 -- ---- the opening
 
-pub first-opened : openBlankOf geometry depth blocks ≡ accepting (fresh depth 0 firstOpening)
+pub first-opened : openBlankOf geometry depth blocks 0 ≡ accepting (fresh (setupOf depth 1 0) firstOpening)
 unfolding openBlankOf openWith
 first-opened = refl
 
@@ -100,67 +100,67 @@ eodOnTape = reply.confirmedOf eodTaken 1
 
 -- ---- the calls, by what happens
 
-block-located : Step (writing firstOpening blockAccepted ReadPosition) (Locate (asAddress 10)) good (writing firstOpening located (Locate (asAddress 10)))
+block-located : Step (writing 0 firstOpening blockAccepted ReadPosition) (Locate (asAddress 10)) good (writing 0 firstOpening located (Locate (asAddress 10)))
 unfolding decisionOf dueOf replyOf replyBy settledOf meaningIn
 block-located = record { free = refl; sized = refl; decided = refl; replied = refl }
 
 abbrev repeating : State
-repeating = repeatedOf (awaits (writing firstOpening located (Locate (asAddress 10))) (Write (asAddress 10)))
+repeating = repeatedOf (awaits (writing 0 firstOpening located (Locate (asAddress 10))) (Write (asAddress 10)))
 
-write-busy : Step (writing firstOpening located (Locate (asAddress 10))) (Write (asAddress 10)) busy repeating
+write-busy : Step (writing 0 firstOpening located (Locate (asAddress 10))) (Write (asAddress 10)) busy repeating
 unfolding decisionOf dueOf replyOf replyBy meaningIn
 write-busy = record { free = refl; sized = refl; decided = refl; replied = refl }
 
-write-repeated : Step repeating (Write (asAddress 10)) good (writing firstOpening blockTaken (Write (asAddress 10)))
+write-repeated : Step repeating (Write (asAddress 10)) good (writing 0 firstOpening blockTaken (Write (asAddress 10)))
 unfolding decisionOf replyOf replyBy settledOf meaningIn
 write-repeated = record { free = refl; sized = refl; decided = refl; replied = refl }
 
-write-failed : Step (writing firstOpening blockTaken (Write (asAddress 10))) ReadPosition firstError (writing firstOpening blockFailed ReadPosition)
+write-failed : Step (writing 0 firstOpening blockTaken (Write (asAddress 10))) ReadPosition firstError (writing 0 firstOpening blockFailed ReadPosition)
 unfolding decisionOf dueOf replyOf replyBy reply.failedOf reply.confirmedOf trailOf settledOf meaningIn
 write-failed = record { free = refl; sized = refl; decided = refl; replied = refl }
 
-block-relocated : Step (writing firstOpening blockFailed ReadPosition) (Locate (asAddress 44)) good (writing firstOpening relocated (Locate (asAddress 44)))
+block-relocated : Step (writing 0 firstOpening blockFailed ReadPosition) (Locate (asAddress 44)) good (writing 0 firstOpening relocated (Locate (asAddress 44)))
 unfolding decisionOf dueOf replyOf replyBy reply.confirmedOf settledOf meaningIn
 block-relocated = record { free = refl; sized = refl; decided = refl; replied = refl }
 
-block-retaken : Step (writing firstOpening relocated (Locate (asAddress 44))) (Write (asAddress 44)) good (writing firstOpening blockRetaken (Write (asAddress 44)))
+block-retaken : Step (writing 0 firstOpening relocated (Locate (asAddress 44))) (Write (asAddress 44)) good (writing 0 firstOpening blockRetaken (Write (asAddress 44)))
 unfolding decisionOf dueOf replyOf replyBy reply.confirmedOf settledOf meaningIn
 block-retaken = record { free = refl; sized = refl; decided = refl; replied = refl }
 
-block-confirmed : Step (writing firstOpening blockRetaken (Write (asAddress 44))) ReadPosition good (writing firstOpening blockOnTape ReadPosition)
+block-confirmed : Step (writing 0 firstOpening blockRetaken (Write (asAddress 44))) ReadPosition good (writing 0 firstOpening blockOnTape ReadPosition)
 unfolding decisionOf dueOf replyOf replyBy reply.countedOf reply.confirmedOf settledOf meaningIn
 block-confirmed = record { free = refl; sized = refl; decided = refl; replied = refl }
 
 -- the window is full until the block is on tape
-filemark-early : filemarkOf (writing firstOpening blockAccepted ReadPosition) ≡ refusing (writing firstOpening blockAccepted ReadPosition) 6
+filemark-early : filemarkOf (writing 0 firstOpening blockAccepted ReadPosition) ≡ refusing (writing 0 firstOpening blockAccepted ReadPosition) 6
 unfolding filemarkOf
 filemark-early = refl
 
-filemark-in-time : filemarkOf (writing firstOpening blockOnTape ReadPosition) ≡ accepting (writing firstOpening filemarkAccepted ReadPosition)
+filemark-in-time : filemarkOf (writing 0 firstOpening blockOnTape ReadPosition) ≡ accepting (writing 0 firstOpening filemarkAccepted ReadPosition)
 unfolding filemarkOf reply.confirmedOf
 filemark-in-time = refl
 
-filemark-taken : Step (writing firstOpening filemarkAccepted ReadPosition) (Write (asAddress 45)) good (writing firstOpening filemarkTaken (Write (asAddress 45)))
+filemark-taken : Step (writing 0 firstOpening filemarkAccepted ReadPosition) (Write (asAddress 45)) good (writing 0 firstOpening filemarkTaken (Write (asAddress 45)))
 unfolding decisionOf dueOf replyOf replyBy reply.confirmedOf settledOf meaningIn
 filemark-taken = record { free = refl; sized = refl; decided = refl; replied = refl }
 
-filemark-confirmed : Step (writing firstOpening filemarkTaken (Write (asAddress 45))) ReadPosition good (writing firstOpening filemarkOnTape ReadPosition)
+filemark-confirmed : Step (writing 0 firstOpening filemarkTaken (Write (asAddress 45))) ReadPosition good (writing 0 firstOpening filemarkOnTape ReadPosition)
 unfolding decisionOf dueOf replyOf replyBy reply.countedOf reply.confirmedOf settledOf meaningIn
 filemark-confirmed = record { free = refl; sized = refl; decided = refl; replied = refl }
 
-close-called : closeOf (writing firstOpening filemarkOnTape ReadPosition) ≡ accepting (ending firstOpening eodDue ReadPosition)
+close-called : closeOf (writing 0 firstOpening filemarkOnTape ReadPosition) ≡ accepting (ending 0 firstOpening eodDue ReadPosition)
 unfolding closeOf settledOf reply.confirmedOf
 close-called = refl
 
-close-called-twice : closeOf (ending firstOpening eodDue ReadPosition) ≡ refusing (ending firstOpening eodDue ReadPosition) 7
+close-called-twice : closeOf (ending 0 firstOpening eodDue ReadPosition) ≡ refusing (ending 0 firstOpening eodDue ReadPosition) 7
 unfolding closeOf
 close-called-twice = refl
 
-eod-taken : Step (ending firstOpening eodDue ReadPosition) (Write (asAddress 46)) good (ending firstOpening eodTaken (Write (asAddress 46)))
+eod-taken : Step (ending 0 firstOpening eodDue ReadPosition) (Write (asAddress 46)) good (ending 0 firstOpening eodTaken (Write (asAddress 46)))
 unfolding decisionOf dueOf replyOf replyBy reply.confirmedOf settledOf meaningIn
 eod-taken = record { free = refl; sized = refl; decided = refl; replied = refl }
 
-eod-confirmed : Step (ending firstOpening eodTaken (Write (asAddress 46))) ReadPosition good (closing firstClosing eodOnTape)
+eod-confirmed : Step (ending 0 firstOpening eodTaken (Write (asAddress 46))) ReadPosition good (closing 0 firstClosing eodOnTape)
 unfolding decisionOf dueOf replyOf replyBy reply.countedOf reply.confirmedOf settledOf meaningIn
 eod-confirmed = record { free = refl; sized = refl; decided = refl; replied = refl }
 
@@ -191,34 +191,34 @@ firstLeft b = headersWritten firstClosing (firstWritten b)
 
 -- the close has reported done
 abbrev pub firstEnd : List ℕ → World
-firstEnd b = reported (windowWith b) (firstElements b) (finished firstClosing eodOnTape) (firstLeft b)
+firstEnd b = reported (windowWith b) (firstElements b) (finished 0 firstClosing eodOnTape) (firstLeft b)
 
 -- ---- the list
 
 module _ (b : List ℕ) (full : length b ≡ 32768) where
-  block-stored : blockOf (writing firstOpening noneAccepted ReadPosition) b window ≡ record { result = accepting (writing firstOpening blockAccepted ReadPosition); window = windowWith b }
+  block-stored : blockOf (writing 0 firstOpening noneAccepted ReadPosition) b window ≡ record { result = accepting (writing 0 firstOpening blockAccepted ReadPosition); window = windowWith b }
   unfolding blockOf
   block-stored = rw (eq-eqb (length b) 32768 full, eq-eqb (length window) 32768 window-long)
 
-  stored-long : length (windowWith b) ≡ 32768
+  pub stored-long : length (windowWith b) ≡ 32768
   stored-long = put-length window b 0 (omega (arith, window-long)) full ∙ window-long
 
-  block-frame : writtenFrame (writing firstOpening relocated (Locate (asAddress 44))) (windowWith b) ≡ elementFrame firstBlock b
+  block-frame : writtenFrame (writing 0 firstOpening relocated (Locate (asAddress 44))) (windowWith b) ≡ elementFrame firstBlock b
   unfolding writtenFrame writtenElement elementOf reply.confirmedOf trailOf
   block-frame = ap (elementFrame firstBlock) (put-same-block window b 0 (omega (arith, window-long)) full)
 
-  filemark-frame : writtenFrame (writing firstOpening filemarkAccepted ReadPosition) (windowWith b) ≡ elementFrame firstFilemark blank
+  filemark-frame : writtenFrame (writing 0 firstOpening filemarkAccepted ReadPosition) (windowWith b) ≡ elementFrame firstFilemark blank
   unfolding writtenFrame writtenElement elementOf elementFrame reply.confirmedOf trailOf
   filemark-frame = refl
 
-  eod-frame : writtenFrame (ending firstOpening eodDue ReadPosition) (windowWith b) ≡ elementFrame firstEod blank
+  eod-frame : writtenFrame (ending 0 firstOpening eodDue ReadPosition) (windowWith b) ≡ elementFrame firstEod blank
   unfolding writtenFrame writtenElement elementOf elementFrame reply.confirmedOf trailOf
   eod-frame = refl
 
   module _ (t : Tape) (past : List ℕ) {cs : List Call} {u : World} where
     block-written : (place : ℕ)
-        → Runs (between (windowWith b) (block b ∷ []) (writing firstOpening blockOnTape ReadPosition) (buffered (afterBlock b t) 45 (44 ∷ 10 ∷ past) [])) cs u
-        → Runs (between window [] (writing firstOpening noneAccepted ReadPosition) (buffered t place past []))
+        → Runs (between (windowWith b) (block b ∷ []) (writing 0 firstOpening blockOnTape ReadPosition) (buffered (afterBlock b t) 45 (44 ∷ 10 ∷ past) [])) cs u
+        → Runs (between window [] (writing 0 firstOpening noneAccepted ReadPosition) (buffered t place past []))
         (accept-block b window ∷ accept-filemark
         ∷ fetch (windowWith b) frame ∷ reply good
         ∷ fetch (windowWith b) frame ∷ reply busy
@@ -229,38 +229,38 @@ module _ (b : List ℕ) (full : length b ≡ 32768) where
     block-written place rest =
         let start : Drive = buffered t place past [] in
         let w : List ℕ = windowWith b in
-        block-accepted window [] (writing firstOpening noneAccepted ReadPosition) start b w block-stored
-        (filemark-refused w (block b ∷ []) (writing firstOpening blockAccepted ReadPosition) start filemark-early
-        (exchange w (block b ∷ []) (writing firstOpening blockAccepted ReadPosition) start stored-long block-located (locates (asAddress 10) good refl)
-        (exchange w (block b ∷ []) (writing firstOpening located (Locate (asAddress 10))) (buffered t 10 past []) stored-long write-busy (waits (Write (asAddress 10)) busy refl)
+        block-accepted window [] (writing 0 firstOpening noneAccepted ReadPosition) start b w block-stored
+        (filemark-refused w (block b ∷ []) (writing 0 firstOpening blockAccepted ReadPosition) start filemark-early
+        (exchange w (block b ∷ []) (writing 0 firstOpening blockAccepted ReadPosition) start stored-long block-located (locates (asAddress 10) good refl)
+        (exchange w (block b ∷ []) (writing 0 firstOpening located (Locate (asAddress 10))) (buffered t 10 past []) stored-long write-busy (waits (Write (asAddress 10)) busy refl)
         (element-failed w stored-long (block b ∷ []) t past 10 34 44 write-repeated write-failed block-relocated
         (element-written w stored-long (block b ∷ []) (afterFailure t) (10 ∷ past) 44 (elementFrame firstBlock b) block-frame block-retaken block-confirmed rest)))))
 
     filemark-written :
-        Runs (between (windowWith b) (firstElements b) (writing firstOpening filemarkOnTape ReadPosition) (buffered (afterFilemark b t) 46 (45 ∷ past) [])) cs u
-        → Runs (between (windowWith b) (block b ∷ []) (writing firstOpening blockOnTape ReadPosition) (buffered (afterBlock b t) 45 past [])) (accept-filemark ∷ exchanges (windowWith b) 2 cs) u
+        Runs (between (windowWith b) (firstElements b) (writing 0 firstOpening filemarkOnTape ReadPosition) (buffered (afterFilemark b t) 46 (45 ∷ past) [])) cs u
+        → Runs (between (windowWith b) (block b ∷ []) (writing 0 firstOpening blockOnTape ReadPosition) (buffered (afterBlock b t) 45 past [])) (accept-filemark ∷ exchanges (windowWith b) 2 cs) u
     filemark-written rest =
-        filemark-accepted (windowWith b) (block b ∷ []) (writing firstOpening blockOnTape ReadPosition) (buffered (afterBlock b t) 45 past []) filemark-in-time
+        filemark-accepted (windowWith b) (block b ∷ []) (writing 0 firstOpening blockOnTape ReadPosition) (buffered (afterBlock b t) 45 past []) filemark-in-time
         (element-written (windowWith b) stored-long (firstElements b) (afterBlock b t) past 45 (elementFrame firstFilemark blank) filemark-frame filemark-taken filemark-confirmed rest)
 
     eod-written :
-        Runs (between (windowWith b) (firstElements b) (closing firstClosing eodOnTape) (buffered (afterEod b t) 47 (46 ∷ past) [])) cs u
-        → Runs (between (windowWith b) (firstElements b) (writing firstOpening filemarkOnTape ReadPosition) (buffered (afterFilemark b t) 46 past [])) (close ∷ close ∷ exchanges (windowWith b) 2 cs) u
+        Runs (between (windowWith b) (firstElements b) (closing 0 firstClosing eodOnTape) (buffered (afterEod b t) 47 (46 ∷ past) [])) cs u
+        → Runs (between (windowWith b) (firstElements b) (writing 0 firstOpening filemarkOnTape ReadPosition) (buffered (afterFilemark b t) 46 past [])) (close ∷ close ∷ exchanges (windowWith b) 2 cs) u
     eod-written rest =
         let d : Drive = buffered (afterFilemark b t) 46 past [] in
-        close-accepted (windowWith b) (firstElements b) (writing firstOpening filemarkOnTape ReadPosition) d close-called
-        (close-refused (windowWith b) (firstElements b) (ending firstOpening eodDue ReadPosition) d close-called-twice
+        close-accepted (windowWith b) (firstElements b) (writing 0 firstOpening filemarkOnTape ReadPosition) d refl close-called
+        (close-refused (windowWith b) (firstElements b) (ending 0 firstOpening eodDue ReadPosition) d close-called-twice
         (element-written (windowWith b) stored-long (firstElements b) (afterFilemark b t) past 46 (elementFrame firstEod blank) eod-frame eod-taken eod-confirmed rest))
 
-  pub first-runs : Runs (started (fresh depth 0 firstOpening) window stopped) (firstCalls b) (firstEnd b)
+  pub first-runs : Runs (started (fresh (setupOf depth 1 0) firstOpening) window stopped) (firstCalls b) (firstEnd b)
   first-runs =
       let t : Tape = firstOpened .tape in
       let past : List ℕ = firstOpened .written in
-      opening-written window window-long firstOpening stopped
+      opening-written 0 window window-long firstOpening stopped
       (block-written t past (firstOpened .at)
       (filemark-written t (44 ∷ 10 ∷ past)
       (eod-written t (45 ∷ 44 ∷ 10 ∷ past)
-      (closing-written (windowWith b) stored-long (firstElements b) eodOnTape firstClosing (firstWritten b)))))
+      (closing-written 0 (windowWith b) stored-long (firstElements b) eodOnTape firstClosing (firstWritten b)))))
 
 -- ---- the premises
 
@@ -286,7 +286,7 @@ module _ (b : List ℕ) (full : length b ≡ 32768) where
   pub first-promised : Promised geometry 11999 tape on-none (firstEnd b)
   unfolding Demand3
   first-promised =
-      demand-3 geometry 11999 depth blocks stopped on-none (fresh depth 0 firstOpening) window (firstCalls b) (firstEnd b) (lit< tt) (lit< tt) refl first-cartridge refl (conduct.stopped refl) first-opened (first-runs b full)
+      demand-3 geometry 11999 depth blocks stopped on-none (fresh (setupOf depth 1 0) firstOpening) window (firstCalls b) (firstEnd b) (lit< tt) (lit< tt) refl first-cartridge refl (conduct.stopped refl) first-opened (first-runs b full)
 
   pub first-readable : Readable geometry 11999 (firstLeft b .tape) (firstElements b)
   first-readable = first-promised .readable first-on-none first-bears-none refl refl
@@ -302,5 +302,5 @@ first-newest b = headers-newest firstClosing (firstWritten b) 11999 first-valid
 pub first-ends : (b : List ℕ) → length b ≡ 32768 → EndsAt (headerOf (headerFrame firstClosing)) 2 (firstLeft b .tape)
 unfolding EndNamed
 first-ends b full =
-    end-named geometry 11999 depth blocks stopped on-none (fresh depth 0 firstOpening) window (firstCalls b) (firstEnd b) (lit< tt) (lit< tt) refl first-cartridge refl (conduct.stopped refl) first-opened (first-runs b full)
+    end-named geometry 11999 depth blocks 0 stopped on-none (fresh (setupOf depth 1 0) firstOpening) window (firstCalls b) (firstEnd b) (lit< tt) (lit< tt) refl first-cartridge refl (conduct.stopped refl) first-opened (first-runs b full)
     .newest first-on-none refl (headerFrame firstClosing) (first-newest b)

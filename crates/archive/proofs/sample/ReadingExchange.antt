@@ -1,15 +1,18 @@
 -- The calls of a sample reading: one exchange of each kind, and its opening. Assumes nothing.
-use Prim.Native.Nat.{ℕ, _+_, _^_, _<_, _≤_}
+use Prim.Native.Nat.{ℕ, zero, suc, _+_, _%_, _^_, _<_, _≤_}
 use mathlib.Core.Path.{_≡_, refl, ap, sym, subst, _∙_}
 use mathlib.Core.Bool.{Bool, true, false}
-use mathlib.Core.List.{List, [], _∷_, _++_}
+use mathlib.Core.List.{List, [], _∷_, _++_, append-nil}
 use mathlib.Core.Logic.{_⊎_, inl, inr}
 use mathlib.Core.Option.{Option, none, some}
+use native.Mathlib.Nat.{le-refl, mod-eq-of-lt}
 use native.Mathlib.Omega.{arith}
-use borrow.Author.Tests.{eq-eqb}
+use borrow.Author.Tests.{eq-eqb, ne-eqb, le-ltb}
 use lib.Dec.{eqb, ltb}
 use lib.ListN.{length}
-use Rattle.geometry.specs.Place.{asAddress}
+use Rattle.geometry.specs.Place.{asAddress, address}
+use Rattle.geometry.specs.Cartridge.{lastOf}
+use Rattle.geometry.specs.declared.cartridge.Geometry.{Geometry}
 use Rattle.frame.specs.Header.{headerFrame}
 use Rattle.frame.specs.declared.header.Header.{Header}
 use Rattle.frame.proofs.Frames.{header-length}
@@ -36,7 +39,7 @@ use Rattle.reading_state.specs.declared.state.State.{State as Reading}
 use Rattle.archive.specs.Recordings.{Element}
 use Rattle.archive.specs.Readings.{Flight, sent, answered, World, Call, fetching, replying, LentWith, withSession, fetchNumber, replyNumber, delivered, refusedAfter, repliesAfter, afterFetching, afterTaking, Calls, refuses, fetches, replies, serves, Runs, stop, call, drive, endAfter}
 use Rattle.archive.specs.Readings as readings
-use Rattle.archive.specs.Sample.{geometry, frame, good, recovered, unreadable, endOfData}
+use Rattle.archive.specs.Sample.{geometry, frame, good, recovered, unreadable, endOfData, unreadables}
 use Rattle.archive.proofs.sample.Exchange.{framed}
 
 -- ---- one call, or one exchange
@@ -213,6 +216,21 @@ module _ (t : Tape) (told : Told) (trail : Trail) (deliveries : List Element) (n
         exchange t deliveries n (before told trail c a false expected false) (record { fetched = read-fetched told trail c a expected low user; replied = blank-replied told trail c a expected low; taken = refl; ends = refl })
         (blanks (asAddress a) endOfData a refl nothing) (inl refl) rest
 
+-- k addresses at which nothing reads, one after another
+module _ (t : Tape) (told : Told) (trail : Trail) (deliveries : List Element) (expected end replies : ℕ) (low : end ≤ 2990) (large : 2990 ≤ told .last .0) {cs : List Call} {u : World}
+    (rest : (c : Command) → Runs t (between end deliveries replies (before told trail c end false expected false)) cs u) where
+  pub addresses-missed : (k a n : ℕ) (c : Command) → a + k ≡ end → n + k ≡ replies → ((b : ℕ) → a ≤ b → b < end → t b ≡ none)
+      → Runs t (between a deliveries n (before told trail c a false expected false)) (unreadables k cs) u
+  unfolding unreadables
+  addresses-missed zero a n c there counted nothing = let e : a ≡ end = omega arith in let m : n ≡ replies = omega arith in rw (e, m) (rest c)
+  addresses-missed (suc k) a n c there counted nothing =
+      let missed : Reading → List Element → Type 0 = λ s got. Runs t (between (a + 1) got (n + 1) s) (unreadables k cs) u in
+      let advanced : ℕ → Reading = λ next. before told trail (Read (asAddress a)) next false expected false in
+      unreadable-skipped t told trail deliveries n c a expected (le-ltb (told .last .0) a (omega arith)) (ne-eqb a 2990 (λ e. omega arith)) (nothing a (le-refl a) (omega arith))
+      (subst (missed (advanced ((a + 1) % 2 ^ 32))) (sym (append-nil deliveries))
+      (subst (λ (next : ℕ). missed (advanced next) deliveries) (sym (mod-eq-of-lt (omega arith)))
+      (addresses-missed k (a + 1) (n + 1) (Read (asAddress a)) (omega arith) (omega arith) (λ b high. nothing b (omega arith)))))
+
 -- the end, said again at each fetch
 module _ (t : Tape) (place : ℕ) (deliveries : List Element) (n : ℕ) (told : Told) (trail : Trail) (c : Command) (next expected : ℕ) where
   abbrev ended : Reading
@@ -230,9 +248,18 @@ module _ (t : Tape) (place : ℕ) (deliveries : List Element) (n : ℕ) (told : 
 
 -- ---- the opening
 
+-- what the header of a closed recording of pass 1 tells
+abbrev pub toldOn : ℕ → ℕ → ℕ → Told
+toldOn last eod update = record { last = asAddress last; pass = 1; eod = asAddress eod; old = asAddress 0; update = update }
+
+pub reading-opened-on : (g : Geometry) (last : ℕ) → lastOf g ≡ address last → (h : Header)
+    → h .last .0 < 2 ^ 32 → h .pass < 2 ^ 16 → h .eod .0 < 2 ^ 32 → h .old .0 < 2 ^ 32 → h .update < 2 ^ 32 → validHeader (asAddress last) (headerFrame h) ≡ true
+    → openOf g (headerFrame h) ≡ record { session = fresh (toldOf h); number = 0 }
+unfolding openOf
+reading-opened-on g last size h small-last pass eod old update valid =
+    ap openFor (valid-taken g (headerFrame h) size (header-length h) valid)
+    ∙ ap (λ (x : Header). record { session = fresh (toldOf x); number = 0 }) (built-fields h small-last pass eod old update)
+
 pub reading-opened : (h : Header) → h .last .0 < 2 ^ 32 → h .pass < 2 ^ 16 → h .eod .0 < 2 ^ 32 → h .old .0 < 2 ^ 32 → h .update < 2 ^ 32 → validHeader (asAddress 11999) (headerFrame h) ≡ true
     → openOf geometry (headerFrame h) ≡ record { session = fresh (toldOf h); number = 0 }
-unfolding openOf
-reading-opened h last pass eod old update valid =
-    ap openFor (valid-taken geometry (headerFrame h) refl (header-length h) valid)
-    ∙ ap (λ (x : Header). record { session = fresh (toldOf x); number = 0 }) (built-fields h last pass eod old update)
+reading-opened = reading-opened-on geometry 11999 refl

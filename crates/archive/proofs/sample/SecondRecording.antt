@@ -29,7 +29,7 @@ use Rattle.elements.specs.Due.{dueOf}
 use Rattle.elements.specs.Reply as reply
 use Rattle.elements.specs.declared.elements.Elements.{Elements}
 use Rattle.carried_headers.specs.Carried.{isExhausted, renewed}
-use Rattle.recording_state.specs.Open.{fresh, openWith, openFor, openOf}
+use Rattle.recording_state.specs.Open.{setupOf, fresh, openWith, openFor, openOf}
 use Rattle.recording_state.specs.State.{accepting, settledOf}
 use Rattle.recording_state.specs.Due.{decisionOf}
 use Rattle.recording_state.specs.Written.{writtenFrame, writtenElement, elementOf}
@@ -44,25 +44,25 @@ use Rattle.archive.proofs.sample.Headers.{writing, ending, closing, fin
 use Rattle.archive.proofs.tape.WrittenFrames.{block-fits}
 use Rattle.archive.proofs.sample.Tapes.{frame-cartridge, frame-bears-none, same-cartridge, same-bears-none, headers-newest, headers-cartridge, headers-bear-none}
 use Rattle.archive.proofs.sample.Elements.{element-written, element-failed}
-use Rattle.archive.proofs.sample.Filemark.{located, onTape, eodDue, filemark-begun, filemark-written, close-called, eod-taken}
+use Rattle.archive.proofs.sample.Filemark.{reaches, located, onTape, eodDue, filemark-begun, filemark-written, close-called, eod-taken}
 use Rattle.archive.proofs.sample.FirstRecording.{window-long, afterFailure, afterBlock, afterFilemark, firstOpened, firstWritten, firstLeft, first-cartridge, older-bears, first-valid, first-newest}
 use Rattle.archive.proofs.Demand.{demand-3}
 
 -- ---- the opening
 
-pub second-opened : openOf geometry depth blocks (headerFrame firstClosing) ≡ accepting (fresh depth 0 secondOpening)
+pub second-opened : openOf geometry depth blocks 0 (headerFrame firstClosing) ≡ accepting (fresh (setupOf depth 1 0) secondOpening)
 unfolding openOf openWith
 second-opened =
-    ap (λ (c : CheckedSaid). openFor c depth blocks) (valid-taken geometry (headerFrame firstClosing) refl (header-length firstClosing) first-valid)
-    ∙ ap (λ (h : Header). openWith depth blocks (isExhausted h) (renewed h)) (built-fields firstClosing (lit< tt) (lit< tt) (lit< tt) (lit< tt) (lit< tt))
+    ap (λ (c : CheckedSaid). openFor c depth blocks 0) (valid-taken geometry (headerFrame firstClosing) refl (header-length firstClosing) first-valid)
+    ∙ ap (λ (h : Header). openWith depth blocks 0 (isExhausted h) (renewed h)) (built-fields firstClosing (lit< tt) (lit< tt) (lit< tt) (lit< tt) (lit< tt))
 
 -- ---- EOD fails at 11, behind the filemark at 10, and is due again at 45
 
 abbrev marks : List Bool
-marks = located 10 0 noTrail .marks
+marks = located 11999 10 0 noTrail .marks
 
 abbrev eodTaken : Elements
-eodTaken = reply.takenOf (eodDue 10 0 10 noTrail marks)
+eodTaken = reply.takenOf (eodDue 11999 10 0 10 noTrail marks)
 
 abbrev eodFailed : Elements
 eodFailed = reply.relocatedOf (reply.confirmedOf eodTaken 0) (asAddress 45)
@@ -76,19 +76,19 @@ eodRetaken = reply.takenOf relocated
 abbrev eodOnTape : Elements
 eodOnTape = reply.confirmedOf eodRetaken 1
 
-eod-failed : Step (ending secondOpening eodTaken (Write (asAddress 11))) ReadPosition secondError (ending secondOpening eodFailed ReadPosition)
+eod-failed : Step (ending 0 secondOpening eodTaken (Write (asAddress 11))) ReadPosition secondError (ending 0 secondOpening eodFailed ReadPosition)
 unfolding decisionOf dueOf replyOf replyBy reply.failedOf reply.confirmedOf trailOf settledOf meaningIn
 eod-failed = record { free = refl; sized = refl; decided = refl; replied = refl }
 
-eod-relocated : Step (ending secondOpening eodFailed ReadPosition) (Locate (asAddress 45)) good (ending secondOpening relocated (Locate (asAddress 45)))
+eod-relocated : Step (ending 0 secondOpening eodFailed ReadPosition) (Locate (asAddress 45)) good (ending 0 secondOpening relocated (Locate (asAddress 45)))
 unfolding decisionOf dueOf replyOf replyBy reply.confirmedOf settledOf meaningIn
 eod-relocated = record { free = refl; sized = refl; decided = refl; replied = refl }
 
-eod-retaken : Step (ending secondOpening relocated (Locate (asAddress 45))) (Write (asAddress 45)) good (ending secondOpening eodRetaken (Write (asAddress 45)))
+eod-retaken : Step (ending 0 secondOpening relocated (Locate (asAddress 45))) (Write (asAddress 45)) good (ending 0 secondOpening eodRetaken (Write (asAddress 45)))
 unfolding decisionOf dueOf replyOf replyBy reply.confirmedOf settledOf meaningIn
 eod-retaken = record { free = refl; sized = refl; decided = refl; replied = refl }
 
-eod-confirmed : Step (ending secondOpening eodRetaken (Write (asAddress 45))) ReadPosition good (closing secondClosing eodOnTape)
+eod-confirmed : Step (ending 0 secondOpening eodRetaken (Write (asAddress 45))) ReadPosition good (closing 0 secondClosing eodOnTape)
 unfolding decisionOf dueOf replyOf replyBy reply.countedOf reply.confirmedOf settledOf meaningIn
 eod-confirmed = record { free = refl; sized = refl; decided = refl; replied = refl }
 
@@ -119,29 +119,29 @@ secondLeft b = headersWritten secondClosing (secondWritten b)
 
 -- the close has reported done
 abbrev pub secondEnd : List ℕ → World
-secondEnd b = reported window secondElements (finished secondClosing eodOnTape) (secondLeft b)
+secondEnd b = reported window secondElements (finished 0 secondClosing eodOnTape) (secondLeft b)
 
 -- ---- the list
 
-filemark-frame : writtenFrame (writing secondOpening (located 10 0 noTrail) (Locate (asAddress 10))) window ≡ elementFrame secondFilemark blank
+filemark-frame : writtenFrame (writing 0 secondOpening (located 11999 10 0 noTrail) (Locate (asAddress 10))) window ≡ elementFrame secondFilemark blank
 unfolding writtenFrame writtenElement elementOf elementFrame trailOf
 filemark-frame = refl
 
-eod-frame : writtenFrame (ending secondOpening relocated (Locate (asAddress 45))) window ≡ elementFrame secondEod blank
+eod-frame : writtenFrame (ending 0 secondOpening relocated (Locate (asAddress 45))) window ≡ elementFrame secondEod blank
 unfolding writtenFrame writtenElement elementOf elementFrame reply.confirmedOf trailOf
 eod-frame = refl
 
-pub second-runs : (b : List ℕ) → Runs (started (fresh depth 0 secondOpening) window (secondStart b)) secondCalls (secondEnd b)
+pub second-runs : (b : List ℕ) → Runs (started (fresh (setupOf depth 1 0) secondOpening) window (secondStart b)) secondCalls (secondEnd b)
 second-runs b =
     let t : Tape = secondOpened b .tape in
     let past : List ℕ = secondOpened b .written in
-    opening-written window window-long secondOpening (secondStart b)
-    (filemark-begun 10 0 noTrail secondOpening t (secondOpened b .at) past
-    (filemark-written 10 0 10 noTrail marks secondOpening (lit< tt) secondElements t past (elementFrame secondFilemark blank) (Locate (asAddress 10)) filemark-frame
-    (close-accepted window secondElements (writing secondOpening (onTape 10 0 10 noTrail marks) ReadPosition) (buffered (afterMark t) 11 (10 ∷ past) []) (close-called 10 0 10 noTrail marks secondOpening)
-    (element-failed window window-long secondElements (afterMark t) (10 ∷ past) 11 34 45 (eod-taken 10 0 10 noTrail marks secondOpening (lit< tt)) eod-failed eod-relocated
+    opening-written 0 window window-long secondOpening (secondStart b)
+    (filemark-begun 11999 10 0 noTrail reaches secondOpening (lit< tt) t (secondOpened b .at) past
+    (filemark-written 11999 10 0 10 noTrail marks secondOpening reaches (lit< tt) secondElements t past (elementFrame secondFilemark blank) (Locate (asAddress 10)) filemark-frame
+    (close-accepted window secondElements (writing 0 secondOpening (onTape 11999 10 0 10 noTrail marks) ReadPosition) (buffered (afterMark t) 11 (10 ∷ past) []) refl (close-called 11999 10 0 10 noTrail marks secondOpening)
+    (element-failed window window-long secondElements (afterMark t) (10 ∷ past) 11 34 45 (eod-taken 11999 10 0 10 noTrail marks secondOpening reaches (lit< tt)) eod-failed eod-relocated
     (element-written window window-long secondElements (afterError t) (11 ∷ 10 ∷ past) 45 (elementFrame secondEod blank) eod-frame eod-retaken eod-confirmed
-    (closing-written window window-long secondElements eodOnTape secondClosing (secondWritten b)))))))
+    (closing-written 0 window window-long secondElements eodOnTape secondClosing (secondWritten b)))))))
 
 -- ---- the premises: the cartridge as the first left it, and first-newest
 
@@ -171,7 +171,7 @@ module _ (b : List ℕ) (full : length b ≡ 32768) where
   pub second-promised : Promised geometry 11999 (firstLeft b .tape) (on-header (headerFrame firstClosing)) (secondEnd b)
   unfolding Demand3
   second-promised =
-      demand-3 geometry 11999 depth blocks (secondStart b) (on-header (headerFrame firstClosing)) (fresh depth 0 secondOpening) window secondCalls (secondEnd b) (lit< tt) (lit< tt) refl (second-cartridge b full) refl (conduct.empty refl) second-opened (second-runs b)
+      demand-3 geometry 11999 depth blocks (secondStart b) (on-header (headerFrame firstClosing)) (fresh (setupOf depth 1 0) secondOpening) window secondCalls (secondEnd b) (lit< tt) (lit< tt) refl (second-cartridge b full) refl (conduct.empty refl) second-opened (second-runs b)
 
   pub second-readable : Readable geometry 11999 (secondLeft b .tape) secondElements
   second-readable = second-promised .readable (first-newest b) (second-bears-none b full) refl refl

@@ -17,44 +17,43 @@ use Rattle.drive.specs.declared.command.Command.the-variants.{Locate, ReadPosit
 use Rattle.elements.specs.Trail.{trailOf}
 use Rattle.elements.specs.Reply as reply
 use Rattle.elements.specs.declared.elements.Elements.{Elements}
-use Rattle.recording_state.specs.Open.{startedAt}
+use Rattle.recording_state.specs.Open.{startedAt, setupOf}
 use Rattle.recording_state.specs.State.{accepting}
 use Rattle.recording_state.specs.Written.{writtenFrame, writtenElement, elementOf}
 use Rattle.recording_state.specs.declared.state.State.{State}
 use Rattle.reading_state.specs.Open as reading
 use Rattle.adding_opening.specs.AtEnd.{openAtEndOf}
 use Rattle.archive.specs.Headers.{Newest}
-use Rattle.archive.specs.Recordings.{World, Runs, started}
+use Rattle.archive.specs.Recordings.{Notes, World, Runs, started}
 use Rattle.archive.specs.Demand.{Readable}
 use Rattle.archive.specs.Chain as chain
-use Rattle.archive.specs.Chain.{Chain, Chains}
+use Rattle.archive.specs.Chain.{Chain, acceptedIn, NoneGiven}
 use Rattle.archive.specs.Sample.{geometry, depth, blocks, window, firstElements, addedElements, addedClosing, addedReading, thirdOpening, thirdElements, thirdFilemark, thirdEod, thirdClosing, thirdCalls}
 use Rattle.archive.proofs.sample.Exchange.{reported}
 use Rattle.archive.proofs.sample.Flush.{buffered}
 use Rattle.archive.proofs.sample.Headers.{writing, ending, finished, headersWritten, opening-written-at, closing-written}
 use Rattle.archive.proofs.sample.Tapes.{headers-newest}
-use Rattle.archive.proofs.sample.Filemark.{located, eodDue, eodOnTape, filemark-begun, filemark-written, eod-written}
-use Rattle.archive.proofs.sample.FirstRecording.{window-long}
-use Rattle.archive.proofs.sample.AddedRecording.{addedLeft, chain-continued, added-chain, added-newest, added-cartridge, added-clear}
+use Rattle.archive.proofs.sample.Filemark.{reaches, located, eodDue, eodOnTape, filemark-begun, filemark-written, eod-written}
+use Rattle.archive.proofs.sample.FirstRecording.{window-long, firstEnd}
+use Rattle.archive.proofs.sample.AddedRecording.{addedLeft, addedEnd, chain-continued, chain-readable, added-chain, added-newest, added-cartridge, added-clear}
 use Rattle.archive.proofs.sample.AddedReading.{addedTrail, addedRead, added-reading-opened, added-read}
-use Rattle.archive.proofs.Chain.{chains}
 
 -- ---- the opening
 
 abbrev pub thirdState : State
-thirdState = startedAt depth 0 thirdOpening (asAddress 81) (record { 0 = 3 }) addedTrail
+thirdState = startedAt (setupOf depth 1 0) thirdOpening (asAddress 81) (record { 0 = 3 }) addedTrail
 
-pub third-opened : (b : List ℕ) → openAtEndOf (addedRead b .session) depth blocks ≡ accepting thirdState
+pub third-opened : (b : List ℕ) → openAtEndOf (addedRead b .session) depth blocks 0 ≡ accepting thirdState
 unfolding openAtEndOf
 third-opened b = refl
 
 -- ---- the elements: the filemark at 81, EOD behind it
 
 abbrev pub marks : List Bool
-marks = located 81 3 addedTrail .marks
+marks = located 11999 81 3 addedTrail .marks
 
 abbrev eodWritten : Elements
-eodWritten = eodOnTape 81 3 81 addedTrail marks
+eodWritten = eodOnTape 11999 81 3 81 addedTrail marks
 
 -- ---- the tape, by what was written
 
@@ -79,15 +78,15 @@ thirdLeft b = headersWritten thirdClosing (thirdWritten b)
 
 -- the close has reported done
 abbrev pub thirdEnd : List ℕ → World
-thirdEnd b = reported window thirdElements (finished thirdClosing eodWritten) (thirdLeft b)
+thirdEnd b = reported window thirdElements (finished 0 thirdClosing eodWritten) (thirdLeft b)
 
 -- ---- the list
 
-pub filemark-frame : writtenFrame (writing thirdOpening (located 81 3 addedTrail) (Locate (asAddress 81))) window ≡ elementFrame thirdFilemark blank
+pub filemark-frame : writtenFrame (writing 0 thirdOpening (located 11999 81 3 addedTrail) (Locate (asAddress 81))) window ≡ elementFrame thirdFilemark blank
 unfolding writtenFrame writtenElement elementOf elementFrame trailOf
 filemark-frame = refl
 
-eod-frame : writtenFrame (ending thirdOpening (eodDue 81 3 81 addedTrail marks) ReadPosition) window ≡ elementFrame thirdEod blank
+eod-frame : writtenFrame (ending 0 thirdOpening (eodDue 11999 81 3 81 addedTrail marks) ReadPosition) window ≡ elementFrame thirdEod blank
 unfolding writtenFrame writtenElement elementOf elementFrame reply.confirmedOf trailOf
 eod-frame = refl
 
@@ -96,11 +95,11 @@ unfolding reply.confirmedOf
 third-runs b =
     let t : Tape = thirdOpened b .tape in
     let past : List ℕ = thirdOpened b .written in
-    opening-written-at window window-long thirdOpening (asAddress 81) (record { 0 = 3 }) addedTrail (thirdStart b)
-    (filemark-begun 81 3 addedTrail thirdOpening t (thirdOpened b .at) past
-    (filemark-written 81 3 81 addedTrail marks thirdOpening (lit< tt) thirdElements t past (elementFrame thirdFilemark blank) (Locate (asAddress 81)) filemark-frame
-    (eod-written 81 3 81 addedTrail marks thirdOpening (lit< tt) thirdElements (afterMark t) (81 ∷ past) (elementFrame thirdEod blank) eod-frame
-    (closing-written window window-long thirdElements eodWritten thirdClosing (thirdWritten b)))))
+    opening-written-at 0 window window-long thirdOpening (asAddress 81) (record { 0 = 3 }) addedTrail (thirdStart b)
+    (filemark-begun 11999 81 3 addedTrail reaches thirdOpening (lit< tt) t (thirdOpened b .at) past
+    (filemark-written 11999 81 3 81 addedTrail marks thirdOpening reaches (lit< tt) thirdElements t past (elementFrame thirdFilemark blank) (Locate (asAddress 81)) filemark-frame
+    (eod-written 11999 81 3 81 addedTrail marks thirdOpening reaches (lit< tt) thirdElements (afterMark t) (81 ∷ past) (elementFrame thirdEod blank) eod-frame
+    (closing-written 0 window window-long thirdElements eodWritten thirdClosing (thirdWritten b)))))
 
 -- ---- the chain of the three
 
@@ -114,15 +113,22 @@ module _ (b : List ℕ) (full : length b ≡ 32768) where
     runs = added-read b full 0;
   }
 
-  pub third-chain : Chain geometry 11999 chain.afresh (thirdLeft b .tape) (firstElements b ++ addedElements ++ thirdElements)
+  abbrev pub threeNotes : List Notes
+  threeNotes = firstEnd b .notes ∷ addedEnd b .notes ∷ thirdEnd b .notes ∷ []
+
+  pub third-chain : Chain geometry 11999 chain.afresh (thirdLeft b .tape) [] threeNotes
   third-chain =
-      chain-continued (addedLeft b .tape) (firstElements b ++ addedElements) (added-chain b full) (addedLeft b .at) thirdState (headerFrame addedClosing) (addedRead b) added-read-at (third-opened b) (added-newest b) (added-clear b full)
+      chain-continued geometry 11999 (addedLeft b .tape) (firstEnd b .notes ∷ addedEnd b .notes ∷ []) (added-chain b full) (addedLeft b .at) thirdState (headerFrame addedClosing) (addedRead b) added-read-at (third-opened b) (added-newest b) (added-clear b full)
       thirdCalls (thirdEnd b) (third-runs b) refl refl
+
+  pub none-given : NoneGiven threeNotes
+  unfolding NoneGiven
+  none-given = (refl, (refl, (refl, tt)))
 
   -- reading gives the elements of all three
   pub third-readable : Readable geometry 11999 (thirdLeft b .tape) (firstElements b ++ addedElements ++ thirdElements)
-  unfolding Chains
-  third-readable = chains geometry 11999 chain.afresh (thirdLeft b .tape) (firstElements b ++ addedElements ++ thirdElements) (lit< tt) (lit< tt) refl third-chain
+  unfolding acceptedIn
+  third-readable = chain-readable (thirdLeft b .tape) threeNotes third-chain none-given
 
 -- the newest header of the cartridge as left
 pub third-valid : validHeader (asAddress 11999) (headerFrame thirdClosing) ≡ true

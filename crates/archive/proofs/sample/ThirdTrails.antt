@@ -27,7 +27,8 @@ use Rattle.recording_state.specs.declared.state.State.{State}
 use Rattle.archive.specs.Conduct.{Drive, empty}
 use Rattle.archive.specs.Recordings.{Element, World, Call, accept-filemark, fetch, sent, Runs, stop, started}
 use Rattle.archive.specs.Chain as chain
-use Rattle.archive.specs.Trails.{itemAt, latestAmong, NamesLatest, markerNamed, sequenceNumber, FrameOn, StandsAt, InFlight, WritesNameMarkers, Trails, ChainsNameMarkers}
+use Rattle.archive.specs.Chain.{acceptedIn}
+use Rattle.archive.specs.Trails.{itemAt, latestAmong, NamesLatest, markerNamed, sequenceNumber, FrameOn, StandsAt, InFlight, WritesNameMarkers, Trails, TrailsTogether, ChainsNameMarkers}
 use Rattle.archive.specs.Sample.{geometry, depth, blocks, frameElement, noMarker, window, frame, headerExchanges, exchanges, firstElements, firstFilemark, addedElements, addedClosing, thirdOpening, thirdElements, thirdFilemark, thirdClosing}
 use Rattle.archive.proofs.tape.Basics.{reads-itself}
 use Rattle.archive.proofs.tape.Judged.{judged-so}
@@ -35,13 +36,13 @@ use Rattle.archive.proofs.Trails.{writes-name-markers, chains-name-mark
 use Rattle.archive.proofs.sample.Exchange.{world, between, given}
 use Rattle.archive.proofs.sample.Flush.{buffered}
 use Rattle.archive.proofs.sample.Headers.{writing, opening-written-at}
-use Rattle.archive.proofs.sample.Filemark.{located, filemark-begun, filemark-taken}
+use Rattle.archive.proofs.sample.Filemark.{reaches, located, filemark-begun, filemark-taken}
 use Rattle.archive.proofs.sample.FirstRecording.{window-long}
 use Rattle.archive.proofs.sample.FirstReading.{filemark-reads}
 use Rattle.archive.proofs.sample.AddedRecording.{addedLeft, added-cartridge}
 use Rattle.archive.proofs.sample.AddedReading as added
 use Rattle.archive.proofs.sample.AddedReading.{addedTrail, addedRead}
-use Rattle.archive.proofs.sample.ThirdRecording.{thirdState, marks, thirdStart, thirdOpened, third-opened, filemark-frame, added-read-at, third-chain, third-newest}
+use Rattle.archive.proofs.sample.ThirdRecording.{thirdState, marks, thirdStart, thirdOpened, third-opened, filemark-frame, added-read-at, threeNotes, third-chain, none-given, third-newest}
 use Rattle.archive.proofs.sample.ThirdReading.{left, third-reads, end-reads, as-left}
 
 -- ---- the tape
@@ -51,10 +52,11 @@ module _ (b : List ℕ) (full : length b ≡ 32768) where
   all = firstElements b ++ addedElements ++ thirdElements
 
   trails : Trails 11999 1 all (left b)
-  unfolding ChainsNameMarkers
+  unfolding ChainsNameMarkers acceptedIn
   trails =
-      subst (λ (h : Header). Trails 11999 (h .pass) all (left b)) (built-fields thirdClosing (lit< tt) (lit< tt) (lit< tt) (lit< tt) (lit< tt))
-      (chains-name-markers geometry 11999 (left b) all (headerFrame thirdClosing) (lit< tt) (lit< tt) refl (third-chain b full) (third-newest b))
+      let together : TrailsTogether geometry 11999 (left b) [] (threeNotes b full) = chains-name-markers geometry 11999 (left b) [] (threeNotes b full) (lit< tt) (lit< tt) refl (third-chain b full) in
+      subst (λ (xs : List Element). Trails 11999 1 xs (left b)) (together .reads .whole (none-given b full))
+      (subst (λ (h : Header). Trails 11999 (h .pass) (together .reads .elements) (left b)) (built-fields thirdClosing (lit< tt) (lit< tt) (lit< tt) (lit< tt) (lit< tt)) (together .trails (headerFrame thirdClosing) (third-newest b)))
 
   -- the frame of an element of pass 1, and its number and name
   module _ (kind : Kind) (number filemarks marker : ℕ) (fits : elementFits kind 33280 (length blank) ≡ true) (small : number < 2 ^ 32) (low : marker < 2 ^ 32) where
@@ -96,7 +98,7 @@ module _ (b : List ℕ) (full : length b ≡ 32768) where
   -- ---- a WRITE in flight
 
   abbrev placed : State
-  placed = writing thirdOpening (located 81 3 addedTrail) (Locate (asAddress 81))
+  placed = writing 0 thirdOpening (located 11999 81 3 addedTrail) (Locate (asAddress 81))
 
   abbrev begun : Drive
   begun = buffered (thirdOpened b .tape) 81 (thirdOpened b .written) []
@@ -110,13 +112,13 @@ module _ (b : List ℕ) (full : length b ≡ 32768) where
 
   third-asks : Runs (started thirdState window (thirdStart b)) toWrite (asked (elementFrame thirdFilemark blank))
   third-asks =
-      opening-written-at window window-long thirdOpening (asAddress 81) (record { 0 = 3 }) addedTrail (thirdStart b)
-      (filemark-begun 81 3 addedTrail thirdOpening (thirdOpened b .tape) (thirdOpened b .at) (thirdOpened b .written)
+      opening-written-at 0 window window-long thirdOpening (asAddress 81) (record { 0 = 3 }) addedTrail (thirdStart b)
+      (filemark-begun 11999 81 3 addedTrail reaches thirdOpening (lit< tt) (thirdOpened b .tape) (thirdOpened b .at) (thirdOpened b .written)
       (subst (λ (f : List ℕ). Runs (between window thirdElements placed begun) (fetch window frame ∷ []) (asked f)) filemark-frame
-      (given window thirdElements placed begun window-long (filemark-taken 81 3 81 addedTrail marks thirdOpening (lit< tt) (Locate (asAddress 81))) stop)))
+      (given window thirdElements placed begun window-long (filemark-taken 11999 81 3 81 addedTrail marks thirdOpening reaches (lit< tt) (Locate (asAddress 81))) stop)))
 
   abbrev begins : chain.Start geometry 11999 thirdState
-  begins = chain.added depth blocks (addedLeft b .tape) (headerFrame addedClosing) (addedRead b) (added-read-at b full) (third-opened b)
+  begins = chain.added depth blocks 0 (addedLeft b .tape) (headerFrame addedClosing) (addedRead b) (added-read-at b full) (third-opened b)
 
   in-flight : InFlight 11999 (chain.passOf begins) 3 all begun (chain.AsItStands begins (thirdStart b .tape)) 81 (elementFrame thirdFilemark blank)
   unfolding WritesNameMarkers

@@ -1,11 +1,12 @@
 -- Small facts that several proofs use. Assumes nothing.
 use Prim.Native.Nat.{ℕ, _≤_}
-use mathlib.Core.Path.{_≡_, refl}
+use mathlib.Core.Path.{_≡_, refl, ap, _∙_}
 use mathlib.Core.List.{List, [], _∷_}
 use mathlib.Core.Logic.{inl, inr}
 use mathlib.Core.Option.{Option, none, some}
 use native.Mathlib.Omega.{arith}
-use lib.ListN.{length}
+use lib.ListN.{length, take}
+use lib.Seq.{take-length}
 use Rattle.geometry.proofs.Impossible.{never}
 use Rattle.frame.specs.Sent.{ReadsAs}
 use Rattle.drive.specs.declared.command.Command.{Command}
@@ -45,3 +46,11 @@ answered-sent e = never (cc)
 
 pub answered-same : {a b : Reply} → _≡_ {A = Flight} (recordings.answered a) (recordings.answered b) → a ≡ b
 answered-same e = cc
+
+-- ---- what is promised
+
+-- all that was accepted, where nothing is given up
+pub promised-all : (n : recordings.Notes) → n .givenUp ≡ 0 → recordings.promised n ≡ n .accepted
+promised-all n ungiven =
+    let all : recordings.keptOf n ≡ length (n .accepted) = omega (arith, ungiven) in
+    ap (λ (i : ℕ). take i (n .accepted)) all ∙ take-length (n .accepted)

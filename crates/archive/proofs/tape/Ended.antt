@@ -1,23 +1,31 @@
 -- Where a fold has ended, the tape reads as an EOD that ends reading. Assumes nothing.
-use Prim.Native.Nat.{ℕ, zero, suc, _≤_}
-use mathlib.Core.Path.{_≡_, refl, ap, subst, _∙_}
-use mathlib.Core.Bool.{true}
+use Prim.Native.Nat.{ℕ, zero, suc, _+_, _-_, _≤_, _<_}
+use mathlib.Core.Path.{_≡_, refl, sym, ap, subst, _∙_}
+use mathlib.Core.Bool.{true, false}
 use mathlib.Core.List.{List}
 use mathlib.Core.Option.{Option, none, some}
+use native.Mathlib.Decide.{ℕ-discrete, decLe}
+use native.Mathlib.Omega.{arith}
 use borrow.Author.Tests.{ltb-false}
+use lib.ListN.{length, drop}
 use Rattle.geometry.specs.Cartridge.{isUser}
+use Rattle.buffer.specs.Bytes.{get32}
 use Rattle.geometry.proofs.PickLaws.{pick-by}
 use Rattle.geometry.proofs.Impossible.{never}
-use Rattle.frame.specs.declared.element.Kind.the-variants.{Eod}
+use Rattle.frame.specs.declared.element.Kind.{Kind}
+use Rattle.frame.specs.declared.element.Kind.the-variants.{Data, Marker, Eod}
 use Rattle.frame.specs.declared.trail.Trail.{Trail}
 use Rattle.judgement.specs.Judgement as judgement
-use Rattle.judgement.specs.Judgement.{JudgementSaid, endsFrom, judgeFrame}
+use Rattle.judgement.specs.Judgement.{JudgementSaid, foundSaid, endsFrom, isEarlierEnd, judgeFrame}
 use Rattle.judgement.specs.declared.told.Told.{Told}
-use Rattle.judgement.proofs.Facts.{FoundAs}
-use Rattle.judgement.proofs.JudgeView.{JudgeView, judge-view, found-known}
+use Rattle.judgement.proofs.Facts.{Typed, FoundAs}
+use Rattle.judgement.proofs.JudgeLaws.{above-so, found-so}
+use Rattle.judgement.proofs.JudgeView.{JudgeView, judge-view, end-known}
 use Rattle.archive.specs.Tape.{Tape}
 use Rattle.archive.specs.Recordings.{Element}
-use Rattle.archive.specs.Fold.{Reader, going, finished, stopped, advance, look, foldOf}
+use Rattle.archive.specs.Fold.{Reader, going, finished, stopped, advance, look, foldOf, wholeOf}
+use Rattle.archive.proofs.tape.FoldLaws.{fold-user, fold-final}
+use Rattle.archive.proofs.reading.Facts.{Fits, fold-back}
 
 pub record EndsHere (told : Told) (t : Tape) (got : List Element) (e : ℕ) : Type 0 where
   pub number : ℕ
@@ -54,7 +62,50 @@ module _ (told : Told) (t : Tape) (got : List Element) (e : ℕ) where
       pick-by (λ (x : Reader). x ≡ finished got e → EndsHere told t got e) (isUser (told .last .0) a) (λ u q. looked a (fold-ended a) u (t a) refl (foldOf told t a) refl q) (λ _ q. fold-ended a q)
 
 -- the EOD that ends it, from where EODs end reading on
-pub ends-known : {told : Told} {t : Tape} {got : List Element} {e : ℕ} (x : EndsHere told t got e) → FoundAs told (record { 0 = x .number }) Eod (x .frame) × (endsFrom told ≤ e)
+pub ends-known : {told : Told} {t : Tape} {got : List Element} {e : ℕ} (x : EndsHere told t got e) → Typed told Eod (x .frame) × (get32 (drop 32768 (x .frame)) 44 ≤ x .number) × (endsFrom told ≤ e)
 ends-known {told} {e = e} x =
-    let y = found-known Eod (subst (JudgeView told (record { 0 = e }) (record { 0 = x .number }) (x .frame)) (x .judged) (judge-view told (record { 0 = e }) (record { 0 = x .number }) (x .frame))) in
-    (y .0, ltb-false e (endsFrom told) (y .1))
+    let y = end-known (subst (JudgeView told (record { 0 = e }) (record { 0 = x .number }) (x .frame)) (x .judged) (judge-view told (record { 0 = e }) (record { 0 = x .number }) (x .frame))) in
+    (y .0, y .1, ltb-false e (endsFrom told) (y .2))
+
+-- ---- where the fold over the whole tape has ended
+
+module _ (told : Told) (t : Tape) (xs : List Element) (e : ℕ) (ends : wholeOf told t ≡ finished xs e) where
+  fits-at : (a : ℕ) → a ≤ told .last .0 + 1 → Fits xs (foldOf told t a)
+  fits-at a l =
+      let n : told .last .0 + 1 ≡ told .last .0 + 1 - a + a = omega arith in
+      fold-back told t xs a (told .last .0 + 1 - a) (subst (λ (i : ℕ). Fits xs (foldOf told t i)) n (subst (Fits xs) (sym ends) refl))
+
+  -- an element that reads below the end has been delivered
+  module _ (a i : ℕ) (f : List ℕ) (k : Kind) (user : isUser (told .last .0) a ≡ true) (low : a ≤ told .last .0) (below : a < e) (reads : t a ≡ some f) (found : FoundAs told (record { 0 = i }) k f) (element : k ≡ Eod → ⊥) where
+    -- it is no earlier end
+    on-time : (c : Kind) → (c ≡ Eod → ⊥) → isEarlierEnd c told (record { 0 = a }) ≡ false
+    on-time Data _ = refl
+    on-time Marker _ = refl
+    on-time Eod h = absurd (h refl)
+
+    at-it : (n : ℕ) (got : List Element) (trail : Trail) → foldOf told t a ≡ going n got trail → (j : JudgementSaid) → judgeFrame told (record { 0 = a }) (record { 0 = n }) f ≡ j → foldOf told t (a + 1) ≡ advance j f a n got trail
+    unfolding look
+    at-it n got trail q j said = fold-user told t a user ∙ ap (look told a (t a)) q ∙ ap (λ v. look told a v (going n got trail)) reads ∙ ap (λ x. advance x f a n got trail) said
+
+    one-more : (c : Kind) → (c ≡ Eod → ⊥) → (n : ℕ) (got : List Element) (trail : Trail) → Fits xs (advance (foundSaid c) f a n got trail) → n < length xs
+    one-more Data _ n got trail h = omega (arith, h .1)
+    one-more Marker _ n got trail h = omega (arith, h .1)
+    one-more Eod h n got trail _ = absurd (h refl)
+
+    numbered : (r : Reader) → foldOf told t a ≡ r → Fits xs r → i < length xs
+    numbered (going n got trail) q fits = go (ℕ-discrete i n) (decLe i n)
+      where
+        go : Dec (i ≡ n) → Dec (i ≤ n) → i < length xs
+        go (yes same) _ =
+            let said : judgeFrame told (record { 0 = a }) (record { 0 = n }) f ≡ foundSaid k = found-so told (record { 0 = a }) (record { 0 = n }) f k (on-time k element) (subst (λ (m : ℕ). FoundAs told (record { 0 = m }) k f) same found) in
+            let h = one-more k element n got trail (subst (Fits xs) (at-it n got trail q (foundSaid k) said) (fits-at (a + 1) (omega arith))) in
+            omega arith
+        go (no other) (yes less) = omega (arith, fits .1)
+        go (no other) (no more) =
+            let said = above-so told (record { 0 = a }) (record { 0 = n }) f k (found .typed) (omega (arith, found .number)) in
+            absurd (subst (Fits xs) (at-it n got trail q (judgement.refused 10) said) (fits-at (a + 1) (omega arith)))
+    numbered (finished got d) q fits = never (let z = sym (fold-final told t a e {r = finished got d} (omega arith) tt q) ∙ fold-ended told t xs e (told .last .0 + 1) ends .before in cc)
+    numbered (stopped m) q fits = absurd fits
+
+    pub element-delivered : i < length xs
+    element-delivered = numbered (foldOf told t a) refl (fits-at a (omega arith))

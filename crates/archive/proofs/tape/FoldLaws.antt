@@ -3,29 +3,31 @@ use Prim.Native.Nat.{ℕ, zero, suc, _+_, _-_, _≤_, _<_}
 use mathlib.Core.Path.{_≡_, refl, sym, ap, subst, _∙_}
 use mathlib.Core.Bool.{Bool, true, false, true≢false}
 use mathlib.Core.List.{List}
+use mathlib.Core.Logic.{_⊎_, inl, inr}
 use mathlib.Core.Option.{Option, none, some}
 use native.Mathlib.Nat.{le-refl}
 use native.Mathlib.Numerals.{add-one}
 use native.Mathlib.Omega.{arith}
-use borrow.Author.Tests.{eq-eqb, ne-eqb}
-use lib.Dec.{ltb}
+use borrow.Author.Tests.{eq-eqb, ne-eqb, eqb-true, eqb-false}
+use lib.Dec.{eqb}
 use lib.ListN.{length, take, getD}
 use lib.Seq.{take-suc}
 use Rattle.geometry.specs.Pick.{pick}
 use Rattle.geometry.specs.Cartridge.{isUser}
 use Rattle.geometry.proofs.PickLaws.{pick-t, pick-f, pick-by}
+use Rattle.frame.specs.declared.element.Kind.the-variants.{Eod}
 use Rattle.frame.specs.declared.trail.Trail.{Trail}
 use Rattle.judgement.specs.Judgement.{skipped, endsFrom, judgeFrame}
-use Rattle.judgement.proofs.JudgeLaws.{judge-alike}
+use Rattle.judgement.proofs.JudgeLaws.{unnamed, judge-alike}
 use Rattle.judgement.specs.declared.told.Told.{Told}
 use Rattle.archive.specs.Tape.{Tape, SameFrames, put}
 use Rattle.archive.specs.Recordings.{Element, filemark}
 use Rattle.archive.specs.Fold.{Reader, going, finished, stopped, advance, look, foldOf}
-use Rattle.archive.specs.Trails.{Item, element, eod, itemAt}
+use Rattle.archive.specs.Trails.{Item, element, eod, itemAt, kindFor}
 use Rattle.archive.proofs.tape.Basics.{none-some, some-same}
 use Rattle.archive.proofs.tape.Seen.{Has, has}
 use Rattle.archive.proofs.tape.Stands.{Stands}
-use Rattle.archive.proofs.tape.StandsLaws.{item-in, item-past, stands-below, stands-found, eod-passed, element-late, trailBehind, advance-found}
+use Rattle.archive.proofs.tape.StandsLaws.{item-in, stands-below, stands-found, eod-passed, element-late, trailBehind, advance-found}
 
 -- ---- a tape with one address changed
 
@@ -69,14 +71,17 @@ module _ {last pass : ℕ} (told : Told) (a : ℕ) (last-is : told .last .0 ≡ 
       ∙ ap (λ (got : List Element). going (k + 1) got (trailBehind x trail a)) (sym (take-suc xs k filemark inside) ∙ ap (λ (n : ℕ). take n xs) (sym (add-one k))))
 
   -- one that was delivered is passed over
-  pub look-again : (n : ℕ) → k < n → Has xs n r → Has xs n (look told a (some f) r)
-  look-again n h x = look-quiet told a (some f) xs n (λ g e. subst (λ (y : List ℕ). judgeFrame told (record { 0 = a }) (record { 0 = n }) y ≡ skipped) (some-same e) (stands-below told a last-is pass-is s n h)) x
+  pub look-again : a < endsFrom told → (n : ℕ) → k < n → Has xs n r → Has xs n (look told a (some f) r)
+  look-again early n h x = look-quiet told a (some f) xs n (λ g e. subst (λ (y : List ℕ). judgeFrame told (record { 0 = a }) (record { 0 = n }) y ≡ skipped) (some-same e) (stands-below told a last-is pass-is s (unnamed told (record { 0 = a }) early (kindFor (itemAt xs k))) n h)) x
 
-  -- EOD behind the last, where it does not end reading
-  pub look-eod : length xs ≤ k → a < endsFrom told → Has xs k r → Has xs k (look told a (some f) r)
-  look-eod past early x =
-      let s' : Stands last pass eod k f = subst (λ (y : Item). Stands last pass y k f) (item-past xs k past) s in
-      look-quiet told a (some f) xs k (λ g e. subst (λ (y : List ℕ). judgeFrame told (record { 0 = a }) (record { 0 = k }) y ≡ skipped) (some-same e) (eod-passed told a last-is pass-is s' early)) x
+-- EOD with the next number or one below, where it does not end reading
+pub look-eod : {last pass : ℕ} (told : Told) (a : ℕ) → told .last .0 ≡ last → told .pass ≡ pass → (xs : List Element) (k m : ℕ) (f : List ℕ) → Stands last pass eod k f → {r : Reader} → a < endsFrom told → (k ≡ m) ⊎ (k < m) → Has xs m r → Has xs m (look told a (some f) r)
+look-eod told a last-is pass-is xs k m f s early at x =
+    look-quiet told a (some f) xs m (λ g e. subst (λ (y : List ℕ). judgeFrame told (record { 0 = a }) (record { 0 = m }) y ≡ skipped) (some-same e) (passed at)) x
+  where
+    passed : (k ≡ m) ⊎ (k < m) → judgeFrame told (record { 0 = a }) (record { 0 = m }) f ≡ skipped
+    passed (inl same) = subst (λ (n : ℕ). judgeFrame told (record { 0 = a }) (record { 0 = n }) f ≡ skipped) same (eod-passed told a last-is pass-is s early)
+    passed (inr less) = stands-below told a last-is pass-is s (unnamed told (record { 0 = a }) early Eod) m less
 
 -- ---- the fold
 
@@ -167,20 +172,20 @@ module _ (told : Told) (t : Tape) where
       let e : b - a + a ≡ b = omega arith in
       subst (λ (i : ℕ). Has xs m (foldOf told t i)) e (fold-quiet-by xs m a (b - a) (λ c f l u. h c f l (omega arith)) x)
 
--- ---- what is told counts only by LAST, by the pass, and by which EODs end reading
+-- ---- what is told counts only by LAST and by the pass, below where EODs end reading
 
 module _ (one two : Told) (same-last : one .last .0 ≡ two .last .0) (same-pass : one .pass ≡ two .pass) (t : Tape) where
-  look-alike : (a : ℕ) → ltb a (endsFrom one) ≡ ltb a (endsFrom two) → (v : Option (List ℕ)) (r : Reader) → look one a v r ≡ look two a v r
+  look-alike : (a : ℕ) → a < endsFrom one → a < endsFrom two → (v : Option (List ℕ)) (r : Reader) → look one a v r ≡ look two a v r
   unfolding look
-  look-alike a same none r = refl
-  look-alike a same (some f) (going n got trail) = ap (λ j. advance j f a n got trail) (judge-alike one two (record { 0 = a }) (record { 0 = n }) same-last same-pass same f)
-  look-alike a same (some f) (finished got e) = refl
-  look-alike a same (some f) (stopped m) = refl
+  look-alike a early-one early-two none r = refl
+  look-alike a early-one early-two (some f) (going n got trail) = ap (λ j. advance j f a n got trail) (judge-alike one two (record { 0 = a }) (record { 0 = n }) same-last same-pass early-one early-two f)
+  look-alike a early-one early-two (some f) (finished got e) = refl
+  look-alike a early-one early-two (some f) (stopped m) = refl
 
-  pub fold-alike : (b : ℕ) → ((a : ℕ) → a < b → ltb a (endsFrom one) ≡ ltb a (endsFrom two)) → foldOf one t b ≡ foldOf two t b
+  pub fold-alike : (b : ℕ) → ((a : ℕ) → a < b → (a < endsFrom one) × (a < endsFrom two)) → foldOf one t b ≡ foldOf two t b
   unfolding foldOf
   fold-alike zero h = refl
   fold-alike (suc b) h =
       ap (λ (n : ℕ). pick (isUser n b) (look one b (t b) (foldOf one t b)) (foldOf one t b)) same-last
       ∙ ap (λ (r : Reader). pick (isUser (two .last .0) b) (look one b (t b) r) r) (fold-alike b (λ a l. h a (omega arith)))
-      ∙ ap (λ (r : Reader). pick (isUser (two .last .0) b) r (foldOf two t b)) (look-alike b (h b (omega arith)) (t b) (foldOf two t b))
+      ∙ ap (λ (r : Reader). pick (isUser (two .last .0) b) r (foldOf two t b)) (look-alike b (h b (omega arith) .0) (h b (omega arith) .1) (t b) (foldOf two t b))

@@ -52,15 +52,16 @@ unfolding filemarksAmong
 filemarks-few xs zero = le-refl 0
 filemarks-few xs (suc n) = pick-by (λ (m : ℕ). m ≤ suc n) (isFilemark xs n) (λ _. omega (arith, filemarks-few xs n)) (λ _. omega (arith, filemarks-few xs n))
 
-pub filemarks-more : (xs ys : List Element) (n : ℕ) → n ≤ length xs → filemarksAmong (xs ++ ys) n ≡ filemarksAmong xs n
+-- lists that are alike so far have them alike
+pub filemarks-alike : (xs ys : List Element) (n : ℕ) → ((i : ℕ) → i < n → itemAt ys i ≡ itemAt xs i) → filemarksAmong ys n ≡ filemarksAmong xs n
 unfolding filemarksAmong
-filemarks-more xs ys zero h = refl
-filemarks-more xs ys (suc n) h = rw (mark-more xs ys n h, filemarks-more xs ys n (omega arith))
+filemarks-alike xs ys zero h = refl
+filemarks-alike xs ys (suc n) h = rw (h n (omega arith), filemarks-alike xs ys n (λ i l. h i (omega arith)))
 
-pub latest-more : (xs ys : List Element) (n : ℕ) → n ≤ length xs → latestAmong (xs ++ ys) n ≡ latestAmong xs n
+pub latest-alike : (xs ys : List Element) (n : ℕ) → ((i : ℕ) → i < n → itemAt ys i ≡ itemAt xs i) → latestAmong ys n ≡ latestAmong xs n
 unfolding latestAmong
-latest-more xs ys zero h = refl
-latest-more xs ys (suc n) h = rw (mark-more xs ys n h, latest-more xs ys n (omega arith))
+latest-alike xs ys zero h = refl
+latest-alike xs ys (suc n) h = rw (h n (omega arith), latest-alike xs ys n (λ i l. h i (omega arith)))
 
 -- one more that is a filemark, and one that is none
 

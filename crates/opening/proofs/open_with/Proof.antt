@@ -2,8 +2,9 @@
 use mathlib.Core.Path.{_∙_, sym, ap}
 use Rattle.geometry.proofs.PickLaws.{pick-t, pick-f}
 use Rattle.recording_state.specs.State.{accepting}
-use Rattle.recording_state.specs.Open.{openWith}
-use Rattle.recording_state.proofs.Sizes.{sizes-fit}
+use Rattle.frame.specs.declared.header.Header.{Header}
+use Rattle.recording_state.specs.Open.{fresh, openWith}
+use Rattle.recording_state.specs.declared.state.Setup.{Setup}
 use Rattle.opening.proofs.open_with.Statement.{statement}
 use Rattle.opening.proofs.open_with.Tie as tie
 
@@ -26,8 +27,8 @@ returns-2 c =
     c .refuse-opening2 .ensures
     ∙ sym (pick-f _ (sym (c .before .before .before .is-misfit .ensures) ∙ c .before .before .if1 .left) ∙ pick-t _ (c .before .if2 .taken))
 
-sub-fresh-session : tie.Need-sub-fresh-session
-sub-fresh-session c = let a = c .before .before .before .args in sizes-fit (a .depth) (a .blocks) (sym (c .before .before .is-misfit .ensures) ∙ c .before .if1 .left) .0
+setup-of-requires : tie.Need-setup-of-requires
+setup-of-requires c κs = tt
 
 fresh-session-requires : tie.Need-fresh-session-requires
 fresh-session-requires c κs = tt
@@ -39,8 +40,8 @@ returns-3 : tie.Need-returns-3
 unfolding openWith
 returns-3 c =
     c .accepted .ensures
-    ∙ ap accepting (c .before .fresh-session .ensures)
-    ∙ sym (pick-f _ (sym (c .before .before .before .before .is-misfit .ensures) ∙ c .before .before .before .if1 .left) ∙ pick-f _ (c .before .before .if2 .left))
+    ∙ ap accepting (c .before .fresh-session .ensures ∙ ap (λ (s : Setup). fresh s (c .before .before .before .before .before .before .args .header)) (c .before .before .setup-of .ensures))
+    ∙ sym (pick-f _ (sym (c .before .before .before .before .before .is-misfit .ensures) ∙ c .before .before .before .before .if1 .left) ∙ pick-f _ (c .before .before .before .if2 .left))
 
 pub open-with-spec : {M : Type 1} → statement M
 open-with-spec =
@@ -51,7 +52,7 @@ open-with-spec =
     returns
     refuse-opening-requires-2
     returns-2
-    sub-fresh-session
+    setup-of-requires
     fresh-session-requires
     accepted-requires
     returns-3)

@@ -5,7 +5,8 @@ use std::sync::Arc;
 use crate::fault::Fault;
 use crate::frame::{fill_frame, fill_header, HeaderFields, Kind, Label};
 use crate::geometry::{
-    Address, Geometry, SequenceNumber, BLOCK_LENGTH, FRAME_LENGTH, HEADER_GROUPS,
+    Address, Geometry, SequenceNumber, BLOCK_LENGTH, FRAME_LENGTH, GAP_END, GAP_FIRST,
+    HEADER_GROUPS,
 };
 use crate::hostility::Hostility;
 use crate::random::Random;
@@ -37,6 +38,45 @@ pub enum Call {
     WrongFetchWindow(i8),
 }
 
+/// What a recording is opened with besides the drive's buffer.
+#[derive(Clone, Copy, Debug, PartialEq, Eq)]
+pub struct Setup {
+    /// The blocks of the window.
+    pub window_blocks: u32,
+    /// The frames kept for EOD.
+    pub tail: u32,
+    /// In a recording that adds: so many addresses from the old end on are for
+    /// elements, if that leaves a tail that can be kept.
+    pub room: Option<u32>,
+}
+
+/// The most frames that can be kept for EOD.
+const LONGEST_TAIL: u32 = 255;
+
+impl Setup {
+    /// A window of so many blocks, and so many frames kept for EOD.
+    #[must_use]
+    pub fn of(window_blocks: u32, tail: u32) -> Setup {
+        Setup {
+            window_blocks,
+            tail,
+            room: None,
+        }
+    }
+
+    /// The same for a recording that goes to this address first.
+    pub(super) fn at(self, old_end: Address, last: Address) -> Setup {
+        let highest = self.room.map(|room| old_end.plus(room).minus(1));
+        let tail = highest.and_then(|highest| last.0.checked_sub(highest.0));
+        Setup {
+            tail: tail
+                .filter(|tail| *tail <= LONGEST_TAIL)
+                .unwrap_or(self.tail),
+            ..self
+        }
+    }
+}
+
 /// One cartridge with all that happens to it.
 #[derive(Clone, Debug, PartialEq, Eq)]
 pub struct Case {
@@ -46,8 +86,10 @@ pub struct Case {
     pub geometry: Geometry,
     /// The frames the drive buffers.
     pub depth: u32,
-    /// The blocks of the window.
-    pub window_blocks: u32,
+    /// What each recording is opened with.
+    pub setup: Setup,
+    /// Whether the host closes a session that is spent.
+    pub gives_up: bool,
     /// Frames of earlier passes and strangers on the cartridge.
     pub stale: u32,
     /// Header copies on the cartridge, some of them damaged.
@@ -93,6 +135,26 @@ const GEOMETRIES: [Geometry; 6] = [
     },
 ];
 
+/// Those with few user frames behind the second header group.
+const SHORT: [Geometry; 3] = [GEOMETRIES[0], GEOMETRIES[3], GEOMETRIES[5]];
+
+/// How much is kept for EOD on such a cartridge: often nothing, little or as
+/// much as can be, or so much that elements end about the second header group.
+pub(super) fn tail(random: &mut Random, geometry: Geometry) -> u32 {
+    let last = geometry.last().unwrap_or(GAP_END);
+    match random.below(8) {
+        0..=2 => 0,
+        3..=4 => random.between(1, 8),
+        5 => random.between(9, LONGEST_TAIL),
+        6 => LONGEST_TAIL,
+        _ => {
+            let about = last.0.saturating_sub(GAP_FIRST.0 + 2);
+            let about = random.between(about, about.saturating_add(4));
+            about.min(LONGEST_TAIL)
+        }
+    }
+}
+
 impl Case {
     /// The case of a seed.
     #[must_use]
@@ -116,7 +178,8 @@ impl Case {
             seed,
             geometry: geometry.unwrap_or(GEOMETRIES[0]),
             depth,
-            window_blocks,
+            setup: Setup::of(window_blocks, 0),
+            gives_up: true,
             stale: if random.chance(600) {
                 random.below(24)
             } else {
@@ -131,6 +194,43 @@ impl Case {
             recordings: (0..turns).map(|_| calls(&mut random)).collect(),
             fault,
         }
+    }
+
+    /// The case of a seed in which something may be kept for EOD; most of its
+    /// recordings come near the end of a short tape.
+    #[must_use]
+    pub fn with_tail(seed: u64, fault: Fault) -> Case {
+        let mut case = Case::of_seed(seed, fault);
+        let mut random = Random::new(seed ^ 0x7A11);
+        if random.chance(800) {
+            let short = random.one_of(&SHORT).copied();
+            case.geometry = short.unwrap_or(case.geometry);
+            case.setup.tail = tail(&mut random, case.geometry);
+            case.come_near_end(&mut random);
+        } else {
+            case.setup.tail = tail(&mut random, case.geometry);
+        }
+        case.gives_up = random.chance(900);
+        case
+    }
+
+    /// Makes the first frames that are written stand about where elements end,
+    /// and END come early now and then.
+    fn come_near_end(&mut self, random: &mut Random) {
+        let last = self.geometry.last().unwrap_or(GAP_END);
+        let highest = last.minus(self.setup.tail);
+        let hostility = &mut self.hostility;
+        hostility.bad_below = Address(random.between(highest.minus(20).0, highest.plus(2).0));
+        let mut pick = |rates: &[u32]| random.one_of(rates).copied().unwrap_or(0);
+        hostility.failure = pick(&[0, 100, 300, 500]);
+        hostility.reads_new = pick(&[0, 500, 1_000]);
+        hostility.skip = pick(&[0, 2, 5, 40]);
+        hostility.early_end = pick(&[0, 20, 50, 100]);
+        // The way there takes many writes, and most of the tape behind is
+        // blank: slow recordings and long readings are rare.
+        hostility.busy = hostility.busy.min(300);
+        hostility.progress = hostility.progress.max(400);
+        hostility.blank = hostility.blank.max(300);
     }
 
     /// The cartridge before the first recording.

@@ -1,6 +1,6 @@
 //! Recordings of one pass, each added at the end of the one before.
 
-use super::case::{calls_of_length, Call, Case};
+use super::case::{calls_of_length, tail, Call, Case, Setup};
 use super::layer::{Layer, Model};
 use super::{
     drive_with, record_plainly, recorded_on, run_to_end, run_with, Before, Host, Opening, Tally,
@@ -21,16 +21,36 @@ pub struct Chain {
     /// The cartridge, the drive and the recordings. The first is one of its
     /// own, and so is each behind one that did not report done.
     pub case: Case,
-    /// The blocks of the window of each.
-    pub windows: Vec<u32>,
+    /// What each is opened with.
+    pub setups: Vec<Setup>,
 }
 
 impl Chain {
     /// The chain of a seed.
     #[must_use]
     pub fn of_seed(seed: u64, fault: Fault) -> Chain {
-        let mut case = Case::of_seed(seed, fault);
-        let mut random = Random::new(seed ^ 0x00C4_A100);
+        Chain::of_case(Case::of_seed(seed, fault))
+    }
+
+    /// The chain of a seed in which something may be kept for EOD: by all
+    /// recordings alike, or not, or so that those that add find little room.
+    #[must_use]
+    pub fn with_tail(seed: u64, fault: Fault) -> Chain {
+        let mut chain = Chain::of_case(Case::with_tail(seed, fault));
+        let mut random = Random::new(seed ^ 0x00C4_7A11);
+        let geometry = chain.case.geometry;
+        for setup in chain.setups.iter_mut().skip(1) {
+            match random.below(4) {
+                0 => {}
+                1 => setup.tail = tail(&mut random, geometry),
+                _ => setup.room = Some(random.below(3)),
+            }
+        }
+        chain
+    }
+
+    fn of_case(mut case: Case) -> Chain {
+        let mut random = Random::new(case.seed ^ 0x00C4_A100);
         let recordings = random.between(2, LONGEST);
         case.recordings = (0..recordings).map(|_| calls(&mut random)).collect();
         // Most chains are long only where the drive keeps to what is listed.
@@ -46,8 +66,10 @@ impl Chain {
             0 => random.between(9, 64),
             _ => random.between(1, 8),
         });
-        let windows = windows.collect();
-        Chain { case, windows }
+        let tail = case.setup.tail;
+        let setups = windows.map(|window_blocks| Setup::of(window_blocks, tail));
+        let setups = setups.collect();
+        Chain { case, setups }
     }
 }
 
@@ -68,7 +90,7 @@ fn calls(random: &mut Random) -> Vec<Call> {
 /// # Errors
 /// What was found wrong.
 pub fn run_chain_on<L: Layer>(chain: &Chain) -> Result<Tally, String> {
-    run_with(&chain.case, Turns::Added(&chain.windows), &Host::<L>::EXACT)
+    run_with(&chain.case, Turns::Added(&chain.setups), &Host::<L>::EXACT)
 }
 
 /// Runs a chain on the model.
@@ -85,7 +107,7 @@ pub fn run_chain(chain: &Chain) -> Result<Tally, String> {
 /// # Errors
 /// What was found wrong.
 pub fn run_chain_demand_only(chain: &Chain) -> Result<Tally, String> {
-    run_with(&chain.case, Turns::Added(&chain.windows), &PLAIN)
+    run_with(&chain.case, Turns::Added(&chain.setups), &PLAIN)
 }
 
 /// Runs a chain as [`run_chain_demand_only`] does, and looks at the frames sent
@@ -98,7 +120,7 @@ pub fn run_chain_demand_and_frames(chain: &Chain) -> Result<Tally, String> {
         record: record_plainly::<true>,
         ..PLAIN
     };
-    run_with(&chain.case, Turns::Added(&chain.windows), &host)
+    run_with(&chain.case, Turns::Added(&chain.setups), &host)
 }
 
 /// Runs a chain as [`run_chain_demand_only`] does, and looks at what stands on
@@ -111,7 +133,7 @@ pub fn run_chain_demand_and_tape(chain: &Chain) -> Result<Tally, String> {
         closely: true,
         ..PLAIN
     };
-    run_with(&chain.case, Turns::Added(&chain.windows), &host)
+    run_with(&chain.case, Turns::Added(&chain.setups), &host)
 }
 
 /// Runs a chain, and then adds to another cartridge of the same geometry than
@@ -122,7 +144,7 @@ pub fn run_chain_demand_and_tape(chain: &Chain) -> Result<Tally, String> {
 /// # Errors
 /// What was found wrong.
 pub fn run_astray_on<L: Layer>(chain: &Chain) -> Result<bool, String> {
-    let (case, turns) = (&chain.case, Turns::Added(&chain.windows));
+    let (case, turns) = (&chain.case, Turns::Added(&chain.setups));
     let ran = run_to_end(case, turns, &Host::<L>::EXACT)?;
     let (Some(end), Some(last)) = (ran.end, case.geometry.last()) else {
         return Ok(false);
@@ -137,7 +159,7 @@ pub fn run_astray_on<L: Layer>(chain: &Chain) -> Result<bool, String> {
         last,
         opening: Opening::AtEnd(end),
         astray: true,
-        window_blocks: case.window_blocks,
+        setup: case.setup,
         calls: case.recordings.first().map_or(&[], Vec::as_slice),
     };
     recorded_on::<L>(&before, drive).map(|_| true)

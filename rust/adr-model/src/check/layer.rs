@@ -22,6 +22,7 @@ pub trait Layer {
         reading: &Self::Reading,
         depth: u32,
         window_blocks: u32,
+        tail: u32,
     ) -> (Self::Recording, Outcome);
 
     /// The newer of two headers.
@@ -38,6 +39,7 @@ pub trait RecordingCalls: Clone + Debug + PartialEq {
         geometry: &Geometry,
         depth: u32,
         window_blocks: u32,
+        tail: u32,
         newest: Option<&[u8]>,
     ) -> (Self, Outcome);
 
@@ -93,8 +95,13 @@ impl Layer for Model {
     type Recording = Recording;
     type Reading = Reading;
 
-    fn open_at_end(reading: &Reading, depth: u32, window_blocks: u32) -> (Recording, Outcome) {
-        Recording::open_at_end(reading, depth, window_blocks)
+    fn open_at_end(
+        reading: &Reading,
+        depth: u32,
+        window_blocks: u32,
+        tail: u32,
+    ) -> (Recording, Outcome) {
+        Recording::open_at_end(reading, depth, window_blocks, tail)
     }
 
     fn choose<'a>(geometry: &Geometry, first: &'a [u8], second: &'a [u8]) -> Result<&'a [u8], u8> {
@@ -107,9 +114,10 @@ impl RecordingCalls for Recording {
         geometry: &Geometry,
         depth: u32,
         window_blocks: u32,
+        tail: u32,
         newest: Option<&[u8]>,
     ) -> (Self, Outcome) {
-        Recording::open(geometry, depth, window_blocks, newest)
+        Recording::open(geometry, depth, window_blocks, tail, newest)
     }
 
     fn plant(&mut self, fault: Fault) {

@@ -35,12 +35,14 @@ fn run_seeds<L: Layer>(time: Duration, first: u64) -> Result<String, String> {
     let mut tally = Tally::default();
     let mut cartridges = 0_u32;
     while start.elapsed() < time {
-        let seed = first.wrapping_add(cartridges.into());
-        let case = Case::of_seed(seed, Fault::None);
-        tally.add(&run_and_shrink_on::<L>(&case)?);
-        let chain = Chain::of_seed(seed, Fault::None);
-        tally.add(&run_and_shrink_chain_on::<L>(&chain)?);
-        cartridges = cartridges.saturating_add(1);
+        let seed = first.wrapping_add((cartridges / 2).into());
+        for case in [Case::of_seed, Case::with_tail] {
+            tally.add(&run_and_shrink_on::<L>(&case(seed, Fault::None))?);
+        }
+        for chain in [Chain::of_seed, Chain::with_tail] {
+            tally.add(&run_and_shrink_chain_on::<L>(&chain(seed, Fault::None))?);
+        }
+        cartridges = cartridges.saturating_add(2);
     }
     let rate = f64::from(cartridges) / start.elapsed().as_secs_f64();
     Ok(format!(

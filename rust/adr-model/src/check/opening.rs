@@ -49,6 +49,14 @@ impl<R> Opening<R> {
         }
     }
 
+    /// Where the recording before this one ended.
+    pub(super) fn old_end(&self) -> Option<Address> {
+        match self {
+            Opening::Fresh(_) => None,
+            Opening::AtEnd(back) => back.end,
+        }
+    }
+
     /// Recordings of the same pass before this one.
     pub(super) fn behind(&self) -> usize {
         match self {
@@ -60,13 +68,14 @@ impl<R> Opening<R> {
 
 /// Opens a session of the layer.
 pub(super) fn open<L: Layer>(before: &Before<L>) -> (L::Recording, Outcome) {
-    let (depth, blocks) = (before.case.depth, before.window_blocks);
+    let (depth, blocks) = (before.case.depth, before.setup.window_blocks);
+    let tail = before.setup.tail;
     match &before.opening {
         Opening::Fresh(newest) => {
             let header = newest.as_ref().map(|(frame, _)| frame.as_slice());
-            L::Recording::open(&before.case.geometry, depth, blocks, header)
+            L::Recording::open(&before.case.geometry, depth, blocks, tail, header)
         }
-        Opening::AtEnd(back) => L::open_at_end(&back.session, depth, blocks),
+        Opening::AtEnd(back) => L::open_at_end(&back.session, depth, blocks, tail),
     }
 }
 
@@ -148,7 +157,7 @@ fn at_end_outcome<R>(back: &ReadBack<R>) -> Outcome {
 
 /// Opens a session at the end of a reading to see how it is answered.
 pub(super) fn is_answered<L: Layer>(back: &ReadBack<L::Reading>) -> Result<(), String> {
-    let (session, outcome) = L::open_at_end(&back.session, 1, 1);
+    let (session, outcome) = L::open_at_end(&back.session, 1, 1, 0);
     let expected = at_end_outcome(back);
     if outcome != expected {
         return Err(format!(

@@ -22,6 +22,25 @@ pub struct Recorded {
     pub accepted: Vec<Element>,
     /// Whether the close reported done.
     pub done: bool,
+    /// The elements on tape, those before too, when the others were given up.
+    pub kept: Option<usize>,
+}
+
+impl Recorded {
+    /// The elements that a close which reports done promises.
+    #[must_use]
+    pub fn promised(&self) -> usize {
+        self.kept.unwrap_or(self.accepted.len())
+    }
+
+    /// Whether a reading that comes to its end may deliver so many of what was
+    /// accepted: all that was promised, and of what was given up at most the
+    /// first.
+    #[must_use]
+    pub fn may_read(&self, delivered: usize) -> bool {
+        let most = self.accepted.len().min(self.promised() + 1);
+        (self.promised()..=most).contains(&delivered)
+    }
 }
 
 struct Host<'a> {
@@ -50,7 +69,7 @@ pub(super) fn record(
 ) -> Result<Recorded, String> {
     let (mut session, outcome) = opening::open(before);
     session.plant(before.case.fault);
-    let blocks = usize::try_from(before.window_blocks).unwrap_or(0);
+    let blocks = usize::try_from(before.setup.window_blocks).unwrap_or(0);
     let mut host = Host {
         drive,
         session,
@@ -60,6 +79,7 @@ pub(super) fn record(
         recorded: Recorded {
             accepted: before.opening.elements().to_vec(),
             done: false,
+            kept: None,
         },
         ended: outcome != Outcome::Accepted,
         followed: frames.then(|| Followed::of(&Opened::of(before))),
@@ -68,12 +88,11 @@ pub(super) fn record(
     for call in before.calls {
         host.call(*call);
     }
-    host.session.close();
-    for _ in 0..CALLS {
-        if host.ended || host.recorded.done {
-            break;
-        }
-        host.call(Call::Exchange);
+    host.close();
+    host.go_on();
+    if host.ended && before.case.gives_up {
+        host.close();
+        host.go_on();
     }
     if let Some(wrong) = host.wrong {
         return Err(wrong);
@@ -87,6 +106,27 @@ pub(super) fn record(
 }
 
 impl Host<'_> {
+    /// Goes on until done or an end.
+    fn go_on(&mut self) {
+        for _ in 0..CALLS {
+            if self.ended || self.recorded.done {
+                break;
+            }
+            self.call(Call::Exchange);
+        }
+    }
+
+    fn close(&mut self) {
+        let spent = self.session.state().filter(|state| state.spent);
+        if self.session.close() != Outcome::Accepted {
+            return;
+        }
+        if let Some(elements) = spent.and_then(|state| state.elements) {
+            self.recorded.kept = usize::try_from(elements.first.0).ok();
+            self.ended = false;
+        }
+    }
+
     fn call(&mut self, call: Call) {
         match call {
             Call::Block(number) => {
@@ -103,9 +143,7 @@ impl Host<'_> {
                 self.reply();
                 self.fetch();
             }
-            Call::Close => {
-                self.session.close();
-            }
+            Call::Close => self.close(),
             // Refused calls are looked at by the other host.
             _ => {}
         }
@@ -136,9 +174,10 @@ impl Host<'_> {
     }
 
     fn look_at_frame(&mut self, address: Address) {
-        let accepted = &self.recorded.accepted;
+        let promised = self.recorded.accepted.get(..self.recorded.promised());
+        let promised = promised.unwrap_or_default();
         let looked = self.followed.as_ref().map_or(Ok(()), |followed| {
-            followed.is_right_with_drive(self.drive, accepted, address, &self.frame)
+            followed.is_right_with_drive(self.drive, promised, address, &self.frame)
         });
         self.wrong = self.wrong.take().or(looked.err());
     }

@@ -5,6 +5,7 @@ use super::content::{block, Element};
 use super::guarded::Guarded;
 use super::layer::{Layer, ReadingCalls};
 use super::opening;
+use super::plain::Recorded;
 use crate::command::{Command, Outcome, ReadAnswer, ReadOutcome};
 use crate::drive::Drive;
 use crate::frame::{data_of, Frame, HeaderFields};
@@ -33,6 +34,10 @@ pub struct ReadBack<R> {
     pub refused: Option<u8>,
     /// The recordings that wrote what was read.
     pub recordings: usize,
+    /// The elements that these promised.
+    pub promised: usize,
+    /// Whether the last of these was given up.
+    pub given_up: bool,
 }
 
 impl<R> ReadBack<R> {
@@ -57,7 +62,8 @@ impl<R> ReadBack<R> {
 }
 
 /// Reads a finished cartridge back on newest headers: every copy, or one. All
-/// that was accepted must be delivered; the last reading is given.
+/// that was promised must be delivered, and beyond it at most the next that was
+/// accepted; the last reading is given.
 ///
 /// # Errors
 /// What was found wrong.
@@ -65,7 +71,7 @@ pub fn read_back<L: Layer>(
     case: &Case,
     last: Address,
     drive: &mut Drive,
-    accepted: &[Element],
+    recorded: &Recorded,
     seed: u64,
     every_copy: bool,
 ) -> Result<ReadBack<L::Reading>, String> {
@@ -79,8 +85,8 @@ pub fn read_back<L: Layer>(
             return Err("the newest header is not closed".into());
         }
         choice_agrees::<L>(case, drive, fields)?;
-        let back = read::<L::Reading>(case, header, drive, accepted, seed)?;
-        if back.end.is_none() || back.elements.len() != accepted.len() {
+        let back = read::<L::Reading>(case, header, drive, &recorded.accepted, seed)?;
+        if back.end.is_none() || !recorded.may_read(back.elements.len()) {
             return Err(back.told());
         }
         read_last = Ok(back);
@@ -117,7 +123,7 @@ fn choice_agrees<L: Layer>(
 /// Reads a cartridge whose recording broke off, if its headers were written;
 /// the deliveries are the first so many of what was accepted, and the end is
 /// missing if EOD was never sent, but for the `closed` elements that an EOD
-/// stood behind at the opening.
+/// stood behind at the opening. An EOD was sent behind all that was promised.
 ///
 /// # Errors
 /// What was found wrong.
@@ -125,7 +131,7 @@ pub fn read_unfinished<L: Layer>(
     case: &Case,
     pass: u16,
     drive: &mut Drive,
-    accepted: &[Element],
+    recorded: &Recorded,
     closed: Option<usize>,
     seed: u64,
 ) -> Result<(), String> {
@@ -134,10 +140,10 @@ pub fn read_unfinished<L: Layer>(
     let Some((header, _)) = newest.filter(|(_, fields)| fields.pass == pass) else {
         return Ok(());
     };
-    let back = read::<L::Reading>(case, &header, drive, accepted, seed)?;
-    let delivered = Some(back.elements.len());
-    let ends = [Some(accepted.len()), closed];
-    if back.refused != Some(12) && (back.end.is_none() || !ends.contains(&delivered)) {
+    let back = read::<L::Reading>(case, &header, drive, &recorded.accepted, seed)?;
+    let delivered = back.elements.len();
+    let ends = recorded.may_read(delivered) || Some(delivered) == closed;
+    if back.refused != Some(12) && (back.end.is_none() || !ends) {
         return Err(back.told());
     }
     opening::is_answered::<L>(&back)
@@ -165,6 +171,8 @@ fn read<S: ReadingCalls>(
         end: None,
         refused: None,
         recordings: 0,
+        promised: 0,
+        given_up: false,
     };
     let back = read_with(back, &mut lent, case, drive, accepted, seed)?;
     lent.is_unaltered()?;

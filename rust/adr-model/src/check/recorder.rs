@@ -2,8 +2,9 @@
 
 use std::collections::{BTreeMap, VecDeque};
 
-use super::case::Call;
+use super::case::{Call, Setup};
 use super::content::{block, Element};
+use super::ending::{Ending, Endings};
 use super::guarded::Guarded;
 use super::layer::RecordingCalls;
 use super::opening::Opened;
@@ -26,6 +27,10 @@ pub struct Recorder<R> {
     pub done: bool,
     /// The refusal of the opening, or the one from 8 to 12 that ended the session.
     pub refused: Option<u8>,
+    /// Elements known on tape, those before too, when the others were given up.
+    pub kept: Option<usize>,
+    /// How it came to its end.
+    pub endings: Endings,
     pub(super) session: R,
     /// What the opening headers must say.
     pub(super) opening: HeaderFields,
@@ -34,7 +39,11 @@ pub struct Recorder<R> {
     /// Where the first element, or EOD, must go, until it is sent.
     pub(super) first: Option<Address>,
     pub(super) end: Address,
+    /// The frames up to END that no element goes to.
+    pub(super) tail: u32,
     pub(super) closed: bool,
+    /// Whether close is accepted after the refusal.
+    pub(super) spent: bool,
     pub(super) window: Guarded,
     /// What the window must hold.
     pub(super) shadow: Vec<u8>,
@@ -68,9 +77,9 @@ pub(super) enum Sent {
 }
 
 impl<R: RecordingCalls> Recorder<R> {
-    /// The host of a session opened with so many blocks of window.
-    pub(super) fn of(drive: Drive, session: R, window_blocks: u32, opened: Opened) -> Recorder<R> {
-        let blocks = usize::try_from(window_blocks).unwrap_or(0);
+    /// The host of a session opened with this.
+    pub(super) fn of(drive: Drive, session: R, setup: Setup, opened: Opened) -> Recorder<R> {
+        let blocks = usize::try_from(setup.window_blocks).unwrap_or(0);
         let refused = match opened.outcome {
             Outcome::Accepted => None,
             Outcome::Refused(number) => Some(number),
@@ -84,11 +93,15 @@ impl<R: RecordingCalls> Recorder<R> {
             accepted: opened.elements,
             done: false,
             refused,
+            kept: None,
+            endings: Endings::default(),
             session,
             opening: opened.header,
             first: Some(opened.first),
             end: opened.header.last,
+            tail: setup.tail,
             closed: false,
+            spent: false,
             shadow: window.to_vec(),
             window,
             frame: Guarded::of(&UNTOUCHED),
@@ -106,27 +119,67 @@ impl<R: RecordingCalls> Recorder<R> {
     }
 
     /// Makes the calls, closes, and goes on until done or a refusal that ends
-    /// the session.
+    /// the session; closes a session that is spent if that is wanted.
     ///
     /// # Errors
     /// What was found wrong.
-    pub fn run(&mut self, calls: &[Call]) -> Result<(), String> {
+    pub fn run(&mut self, calls: &[Call], gives_up: bool) -> Result<(), String> {
         for call in calls {
             self.call(*call)
                 .map_err(|wrong| format!("{call:?}: {wrong}"))?;
         }
-        if !self.closed {
+        if !self.closed && !self.spent {
             self.call(Call::Close)?;
         }
+        self.go_on()?;
+        if self.spent && gives_up {
+            self.call(Call::Close)?;
+            self.go_on()?;
+        }
+        for call in [Call::Filemark, Call::Block(3), Call::Reply, Call::Fetch] {
+            self.call(call)?;
+        }
+        if self.spent {
+            self.endings.note(Ending::LeftSpent);
+        } else {
+            self.call(Call::Close)?;
+        }
+        self.window_is_right()?;
+        self.only_allowed_addresses()
+    }
+
+    fn go_on(&mut self) -> Result<(), String> {
         while !self.done && self.refused.is_none() {
             self.call(Call::Exchange)?;
         }
-        for call in [Call::Filemark, Call::Block(3), Call::Close, Call::Reply] {
-            self.call(call)?;
+        Ok(())
+    }
+
+    /// What a close that reports done promises: so many elements.
+    pub(super) fn promised(&self) -> usize {
+        self.kept.unwrap_or(self.accepted.len())
+    }
+
+    fn close(&mut self) -> Result<(), String> {
+        let before = self.session.clone();
+        let outcome = self.session.close();
+        let phase = !self.spent && (self.closed || self.refused.is_some());
+        if outcome == Outcome::Accepted {
+            if self.spent {
+                let first = self.confirmed == self.followed.elements_before();
+                let added = self.opening.old_end != Address(0);
+                self.endings.note(if first && added {
+                    Ending::GivenUpAtFirst
+                } else {
+                    Ending::GivenUp
+                });
+                self.kept = Some(self.confirmed);
+                self.refused = None;
+                self.spent = false;
+            }
+            self.closed = true;
         }
-        self.call(Call::Fetch)?;
-        self.window_is_right()?;
-        self.only_allowed_addresses()
+        self.look(outcome, if phase { &[7] } else { &[] }, &before)
     }
 
     /// Looks at the whole window. What a fetch altered there stays so until an
@@ -172,13 +225,7 @@ impl<R: RecordingCalls> Recorder<R> {
                 }
                 self.fetch()
             }
-            Call::Close => {
-                let before = self.session.clone();
-                let outcome = self.session.close();
-                let phase = self.closed || self.refused.is_some();
-                self.closed = self.closed || outcome == Outcome::Accepted;
-                self.look(outcome, if phase { &[7] } else { &[] }, &before)
-            }
+            Call::Close => self.close(),
             Call::WrongBlock(off) => {
                 let before = self.session.clone();
                 let block = vec![1; BLOCK_LENGTH.saturating_add_signed(isize::from(off))];

@@ -2,12 +2,13 @@
 //! told the host.
 
 use super::content::{block, Element};
+use super::ending::Ending;
 use super::layer::RecordingCalls;
 use super::recorder::{Recorder, Sent};
 use crate::command::{Answer, Command, Outcome};
 use crate::drive::listed_for;
 use crate::frame::{fill_frame, fill_header, Frame, HeaderFields, Kind, Label};
-use crate::geometry::{Address, SequenceNumber, FRAME_LENGTH};
+use crate::geometry::{Address, SequenceNumber, FRAME_LENGTH, GAP_END, GAP_FIRST};
 use crate::reply::{Meaning, Reply, GOOD};
 
 /// Fetches after which a recording is held to go on for ever.
@@ -47,8 +48,8 @@ impl<R: RecordingCalls> Recorder<R> {
                 self.done = true;
                 Ok(())
             }
-            Answer::Refused(9) if self.taken.is_empty() && self.drive.next() > self.end => {
-                self.refused = Some(9);
+            Answer::Refused(9) if self.no_room_at(self.drive.next()) => {
+                self.end_with(9, Ending::SpentByAddress);
                 Ok(())
             }
             _ => Err(format!("{answer:?} without cause")),
@@ -57,13 +58,52 @@ impl<R: RecordingCalls> Recorder<R> {
 
     /// Whether everything accepted and sent is known on tape.
     fn is_whole(&self) -> bool {
-        self.taken.is_empty() && self.confirmed == self.accepted.len()
+        self.taken.is_empty() && self.confirmed == self.promised()
+    }
+
+    /// Whether 9 is due in place of a WRITE at this address, or of the LOCATE
+    /// of a target.
+    fn no_room_at(&self, address: Address) -> bool {
+        let above = match self.target {
+            Some(target) => target > self.end,
+            None => self
+                .due_first()
+                .is_some_and(|sent| self.is_above(sent, address)),
+        };
+        above && self.taken.is_empty() && self.eod.is_none()
+    }
+
+    /// Whether an address is above those for such a frame.
+    fn is_above(&self, sent: Sent, address: Address) -> bool {
+        let kept = if sent == Sent::Element { self.tail } else { 0 };
+        u64::from(address.0) + u64::from(kept) > u64::from(self.end.0)
+    }
+
+    /// Notes a refusal that ends the session.
+    fn end_with(&mut self, number: u8, how: Ending) {
+        self.refused = Some(number);
+        let element = self.due_first() == Some(Sent::Element);
+        self.spent = number == 9 && self.tail > 0 && element;
+        if self.spent {
+            self.endings.note(how);
+            self.endings.note(if self.closed {
+                Ending::SpentClosed
+            } else {
+                Ending::SpentOpen
+            });
+        } else if number == 9 && self.kept.is_some() {
+            self.endings.note(Ending::NoRoomForEod);
+        }
     }
 
     fn send(&mut self, command: Command) -> Result<(), String> {
-        let due = self.again.take().or(self.target.map(Command::Locate));
+        let again = self.again.take();
+        let due = again.or(self.target.map(Command::Locate));
         if due.is_some_and(|due| due != command) {
             return Err(format!("{command:?} where {due:?} was due"));
+        }
+        if again.is_none() && self.is_out_of_room(command) {
+            return Err(format!("{command:?} where 9 was due"));
         }
         match command {
             Command::Locate(_) if !self.taken.is_empty() => {
@@ -84,11 +124,27 @@ impl<R: RecordingCalls> Recorder<R> {
         Ok(())
     }
 
+    /// Whether 9 is due in place of this command.
+    fn is_out_of_room(&self, command: Command) -> bool {
+        match command {
+            Command::Write(address) if address.is_header_copy() => false,
+            Command::Write(address) => self
+                .due(address)
+                .is_ok_and(|sent| self.is_above(sent, address)),
+            Command::Locate(_) if self.target.is_some() => self.no_room_at(GAP_FIRST),
+            Command::Locate(GAP_END) if self.drive.next() == GAP_FIRST => {
+                self.no_room_at(GAP_FIRST)
+            }
+            _ => false,
+        }
+    }
+
     /// Compares every byte of a frame with what it must be at its address.
     fn look_at_frame(&mut self, address: Address) -> Result<(), String> {
         let frame = whole(&self.frame)?;
+        let promised = self.accepted.get(..self.promised()).unwrap_or_default();
         self.followed
-            .is_right_with_drive(&self.drive, &self.accepted, address, frame)?;
+            .is_right_with_drive(&self.drive, promised, address, frame)?;
         let sent = self.due(address)?;
         let index = self.confirmed + self.taken.len();
         if sent != Sent::Header && self.first.take().is_some_and(|first| first != address) {
@@ -98,7 +154,7 @@ impl<R: RecordingCalls> Recorder<R> {
             let header = self.header();
             fill_header(&mut self.expected, &header);
         } else {
-            let element = self.accepted.get(index).copied();
+            let element = promised.get(index).copied();
             let before = self.accepted.iter().take(index);
             let filemarks = before.filter(|element| **element == Element::Filemark);
             let (kind, data) = match element {
@@ -141,15 +197,21 @@ impl<R: RecordingCalls> Recorder<R> {
 
     /// What a WRITE at this address must send.
     fn due(&self, address: Address) -> Result<Sent, String> {
-        let index = self.confirmed + self.taken.len();
         if address.is_header_copy() {
-            Ok(Sent::Header)
-        } else if index < self.accepted.len() {
-            Ok(Sent::Element)
+            return Ok(Sent::Header);
+        }
+        self.due_first()
+            .ok_or_else(|| "WRITE with nothing due".into())
+    }
+
+    /// What is due first between the headers.
+    fn due_first(&self) -> Option<Sent> {
+        if self.confirmed + self.taken.len() < self.promised() {
+            Some(Sent::Element)
         } else if self.closed && self.is_whole() && self.eod.is_none() {
-            Ok(Sent::Eod)
+            Some(Sent::Eod)
         } else {
-            Err("WRITE with nothing due".into())
+            None
         }
     }
 
@@ -163,7 +225,7 @@ impl<R: RecordingCalls> Recorder<R> {
         let outcome = self.session.reply(&reply);
         let expected = self.take_in(command, &reply)?;
         if let Outcome::Refused(number) = expected {
-            self.refused = Some(number);
+            self.end_with(number, Ending::SpentByTarget);
         }
         if outcome == expected {
             Ok(())
@@ -181,7 +243,13 @@ impl<R: RecordingCalls> Recorder<R> {
         match (reply.sense.meaning(), command) {
             (Meaning::Busy, _) => self.again = Some(command),
             (Meaning::WriteError, _) => return Ok(self.write_error(reply)),
-            (Meaning::EarlyEnd, Command::Write(address)) => self.end = address.minus(1),
+            (Meaning::EarlyEnd, Command::Write(address)) => {
+                let eod = self.due_first() == Some(Sent::Eod);
+                if eod && self.is_above(Sent::Element, address) {
+                    self.endings.note(Ending::EarlyEndInTail);
+                }
+                self.end = address.minus(1);
+            }
             (_, Command::Write(address)) => {
                 let sent = self.due(address)?;
                 self.taken.push_back((sent, address));
@@ -214,6 +282,7 @@ impl<R: RecordingCalls> Recorder<R> {
         while self.taken.front().is_some_and(|(_, at)| *at < failed) {
             self.confirm_oldest();
         }
+        let sent = self.taken.front().map_or(Sent::Element, |(sent, _)| *sent);
         self.taken.clear();
         if failed.is_header_copy() {
             return if failed == Address(2_994) && self.good_headers == 0 {
@@ -224,7 +293,7 @@ impl<R: RecordingCalls> Recorder<R> {
         }
         let target = failed.plus(reply.skip.max(1)).out_of_gap();
         self.target = Some(target);
-        if target > self.end {
+        if self.is_above(sent, target) {
             Outcome::Refused(9)
         } else {
             Outcome::Accepted

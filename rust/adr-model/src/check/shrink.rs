@@ -2,7 +2,7 @@
 
 use std::fmt::Debug;
 
-use super::case::{Call, Case};
+use super::case::{Call, Case, Setup};
 use super::chain::{run_chain_on, Chain};
 use super::layer::{Layer, Model};
 use super::{run_on, Tally};
@@ -46,7 +46,13 @@ impl<L: Layer> Shrinks<L> for Chain {
             case,
             ..self.clone()
         };
-        candidates(&self.case).into_iter().map(with).collect()
+        let mut found: Vec<Chain> = candidates(&self.case).into_iter().map(with).collect();
+        for turn in 0..self.setups.len() {
+            let mut smaller = self.clone();
+            smaller.setups[turn] = Setup::of(self.setups[turn].window_blocks, 0);
+            found.extend(Some(smaller).filter(|smaller| smaller != self));
+        }
+        found
     }
 
     fn seed(&self) -> u64 {
@@ -135,6 +141,11 @@ fn candidates(case: &Case) -> Vec<Case> {
             smaller.recordings[turn] = calls;
             found.push(smaller);
         }
+    }
+    if case.setup.tail > 0 {
+        let mut smaller = case.clone();
+        smaller.setup.tail = 0;
+        found.push(smaller);
     }
     for hostility in milder(&case.hostility) {
         found.push(Case {

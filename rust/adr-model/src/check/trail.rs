@@ -34,8 +34,13 @@ impl Followed {
         }
     }
 
+    /// The elements before the recording.
+    pub(super) fn elements_before(&self) -> usize {
+        self.elements
+    }
+
     /// Looks at a WRITE that is with the drive, `elements` being all that was
-    /// accepted, behind those before the recording. It goes where the drive
+    /// accepted and not given up, behind those before the recording. It goes where the drive
     /// stands. But for a header it is one of these elements that were not
     /// there before, or EOD behind the last; the one before it is with the
     /// drive; it names how many filemarks are before it, and where the drive

@@ -4,7 +4,8 @@
 use adr_model::frame::{fill_header, Frame, HeaderFields};
 use adr_model::geometry::{BLOCK_LENGTH, FRAME_LENGTH};
 use adr_model::reply::GOOD;
-use adr_model::{Address, Answer, Command, Geometry, Outcome, Recording, Reply};
+use adr_model::state::Going;
+use adr_model::{Address, Answer, Command, Geometry, Outcome, Recording, Reply, SequenceNumber};
 
 pub const ACCEPTED: Outcome = Outcome::Accepted;
 
@@ -56,10 +57,15 @@ pub struct Host {
 }
 
 impl Host {
-    /// Opened on no header.
+    /// Opened on no header, with nothing kept for EOD.
     pub fn open(geometry: &Geometry, depth: u32, window_blocks: u32) -> Host {
+        Host::open_with_tail(geometry, depth, window_blocks, 0)
+    }
+
+    /// Opened on no header.
+    pub fn open_with_tail(geometry: &Geometry, depth: u32, window_blocks: u32, tail: u32) -> Host {
         Host::of(
-            Recording::open(geometry, depth, window_blocks, None),
+            Recording::open(geometry, depth, window_blocks, tail, None),
             window_blocks,
         )
     }
@@ -77,10 +83,41 @@ impl Host {
 
     /// Opened, with the headers written and 10 located.
     pub fn at_elements(geometry: &Geometry, depth: u32, window_blocks: u32) -> Host {
-        let mut host = Host::open(geometry, depth, window_blocks);
+        Host::at_elements_with_tail(geometry, depth, window_blocks, 0)
+    }
+
+    /// Opened, with the headers written and 10 located.
+    pub fn at_elements_with_tail(
+        geometry: &Geometry,
+        depth: u32,
+        window_blocks: u32,
+        tail: u32,
+    ) -> Host {
+        let mut host = Host::open_with_tail(geometry, depth, window_blocks, tail);
         host.write_headers();
         host.step(locate(10), good());
         host
+    }
+
+    /// Sends the first element to an address; write errors lead there from 10.
+    #[track_caller]
+    pub fn write_at(&mut self, address: u32) {
+        let mut next = 10;
+        while next < address {
+            // From 2,985 a skip of 15 is needed to get over the gap.
+            let skip = match address - next {
+                rest if rest < 255 => rest,
+                _ if next < 2_985 => (2_985 - next).min(255),
+                _ if next == 2_985 => 15,
+                _ => 255,
+            };
+            self.step(write(next), good());
+            self.step(READ_POSITION, error(next, skip));
+            next += skip;
+            self.step(locate(next), good());
+        }
+        assert_eq!(next, address);
+        self.step(write(address), good());
     }
 
     /// Writes ten good copies with READ POSITION as often as it is wanted.
@@ -121,9 +158,15 @@ impl Host {
     /// Fetches this, and the reply is refused and ends the session.
     #[track_caller]
     pub fn refused_step(&mut self, expected: Answer, reply: Reply, number: u8) {
+        self.refused_by(expected, reply, number);
+        self.is_ended();
+    }
+
+    /// Fetches this, and the reply is refused.
+    #[track_caller]
+    pub fn refused_by(&mut self, expected: Answer, reply: Reply, number: u8) {
         assert_eq!(self.fetch(), expected);
         assert_eq!(self.session.reply(&reply), Outcome::Refused(number));
-        self.is_ended();
     }
 
     #[track_caller]
@@ -147,14 +190,41 @@ impl Host {
     #[track_caller]
     pub fn is_ended(&mut self) {
         let before = self.clone();
+        self.all_but_close_are_refused();
+        assert_eq!(self.session.close(), Outcome::Refused(7));
+        assert_eq!(self.session.state(), None);
+        assert!(before.session == self.session && before.window == self.window);
+    }
+
+    /// Only 7 follows but for close, whatever is lent; so many elements are
+    /// on tape.
+    #[track_caller]
+    pub fn is_spent(&mut self, on_tape: u32) {
+        let before = self.clone();
+        self.all_but_close_are_refused();
+        assert!(before.session == self.session && before.window == self.window);
+        let state = self.session.state().expect("a spent session");
+        assert!(state.spent);
+        let first = state.elements.expect("elements").first;
+        assert_eq!(first, SequenceNumber(on_tape));
+    }
+
+    /// A LOCATE of this is due.
+    #[track_caller]
+    pub fn goes_to(&self, target: u32) {
+        let elements = self.session.state().and_then(|state| state.elements);
+        let going = elements.map(|elements| elements.going);
+        assert_eq!(going, Some(Going::Locate(Address(target))));
+    }
+
+    #[track_caller]
+    fn all_but_close_are_refused(&mut self) {
         assert_eq!(self.fetch(), Answer::Refused(7));
         assert_eq!(self.session.fetch(&[], &mut []), Answer::Refused(7));
         assert_eq!(self.session.reply(&good()), Outcome::Refused(7));
         assert_eq!(self.session.accept_filemark(), Outcome::Refused(7));
-        assert_eq!(self.session.close(), Outcome::Refused(7));
         let outcome = self.session.accept_block(&[], &mut self.window);
         assert_eq!(outcome, Outcome::Refused(7));
-        assert!(before.session == self.session && before.window == self.window);
     }
 
     /// The number at this byte of the AUX of the frame.

@@ -21,7 +21,7 @@ const LARGEST: ffi::Geometry = ffi::Geometry {
 fn recording(window: u32) -> ffi::Recording {
     let buffer = vec![0; window as usize * BLOCK_LENGTH];
     let mut frame = vec![0; FRAME_LENGTH];
-    let mut session = ffi::record_open_blank(LARGEST, 255, window).session;
+    let mut session = ffi::record_open_blank(LARGEST, 255, window, 0).session;
     loop {
         let fetched = ffi::record_fetch(session, &buffer, &mut frame);
         if fetched.answer != ffi::COMMAND {

@@ -5,7 +5,7 @@ use std::hint::black_box;
 use std::ops::ControlFlow;
 
 use adr_tape::{
-    newest_header, read_all, record_all, Address, Drive, Element, Geometry, Reply, Sense,
+    newest_header, read_all, record_all, Address, Drive, Element, Geometry, Reply, Sense, Setup,
     BLOCK_LENGTH, FRAME_LENGTH,
 };
 
@@ -14,6 +14,11 @@ use crate::measure::{median, ratio, time};
 const FRAMES: usize = 3_001;
 const BLOCKS: usize = 2_000;
 const GEOMETRY: Geometry = Geometry::beginning(FRAMES as u32, 1);
+const SETUP: Setup = Setup {
+    depth: 16,
+    blocks: 16,
+    tail: 0,
+};
 
 /// Writes at once. The whole tape is touched before it is measured.
 struct Memory {
@@ -88,7 +93,7 @@ fn copy_from(drive: &mut Memory, block: &mut [u8]) {
 
 fn record(drive: &mut Memory, block: &[u8]) {
     let blocks = (0..BLOCKS).map(|_| Ok::<_, Infallible>(Element::from(block)));
-    let summary = record_all(drive, GEOMETRY, 16, 16, None, blocks, |_| {});
+    let summary = record_all(drive, GEOMETRY, SETUP, None, blocks, |_| {});
     assert!(summary.is_ok_and(|summary| summary.blocks == BLOCKS as u64));
 }
 

@@ -49,9 +49,10 @@ layout!(Exchange, 12, {
     awaiting: 8,
     again: 9,
 });
-layout!(Setup, 2, {
+layout!(Setup, 3, {
     depth: 0,
     highest: 1,
+    tail: 2,
 });
 layout!(Header, 20, {
     last: 0,
@@ -86,9 +87,10 @@ layout!(Elements, 96, {
 });
 layout!(Recording, 144, {
     setup: 0,
-    stage: 2,
-    closed: 3,
-    ended: 4,
+    stage: 3,
+    closed: 4,
+    ended: 5,
+    spent: 6,
     exchange: 8,
     copies: 20,
     elements: 48,

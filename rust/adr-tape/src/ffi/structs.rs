@@ -81,6 +81,8 @@ pub struct Setup {
     pub depth: u8,
     /// Blocks of the window, less one.
     pub highest: u8,
+    /// Addresses up to END that are kept for EOD.
+    pub tail: u8,
 }
 
 /// `struct adr_header`: what the header copies say.
@@ -132,7 +134,8 @@ pub struct Trail {
 #[repr(C)]
 #[derive(Clone, Copy, Debug, PartialEq, Eq)]
 pub struct Elements {
-    /// The number of the oldest not known on tape.
+    /// The number of the oldest not known on tape; once the elements that were
+    /// not are given up, EOD's. All below it are on tape.
     pub first: u32,
     /// Where the next frame goes, unless a LOCATE comes first.
     pub next: u32,
@@ -167,6 +170,9 @@ pub struct Recording {
     pub closed: u8,
     /// 1 once a refusal of 8 or above ended it, or if its opening was refused.
     pub ended: u8,
+    /// 1 if an element found no room before the tail: close is accepted once
+    /// more.
+    pub spent: u8,
     /// The command last given.
     pub exchange: Exchange,
     /// The header copies.

@@ -22,6 +22,16 @@ pub fn any_sense(random: &mut Random) -> Sense {
     }
 }
 
+/// A tail that a recording may be opened with: none, little or much.
+pub fn any_tail(random: &mut Random) -> u32 {
+    match random.below(4) {
+        0 => 0,
+        1 => random.between(1, 20),
+        2 => 255,
+        _ => random.below(256),
+    }
+}
+
 /// A reply that often fits where the session stands.
 fn any_reply(random: &mut Random, session: &ffi::Recording) -> Reply {
     let (next, outstanding) = match session.stage {
@@ -143,8 +153,8 @@ fn number_of(answer: Answer) -> Outcome {
     }
 }
 
-/// Makes so many calls of any kind, with a window of so many blocks. The
-/// refusal that ended the session, 0 for none.
+/// Makes so many calls of any kind, with a window of so many blocks; a session
+/// that is spent is mostly closed. The refusal that ended it, 0 for none.
 pub fn make_any_calls(
     seed: u32,
     random: &mut Random,
@@ -167,7 +177,11 @@ pub fn make_any_calls(
             }
             Outcome::Refused(number) => {
                 assert_eq!(session.accept_filemark(), Outcome::Refused(7));
-                return number;
+                if session.layer.spent == 0 || random.chance(200) {
+                    return number;
+                }
+                assert_eq!(session.close(), Outcome::Accepted);
+                right(session.wrong(), seed);
             }
             Outcome::Accepted => {}
         }

@@ -16,14 +16,19 @@ use super::{right, ComparedReading};
 /// A frame near what the reading expects; so many of a thousand are EOD.
 fn any_frame(random: &mut Random, expected: u32, eods: u32) -> Guarded {
     let kinds = [Kind::Data, Kind::Data, Kind::Data, Kind::Marker];
-    let number = match random.below(20) {
-        0 => expected.wrapping_sub(1),
-        1 if random.chance(100) => expected + 1,
+    let kind = random.one_of(&kinds).copied().unwrap_or(Kind::Data);
+    let kind = if random.chance(eods) { Kind::Eod } else { kind };
+    // A number below may count where EOD has it.
+    let among = if kind == Kind::Eod { 5 } else { 20 };
+    let number = match random.below(among) {
+        0 => expected.saturating_sub(1),
+        1 if kind == Kind::Eod => expected.saturating_sub(2),
+        2 if random.chance(50) => expected + 1,
+        3 if random.chance(50) => u32::MAX,
         _ => expected,
     };
-    let kind = random.one_of(&kinds).copied().unwrap_or(Kind::Data);
     let label = Label {
-        kind: if random.chance(eods) { Kind::Eod } else { kind },
+        kind,
         pass: if random.chance(900) { 7 } else { 6 },
         last: Address(3_000),
         number: SequenceNumber(number),
@@ -32,8 +37,13 @@ fn any_frame(random: &mut Random, expected: u32, eods: u32) -> Guarded {
     };
     let mut frame = Box::new([0; FRAME_LENGTH]);
     fill_frame(&mut frame, &label, Some(block(random.byte().into())));
-    if random.chance(60) {
-        let at = BLOCK_LENGTH + usize::try_from(random.below(210)).unwrap_or(0);
+    // The fields that are looked at come first.
+    let (damaged, bytes) = match label.kind {
+        Kind::Eod => (200, 70),
+        _ => (60, 210),
+    };
+    if random.chance(damaged) {
+        let at = BLOCK_LENGTH + usize::try_from(random.below(bytes)).unwrap_or(0);
         frame[at] ^= 1 << random.below(8);
     }
     let length = if random.chance(20) { 5 } else { FRAME_LENGTH };
@@ -57,7 +67,7 @@ fn any_read_reply(random: &mut Random, session: &ffi::Reading) -> Reply {
 }
 
 /// A call of any kind; the refusal, 0 for none.
-fn any_read_call(random: &mut Random, session: &mut ComparedReading, eods: u32) -> u8 {
+pub fn any_read_call(random: &mut Random, session: &mut ComparedReading, eods: u32) -> u8 {
     if random.chance(550) {
         return match session.fetch() {
             ReadAnswer::Refused(number) => number,

@@ -196,16 +196,17 @@ impl ComparedRecording {
         model: &Reading,
         depth: u32,
         window_blocks: u32,
+        tail: u32,
     ) -> (Self, Outcome) {
-        let model = Recording::open_at_end(model, depth, window_blocks);
-        let layer = ffi::record_open_at_end(layer, depth, window_blocks);
+        let model = Recording::open_at_end(model, depth, window_blocks, tail);
+        let layer = ffi::record_open_at_end(layer, depth, window_blocks, tail);
         ComparedRecording::opened("opening at the end", true, model, layer)
     }
 }
 
 /// What every refused opening of the layer gives.
 fn refused_session() -> ffi::Recording {
-    ffi::record_open_blank(ffi::Geometry::default(), 0, 0).session
+    ffi::record_open_blank(ffi::Geometry::default(), 0, 0, 0).session
 }
 
 impl RecordingCalls for ComparedRecording {
@@ -213,14 +214,18 @@ impl RecordingCalls for ComparedRecording {
         geometry: &Geometry,
         depth: u32,
         window_blocks: u32,
+        tail: u32,
         newest: Option<&[u8]>,
     ) -> (Self, Outcome) {
-        let model = Recording::open(geometry, depth, window_blocks, newest);
+        let model = Recording::open(geometry, depth, window_blocks, tail, newest);
         let geometry = geometry_of(geometry);
         let (opened, right) = match newest {
-            None => (ffi::record_open_blank(geometry, depth, window_blocks), true),
+            None => (
+                ffi::record_open_blank(geometry, depth, window_blocks, tail),
+                true,
+            ),
             Some(header) => lend(header, |lent| {
-                ffi::record_open(geometry, depth, window_blocks, lent)
+                ffi::record_open(geometry, depth, window_blocks, tail, lent)
             }),
         };
         ComparedRecording::opened("opening", right, model, opened)
@@ -372,8 +377,9 @@ impl Layer for Compared {
         reading: &ComparedReading,
         depth: u32,
         window_blocks: u32,
+        tail: u32,
     ) -> (ComparedRecording, Outcome) {
-        ComparedRecording::open_at_end(reading.layer, &reading.model, depth, window_blocks)
+        ComparedRecording::open_at_end(reading.layer, &reading.model, depth, window_blocks, tail)
     }
 
     /// The layer's choice; the checks know which copy is the newest.

@@ -110,11 +110,19 @@ fn elements_state(elements: &ffi::Elements) -> Result<ElementsState, Wrong> {
     })
 }
 
-/// Where a recording of the layer stands; none once it is ended.
+/// Where a recording of the layer stands; none once it is ended, unless it is
+/// spent. What was awaited then means nothing any more.
 pub fn recording_state(session: &ffi::Recording) -> Result<Option<RecordingState>, Wrong> {
-    if flag("ended", session.ended)? {
-        return Ok(None);
-    }
+    let spent = flag("spent", session.spent)?;
+    let exchange = match (flag("ended", session.ended)?, spent) {
+        (false, false) => exchange_state(&session.exchange)?,
+        (true, true) => ExchangeState {
+            awaited: None,
+            again: None,
+        },
+        (true, false) => return Ok(None),
+        (false, true) => return Err("spent and not ended".into()),
+    };
     let stage = stage_of(session.stage)?;
     let (copies, elements) = match stage {
         StageName::OpeningHeaders => (true, true),
@@ -127,9 +135,11 @@ pub fn recording_state(session: &ffi::Recording) -> Result<Option<RecordingState
     Ok(Some(RecordingState {
         depth: session.setup.depth.into(),
         window_blocks: u32::from(session.setup.highest) + 1,
+        tail: session.setup.tail.into(),
         stage,
         closed: flag("closed", session.closed)?,
-        exchange: exchange_state(&session.exchange)?,
+        spent,
+        exchange,
         header: header_fields(&session.copies.header),
         copies,
         elements: elements.transpose()?,

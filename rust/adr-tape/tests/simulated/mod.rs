@@ -8,7 +8,8 @@ use adr_model::check::content::block;
 use adr_model::drive;
 use adr_model::random::Random;
 use adr_tape::{
-    read_all, Address, Drive, Element, Geometry, ReadError, Reply, Sense, Summary, FRAME_LENGTH,
+    newest_header, read_all, Address, Drive, Element, Full, Geometry, ReadError, Reply, Sense,
+    Summary, FRAME_LENGTH,
 };
 
 /// The simulated drive as a host's.
@@ -79,12 +80,45 @@ pub fn read_back<D: Drive>(
 ) -> Result<(Vec<Element<'static>>, Summary), ReadError<D::Error, Infallible>> {
     let mut delivered = Vec::new();
     let take = |element: Element<'_>| {
-        delivered.push(match element {
-            Element::Block(block) => Element::from(block.into_owned()),
-            Element::Filemark => Element::Filemark,
-        });
+        delivered.push(element.into_owned());
         Ok(ControlFlow::Continue(()))
     };
     let summary = read_all(drive, geometry, header, take, |_| {})?;
     Ok((delivered, summary))
+}
+
+/// The newest header of a cartridge that has one.
+#[track_caller]
+pub fn newest<D: Drive<Error = Infallible>>(drive: &mut D, geometry: Geometry) -> Vec<u8> {
+    let header = newest_header(drive, geometry).expect("the headers agree");
+    header.expect("a header")
+}
+
+/// Reads everything on the newest header.
+#[track_caller]
+pub fn read_newest<D: Drive<Error = Infallible>>(
+    drive: &mut D,
+    geometry: Geometry,
+) -> Vec<Element<'static>> {
+    let header = newest(drive, geometry);
+    let (delivered, _) = read_back(drive, geometry, &header).expect("it can be read");
+    delivered
+}
+
+/// Reads a tape that was full: what is on it of these elements comes back, and at
+/// most the one that follows. How many come.
+#[track_caller]
+pub fn read_back_full<D: Drive<Error = Infallible>>(
+    drive: &mut D,
+    geometry: Geometry,
+    elements: &[Element<'static>],
+    full: &Full,
+) -> usize {
+    let on_tape = usize::try_from(full.on_tape).expect("few");
+    let delivered = read_newest(drive, geometry);
+    assert!(elements.starts_with(&delivered));
+    assert!((on_tape..=on_tape + 1).contains(&delivered.len()));
+    // What follows is handed back, as far as it was taken.
+    assert!(elements[on_tape..].starts_with(&full.not_on_tape));
+    delivered.len()
 }

@@ -5,7 +5,7 @@ use std::ops::ControlFlow;
 
 use adr_tape::Element;
 
-use super::{Block, Closing, Description};
+use super::{Block, Closing, Cut, Description};
 use crate::digest::Sha256;
 use crate::failure::Failure;
 
@@ -27,6 +27,8 @@ pub enum Verdict {
     Whole(Closing),
     /// It is not what was recorded, for this reason.
     Broken(&'static str),
+    /// The data on tape end within it.
+    Cut(Cut),
     /// It was not recorded by this tool, and no bytes of it were handed on.
     Foreign,
 }
@@ -51,8 +53,11 @@ enum State {
 }
 
 struct Own {
+    /// What its first block tells of its length.
+    told: Option<u64>,
     digest: Sha256,
     length: u64,
+    blocks: u64,
     /// The latest two blocks: at a filemark they are the last of the data and
     /// the closing.
     held: VecDeque<Block>,
@@ -98,6 +103,28 @@ impl<'t> Jobs<'t> {
         }
     }
 
+    /// Takes in the end of data; whether it cuts off a job of this tool. One that
+    /// lacks nothing but its filemark is none.
+    pub fn end(&mut self) -> Result<bool, Failure> {
+        let State::Own(own) = &mut self.state else {
+            return Ok(false);
+        };
+        let last = own.held.back();
+        if last.is_some_and(|block| Closing::read(block).is_some()) {
+            return Ok(false);
+        }
+        for mut block in std::mem::take(&mut own.held) {
+            let left = own.told.map(|told| told.saturating_sub(own.length));
+            let left = left.and_then(|left| usize::try_from(left).ok());
+            block.truncate(left.unwrap_or(block.len()));
+            own.add(&block);
+            let _ = (self.taker)(self.number, Event::Data(&block))?;
+        }
+        let cut = Cut::behind(own.blocks, own.told);
+        let _ = (self.taker)(self.number, Event::End(&Verdict::Cut(cut)))?;
+        Ok(true)
+    }
+
     fn take_block(&mut self, block: &[u8]) -> Result<ControlFlow<()>, Failure> {
         match &mut self.state {
             State::Between => {
@@ -107,14 +134,17 @@ impl<'t> Jobs<'t> {
                     return Ok(ControlFlow::Continue(()));
                 };
                 self.state = State::Own(Own {
+                    told: description.length,
                     digest: Sha256::new(),
                     length: 0,
+                    blocks: 0,
                     held: VecDeque::new(),
                 });
                 (self.taker)(self.number, Event::Begin(&description))
             }
             State::Own(own) => {
                 own.held.push_back(block.to_vec());
+                own.blocks += 1;
                 if own.held.len() <= 2 {
                     return Ok(ControlFlow::Continue(()));
                 }
@@ -224,7 +254,28 @@ mod tests {
         for element in elements {
             assert!(reading.take(element).is_ok());
         }
+        assert!(reading.end().is_ok());
         jobs
+    }
+
+    /// A job of three blocks of data as ever more of its elements are on tape:
+    /// its bytes are handed on, and it is not whole.
+    #[test]
+    fn cut_off() {
+        let file = vec![7; 2 * BLOCK_LENGTH + 5];
+        let elements = elements(std::slice::from_ref(&file));
+        for there in 1..elements.len() - 1 {
+            let blocks = there - 1;
+            let jobs = read(&elements[..there]);
+            let (number, bytes, verdict) = &jobs[0];
+            assert_eq!((jobs.len(), *number), (1, 1));
+            // The length of a pipe is not known, and so neither is the padding.
+            let mut padded = file.clone();
+            padded.resize(3 * BLOCK_LENGTH, 0);
+            assert!(bytes[..] == padded[..blocks * BLOCK_LENGTH]);
+            let cut = Cut::behind(u64::try_from(blocks).expect("few"), None);
+            assert_eq!(*verdict, Some(Verdict::Cut(cut)));
+        }
     }
 
     #[test]

@@ -12,7 +12,7 @@ use std::time::{SystemTime, UNIX_EPOCH};
 
 use adr_tape::{Element, BLOCK_LENGTH};
 
-use super::{is_plain_name, Closing, Description, LONGEST_NAME, PERMISSIONS};
+use super::{is_plain_name, Closing, Cut, Description, LONGEST_NAME, PERMISSIONS};
 use crate::digest::Sha256;
 use crate::failure::Failure;
 use crate::image::{open_regular, refuse_itself, Access};
@@ -83,6 +83,12 @@ impl Input {
     /// What it is called in messages.
     pub fn shown(&self) -> &Path {
         &self.shown
+    }
+
+    /// Whether a later recording can read it too: what is no regular file gives
+    /// its bytes once.
+    pub fn can_be_read_again(&self) -> bool {
+        matches!(self.bytes, Bytes::File(_))
     }
 
     /// What is known of it before it is read.
@@ -250,9 +256,31 @@ pub struct Elements {
     waiting: VecDeque<Input>,
     current: Option<Job>,
     allow_empty: bool,
-    /// Jobs begun, with those before them.
-    begun: u64,
+    /// The jobs before these.
+    before: u64,
+    /// The jobs begun, in turn.
+    begun: Vec<Begun>,
+    /// Elements sent.
+    sent: u64,
     changed: Vec<String>,
+}
+
+/// A job of which elements were sent.
+struct Begun {
+    /// The elements sent before it, and with it if it came to its end.
+    start: u64,
+    end: Option<u64>,
+    /// Its length, if it is known.
+    length: Option<u64>,
+}
+
+/// How far a recording got on a tape that was full.
+#[derive(Clone, Copy, Debug, PartialEq, Eq)]
+pub struct Reach {
+    /// The jobs that are whole on tape.
+    pub whole: usize,
+    /// The one behind them, if a part of it is.
+    pub cut: Option<Cut>,
 }
 
 impl Elements {
@@ -263,7 +291,9 @@ impl Elements {
             waiting: inputs.into(),
             current: None,
             allow_empty,
-            begun: 0,
+            before: 0,
+            begun: Vec::new(),
+            sent: 0,
             changed: Vec::new(),
         }
     }
@@ -271,7 +301,7 @@ impl Elements {
     /// The same behind so many jobs, which are on the cartridge already.
     pub fn behind(self, jobs: u64) -> Elements {
         Elements {
-            begun: jobs,
+            before: jobs,
             ..self
         }
     }
@@ -281,25 +311,47 @@ impl Elements {
         &self.changed
     }
 
+    /// How far these got if so many of them are on tape.
+    pub fn reach(&self, on_tape: u64) -> Reach {
+        let is_whole = |job: &&Begun| job.end.is_some_and(|end| end <= on_tape);
+        let whole = self.begun.iter().take_while(is_whole).count();
+        let next = self.begun.get(whole).filter(|job| job.start < on_tape);
+        let cut = next.map(|job| {
+            // The first of its elements describes it.
+            let blocks = on_tape.saturating_sub(job.start).saturating_sub(1);
+            Cut::behind(blocks, job.length)
+        });
+        Reach { whole, cut }
+    }
+
     fn current(&mut self) -> Option<Result<Job, Failure>> {
         if let Some(job) = self.current.take() {
             return Some(Ok(job));
         }
         let input = self.waiting.pop_front()?;
-        self.begun += 1;
-        Some(input.open())
+        let opened = input.open();
+        self.begun.push(Begun {
+            start: self.sent,
+            end: None,
+            length: opened.as_ref().ok().and_then(|job| job.description.length),
+        });
+        Some(opened)
     }
 
     fn element_of(&mut self, mut job: Job) -> Result<Element<'static>, Failure> {
         interruption::check()?;
         let element = job.next(self.allow_empty)?;
         if let Some(change) = job.change.take() {
-            let (shown, number) = (job.shown.display(), self.begun);
+            let begun = u64::try_from(self.begun.len()).unwrap_or(u64::MAX);
+            let (shown, number) = (job.shown.display(), self.before.saturating_add(begun));
             self.changed
                 .push(format!("{shown}: {change}, as job {number}"));
         }
+        self.sent += 1;
         if element != Element::Filemark {
             self.current = Some(job);
+        } else if let Some(begun) = self.begun.last_mut() {
+            begun.end = Some(self.sent);
         }
         Ok(element)
     }
@@ -364,6 +416,38 @@ mod tests {
                 .expect("it")),
             ["changed while it was recorded, as job 3"]
         );
+    }
+
+    /// Two jobs of four elements and one, as more and more of them are on tape.
+    #[test]
+    fn reaches() {
+        let input = |length: usize| {
+            let description = Description {
+                name: b"file".to_vec(),
+                time: Timestamp::of_seconds(0),
+                length: u64::try_from(length).ok(),
+                mode: None,
+            };
+            Input::bytes(description, io::Cursor::new(vec![7; length]))
+        };
+        let inputs = vec![input(5), input(40_000), input(1)];
+        let mut elements = Elements::new(inputs, false);
+        assert_eq!(elements.by_ref().take(8).count(), 8);
+        let cut = |blocks, length| Some(Cut::behind(blocks, Some(length)));
+        for (on_tape, whole, cut) in [
+            (0, 0, None),
+            (1, 0, cut(0, 5)),
+            (3, 0, cut(1, 5)),
+            (4, 1, None),
+            (5, 1, cut(0, 40_000)),
+            (7, 1, cut(2, 40_000)),
+            (8, 1, cut(2, 40_000)),
+        ] {
+            assert_eq!(elements.reach(on_tape), Reach { whole, cut }, "{on_tape}");
+        }
+        assert_eq!(elements.by_ref().count(), 5);
+        let reach = elements.reach(13);
+        assert_eq!((reach.whole, reach.cut), (3, None));
     }
 
     #[test]

@@ -1,6 +1,6 @@
 //! Finding out what stands at each address.
 
-use adr_model::frame::{Frame, Kind};
+use adr_model::frame::{aux_of, number_at, Frame, Kind};
 use adr_model::header::fields_of;
 use adr_tape::{
     header_addresses, newer, newest_header, Command, Delivery, Drive, HeaderError, ReadNext,
@@ -12,7 +12,7 @@ use super::spots::{Reading, Spot, Spots};
 use crate::failure::Failure;
 use crate::frame_checksums;
 use crate::image::Image;
-use crate::lone_frame::LoneFrame;
+use crate::lone_frame::{self, LoneFrame};
 
 /// Looks at an image as a reading does, and tests every frame.
 pub fn look_at(image: &mut Image, quiet: bool) -> Result<Spots, Failure> {
@@ -89,18 +89,19 @@ fn mark_elements(
     header: &[u8],
     spots: &mut Spots,
 ) -> Result<Reading, Failure> {
-    let mut frame = vec![0; FRAME_LENGTH];
+    let mut frame: Frame = [0; FRAME_LENGTH];
     let mut reader = match Reader::open(drive.geometry(), header) {
         Ok(reader) => reader,
         Err(refusal) => return Ok(Reading::Stopped(refusal)),
     };
+    let mut delivered = 0;
     loop {
         let (address, reply) = match reader.fetch() {
             Ok(ReadNext::Send(Command::Read(address))) => {
                 (address, drive.read(address, &mut frame)?)
             }
             Ok(ReadNext::Send(Command::Locate(address))) => (address, drive.locate(address)?),
-            Ok(ReadNext::Send(_) | ReadNext::End) => return Ok(Reading::Whole),
+            Ok(ReadNext::Send(_) | ReadNext::End) => return Ok(whole(delivered, &frame)),
             Err(refusal) => return Ok(Reading::Stopped(refusal)),
         };
         let spot = match reader.reply(reply, &frame) {
@@ -110,7 +111,18 @@ fn mark_elements(
             Ok(Delivery::End) => Spot::End,
             Err(refusal) => return Ok(Reading::Stopped(refusal)),
         };
+        delivered += u64::from(spot != Spot::End);
         spots.known.insert(address.0, spot);
+    }
+}
+
+/// How a reading came to its end that delivered so many elements before this
+/// end of data.
+fn whole(delivered: u64, end: &Frame) -> Reading {
+    if delivered > u64::from(number_at(aux_of(end), lone_frame::NUMBER)) {
+        Reading::GivenUp
+    } else {
+        Reading::Whole
     }
 }
 
@@ -134,9 +146,16 @@ fn mark_beyond(image: &mut Image, header: &[u8], spots: &mut Spots) -> Result<()
         let of_recording = |lone: &LoneFrame| lone.pass == fields.pass && lone.last == last;
         // Where something was added, the end before that may still read.
         let earlier_end = |lone: &LoneFrame| lone.kind == Kind::Eod && *address < ends_from.0;
+        // Where a tape was full, an element that was given up may still read.
+        let given_up = |lone: &LoneFrame| {
+            let is_end = lone.kind == Kind::Eod && *address == fields.eod.0;
+            is_end && lone.number.checked_add(1) == Some(next)
+        };
         // An element that was sent again is in force where it came first.
-        let in_force =
-            |lone: &LoneFrame| of_recording(lone) && !earlier_end(lone) && lone.number >= next;
+        let in_force = |lone: &LoneFrame| {
+            let comes_next = lone.number >= next || given_up(lone);
+            of_recording(lone) && !earlier_end(lone) && comes_next
+        };
         let Some(lone) = lone.filter(in_force) else {
             continue;
         };

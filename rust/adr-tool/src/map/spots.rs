@@ -47,6 +47,8 @@ pub const KINDS: [Spot; 9] = [
 pub enum Reading {
     /// At the end of data.
     Whole,
+    /// There, behind an element that was given up when the tape was full.
+    GivenUp,
     /// Before it starts, for nothing was recorded.
     Empty,
     /// Before it starts, for there are frames but no header.

@@ -65,7 +65,7 @@ pub fn heading(spots: &Spots, rows: &Rows) -> String {
 /// What is wrong with the cartridge.
 pub fn wrong(spots: &Spots) -> Vec<String> {
     let reading = match spots.reading {
-        Reading::Whole | Reading::Empty => None,
+        Reading::Whole | Reading::GivenUp | Reading::Empty => None,
         Reading::NoHeader => Some(String::from("the cartridge holds frames but no header")),
         Reading::Stopped(refusal) => Some(format!("reading stopped: {refusal}")),
     };
@@ -91,8 +91,14 @@ fn damage(spots: &Spots) -> Option<String> {
 
 /// What a reader of the map should know beside it.
 pub fn remarks(spots: &Spots) -> Vec<String> {
-    let empty = (spots.reading == Reading::Empty).then_some("the cartridge holds no recording");
-    let remarks = empty.map(String::from).into_iter().chain(wrong(spots));
+    let plain = match spots.reading {
+        Reading::Empty => Some("the cartridge holds no recording"),
+        Reading::GivenUp => {
+            Some("the tape was full: the last element was given up and still reads")
+        }
+        Reading::Whole | Reading::NoHeader | Reading::Stopped(_) => None,
+    };
+    let remarks = plain.map(String::from).into_iter().chain(wrong(spots));
     remarks.map(|remark| sentence(&remark)).collect()
 }
 

@@ -113,7 +113,7 @@ impl Finds {
         let counts = end.map(|end| (end.number, end.filemarks));
         frames.retain(|found| match (found.kind, end) {
             (Kind::Eod, _) => Some((found.number, found.filemarks)) == counts,
-            (_, Some(end)) => found.number < end.number && found.filemarks <= end.filemarks,
+            (_, Some(end)) => recording.is_before(found, &end) && found.filemarks <= end.filemarks,
             (_, None) => true,
         });
         frames.sort_unstable_by_key(order);
@@ -147,6 +147,13 @@ fn order(found: &Found) -> impl Ord {
 }
 
 impl Recording {
+    /// Whether an element comes before this end. Where a tape was full, an
+    /// element that was given up may still read, and has the number of the end.
+    fn is_before(&self, found: &Found, end: &Found) -> bool {
+        let named = self.eod.is_some() && end.origin.address.map(Address) == self.eod;
+        found.number < end.number || (named && found.number == end.number)
+    }
+
     fn has(&self, found: &Found) -> bool {
         let end = self.eod.unwrap_or(self.last);
         let address = found.origin.address.map(Address);

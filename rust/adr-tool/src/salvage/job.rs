@@ -6,7 +6,7 @@ use super::found::Found;
 use super::missing::Missing;
 use super::piece::{number_of, Piece};
 use crate::image::Frames;
-use crate::job::Description;
+use crate::job::{Cut, Description};
 
 /// What stands on a cartridge, in turn.
 #[derive(Debug)]
@@ -44,6 +44,8 @@ pub enum State {
     Complete,
     /// Some are missing.
     Incomplete(Missing),
+    /// The tape was full in it.
+    Cut(Cut),
     /// It was not recorded by this tool.
     Foreign,
 }
@@ -122,6 +124,8 @@ fn end_of(piece: &Piece<'_>, after: Option<&Piece<'_>>, end: Option<&Found>) -> 
     let before_next = next.and_then(|next| next.checked_sub(2));
     let unmarked = end.filter(|end| u64::from(end.filemarks) == piece.filemarks);
     let unmarked = unmarked.and_then(|end| u64::from(end.number).checked_sub(1));
+    // A block that was given up and still reads has the number of the end.
+    let unmarked = unmarked.map(|last| piece.last().unwrap_or(last).max(last));
     let marked = piece.filemark.and(piece.own_end());
     marked.or(before_next).or(unmarked).or(piece.own_end())
 }
@@ -150,12 +154,16 @@ impl Extent {
         let foreign = (described || empty) && description.is_none() && closing.is_none();
         let numbers = blocks.iter().copied().filter_map(number_of);
         let missing = Missing::beside(numbers, self.start, self.end, length);
+        let cut = piece.filemark.is_none() && ends_tape && closing.is_none();
+        let data = u64::try_from(blocks.len()).unwrap_or(u64::MAX);
+        let data = data.saturating_sub(u64::from(description.is_some()));
         Job {
             number: piece.filemarks.saturating_add(1),
             description,
             blocks,
             state: match missing {
                 _ if foreign => State::Foreign,
+                None if cut => State::Cut(Cut::behind(data, length)),
                 None => State::Complete,
                 Some(missing) => State::Incomplete(missing),
             },

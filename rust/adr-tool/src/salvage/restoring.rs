@@ -120,7 +120,8 @@ impl<'a> Restoring<'a> {
         let closing = match verdict {
             Verdict::Whole(closing) => closing,
             Verdict::Broken(reason) => return Ok(Outcome::Broken(reason)),
-            Verdict::Foreign => return Ok(Outcome::Broken(NO_DESCRIPTION)),
+            // A filemark was taken: nothing is cut off.
+            Verdict::Cut(_) | Verdict::Foreign => return Ok(Outcome::Broken(NO_DESCRIPTION)),
         };
         let Some((writer, name)) = target else {
             return Ok(Outcome::Broken(NO_DESCRIPTION));

@@ -8,6 +8,9 @@ pub const CELL: usize = 36_864;
 /// How the first block of a job starts.
 pub const DESCRIPTION: &[u8] = b"ADRJOB 2";
 
+/// Where a header tells the address of EOD.
+pub const EOD: std::ops::Range<usize> = 32..36;
+
 /// Bytes of a frame; a cell's label stands behind it.
 pub const FRAME: usize = 33_280;
 const BLOCK: usize = 32_768;
@@ -63,6 +66,28 @@ pub fn change_headers(image: &mut [u8], change: impl Fn(&mut [u8])) {
         change(&mut image[start..start + FRAME]);
         seal_frame(image, start);
     }
+}
+
+/// Lets the frame of one address stand at another.
+pub fn move_frame(image: &mut [u8], from: usize, to: usize) {
+    let all = entries(image).into_iter();
+    let mut entry = all.filter(|entry| number(image, *entry) >> 32 == from);
+    let entry = entry.next().expect("an entry");
+    image[entry..entry + 4].copy_from_slice(&(to as u32).to_be_bytes());
+    seal_index(image);
+}
+
+/// The address of EOD that the header tells.
+pub fn end_of_data(image: &[u8]) -> usize {
+    let header = frame_at(image, 5);
+    let told = image[header..][EOD].iter();
+    told.fold(0, |sum, byte| sum * 256 + usize::from(*byte))
+}
+
+/// Lets every copy of the header tell this address of EOD.
+pub fn tell_end(image: &mut [u8], end: usize) {
+    let end = (end as u32).to_be_bytes();
+    change_headers(image, |header| header[EOD].copy_from_slice(&end));
 }
 
 /// Lets the checksums of an index of one cell, and of the roots, hold again.

@@ -12,7 +12,7 @@ are-flags-requires c κs = search needs
 
 returns : tie.Need-returns
 unfolding isRecording
-returns c = rw (c .before .before .before .before .before .before .before .is-exchange .ensures, c .are-flags .ensures)
+returns c = rw (c .before .before .before .before .before .before .before .before .is-exchange .ensures, c .are-flags .ensures)
 
 pub is-recording-spec : {M : Type 1} → statement M
 is-recording-spec = tie.close (tie.spec is-exchange-requires are-flags-requires returns)

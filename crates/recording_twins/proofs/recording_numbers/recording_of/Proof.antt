@@ -19,7 +19,7 @@ elements-of-requires c κs = search needs
 
 returns : tie.Need-returns
 unfolding recordingOf
-returns c = (rw (c .elements-of .ensures, c .before .copies-of .ensures, c .before .before .before .before .exchange-of .ensures, c .before .before .before .before .before .stage-of .ensures), recording-comes-back)
+returns c = (rw (c .elements-of .ensures, c .before .copies-of .ensures, c .before .before .before .before .before .exchange-of .ensures, c .before .before .before .before .before .before .stage-of .ensures), recording-comes-back)
 
 pub recording-of-spec : {M : Type 1} → statement M
 recording-of-spec =

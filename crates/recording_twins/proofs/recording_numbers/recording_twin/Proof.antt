@@ -13,6 +13,9 @@ flag-number-requires c κs = search needs
 flag-number-requires-2 : tie.Need-flag-number-requires-2
 flag-number-requires-2 c κs = search needs
 
+flag-number-requires-3 : tie.Need-flag-number-requires-3
+flag-number-requires-3 c κs = search needs
+
 exchange-twin-requires : tie.Need-exchange-twin-requires
 exchange-twin-requires c κs = search needs
 
@@ -24,7 +27,7 @@ elements-twin-requires c κs = search needs
 
 returns : tie.Need-returns
 unfolding recordingTwin
-returns c = rw (c .elements-twin .ensures, c .before .copies-twin .ensures, c .before .before .exchange-twin .ensures, c .before .before .before .before .flag-number .ensures, c .before .before .before .flag-number2 .ensures, c .before .before .before .before .before .stage-number .ensures)
+returns c = rw (c .elements-twin .ensures, c .before .copies-twin .ensures, c .before .before .exchange-twin .ensures, c .before .before .before .before .before .flag-number .ensures, c .before .before .before .before .flag-number2 .ensures, c .before .before .before .flag-number3 .ensures, c .before .before .before .before .before .before .stage-number .ensures)
 
 pub recording-twin-spec : {M : Type 1} → statement M
 recording-twin-spec =
@@ -33,6 +36,7 @@ recording-twin-spec =
     stage-number-requires
     flag-number-requires
     flag-number-requires-2
+    flag-number-requires-3
     exchange-twin-requires
     copies-twin-requires
     elements-twin-requires
