@@ -9,8 +9,8 @@ use crate::geometry::{Address, BLOCK_LENGTH, FRAME_LENGTH};
 use crate::hostility::Hostility;
 use crate::random::Random;
 use crate::reply::{
-    Reply, Sense, BECOMING_READY, BLANK, EARLY_END, END_OF_TAPE, GOOD, LONG_WRITE, RECOVERED,
-    SENSES, UNREADABLE, WRITE_ERROR,
+    Reply, Sense, BECOMING_READY, BLANK, EARLY_END, END_OF_TAPE, GOOD, LARGEST_SKIP, LONG_WRITE,
+    RECOVERED, SENSES, UNREADABLE, WRITE_ERROR,
 };
 use crate::tape::{Shared, Storage, Tape};
 
@@ -255,10 +255,10 @@ impl<S: Storage> Drive<S> {
     }
 
     fn write_error(&mut self) -> Reply {
-        let largest = self.hostility.skip.min(255);
+        let largest = self.hostility.skip.min(LARGEST_SKIP);
         let behind = self.hostility.bad_below.0.saturating_sub(self.front.0);
         let skip = if behind > 0 && self.random.chance(700) {
-            behind.min(255)
+            behind.min(LARGEST_SKIP)
         } else {
             self.random.between(0, largest)
         };

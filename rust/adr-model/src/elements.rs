@@ -6,7 +6,7 @@ use crate::command::{Answer, Command};
 use crate::fault::Fault;
 use crate::frame::{Kind, Label};
 use crate::geometry::{Address, SequenceNumber, FIRST_USER, GAP_END, GAP_FIRST};
-use crate::reply::{Meaning, Reply};
+use crate::reply::{Meaning, Reply, LARGEST_SKIP};
 use crate::state::{ElementsState, Going};
 
 /// What the first element of a recording follows.
@@ -339,7 +339,7 @@ impl Elements {
 
     fn write_error(&mut self, reply: &Reply) -> Result<(), u8> {
         let failed = reply.position;
-        if failed < self.oldest() || failed >= self.next || reply.skip > 255 {
+        if failed < self.oldest() || failed >= self.next || reply.skip > LARGEST_SKIP {
             return Err(8);
         }
         let before = failed.0.saturating_sub(self.oldest().0);

@@ -3,7 +3,7 @@
 use crate::command::Command;
 use crate::elements::count;
 use crate::geometry::{Address, HEADER_GROUPS};
-use crate::reply::{Meaning, Reply};
+use crate::reply::{Meaning, Reply, LARGEST_SKIP};
 use crate::state::CopiesState;
 
 const COPIES: usize = 5;
@@ -92,7 +92,7 @@ impl HeaderCopies {
                 let Some(failed) = self.outstanding_copy(reply.position) else {
                     return Walk::Refused(8);
                 };
-                if reply.skip > 255 {
+                if reply.skip > LARGEST_SKIP {
                     return Walk::Refused(8);
                 }
                 self.good += failed.saturating_sub(self.copy - self.outstanding);

@@ -13,6 +13,9 @@ pub struct Sense {
     pub ascq: u8,
 }
 
+/// The furthest that a drive advises to skip.
+pub const LARGEST_SKIP: u32 = 255;
+
 /// A reply. Numbers that do not belong to its meaning are not looked at.
 #[derive(Clone, Copy, Debug, PartialEq, Eq, Hash)]
 pub struct Reply {
@@ -22,7 +25,7 @@ pub struct Reply {
     pub buffered: u32,
     /// p, the failed address: with a write error.
     pub position: Address,
-    /// The skip, 0 to 255: with a write error.
+    /// The skip, 0 to [`LARGEST_SKIP`]: with a write error.
     pub skip: u32,
 }
 

@@ -142,7 +142,8 @@ fn nothing_more(rest: &[OsString]) -> Result<(), Failure> {
     }
 }
 
-fn is_option(word: &OsStr) -> bool {
+/// Whether a word is taken for an option, unless `--` stands before it.
+pub fn is_option(word: &OsStr) -> bool {
     word.len() > 1 && word.as_bytes().starts_with(b"-")
 }
 

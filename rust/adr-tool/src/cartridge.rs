@@ -13,7 +13,7 @@ use crate::failure::Failure;
 use crate::faults::hostility;
 use crate::image::{Access, Image};
 use crate::interruption;
-use crate::job::reading::{Jobs, Taker};
+use crate::job::reading::{Ending, Jobs, Taker};
 use crate::lone_frame;
 use crate::progress::Progress;
 use crate::room::Room;
@@ -64,20 +64,16 @@ pub struct End {
     reader: Reader,
     /// The jobs before it.
     pub jobs: u64,
-    /// Whether a filemark ends the last of them.
-    pub closed: bool,
-    /// What is known of a tape that was full.
-    full: Option<WasFull>,
+    ending: Ending,
+    /// Whether an element reads that was given up.
+    given_up: bool,
 }
 
-/// What tells that a tape was full before all was recorded. Where it was full
-/// behind a job, and no element that was given up reads, nothing does.
-#[derive(Clone, Copy, Debug, PartialEq, Eq)]
-enum WasFull {
-    /// The last job is cut off.
-    Within,
-    /// An element reads that was given up.
-    Behind,
+impl End {
+    /// Whether a filemark ends the last job.
+    pub fn is_closed(&self) -> bool {
+        self.ending == Ending::Closed
+    }
 }
 
 /// The jobs of a cartridge that was read.
@@ -85,27 +81,40 @@ enum WasFull {
 pub struct ReadJobs {
     /// How many there are.
     pub number: u64,
-    full: Option<WasFull>,
+    ending: Ending,
+    given_up: bool,
 }
 
 impl ReadJobs {
     /// What is to be told of a tape that was full, if it is known to have been.
+    /// Where it was behind a job, and no element that was given up reads, nothing
+    /// tells.
     pub fn was_full(&self) -> Option<String> {
         let job = self.number;
-        self.full.map(|full| match full {
-            WasFull::Within => format!(
+        match self.ending {
+            Ending::Within => Some(format!(
                 "the tape was full in job {job}: \
                  it and what was to follow it belong on another cartridge"
-            ),
-            WasFull::Behind => format!(
+            )),
+            Ending::BeforeFilemark => Some(no_filemark(job)),
+            Ending::Closed if self.given_up => Some(format!(
                 "the tape was full, and the recording was given up behind job {job}: \
                  what was to follow belongs on another cartridge"
-            ),
-        })
+            )),
+            Ending::Closed | Ending::Foreign => None,
+        }
     }
 }
 
-/// What came of a recording that is in force.
+/// What is told of a last job that no filemark ends.
+fn no_filemark(job: u64) -> String {
+    format!(
+        "job {job} has no filemark at its end: \
+         'adr salvage' restores it if nothing else is missing"
+    )
+}
+
+/// What came of a recording.
 pub struct Recorded {
     /// Counts of it.
     pub summary: Summary,
@@ -234,8 +243,8 @@ impl Cartridge {
         self.image().known().any(|(_, reads, _)| reads)
     }
 
-    /// Records elements from the beginning and puts the recording in force, up to
-    /// where the tape is full.
+    /// Records elements from the beginning, up to where the tape is full. It is
+    /// to be put in force.
     pub fn record(
         &mut self,
         setup: Setup,
@@ -247,9 +256,9 @@ impl Cartridge {
         self.record_with(opened, elements, progress)
     }
 
-    /// Records elements behind what was read and puts them in force with it.
-    /// A job there that has no filemark gets one first: it would go on with
-    /// the new blocks.
+    /// Records elements behind what was read, to be put in force with it. A job
+    /// there that has no filemark gets one first: it would go on with the new
+    /// blocks.
     pub fn append(
         &mut self,
         end: &End,
@@ -258,10 +267,10 @@ impl Cartridge {
         progress: impl FnMut(&Summary),
     ) -> Result<Recorded, Failure> {
         let opened = Recorder::open_at_end(&end.reader, setup);
-        let filemark = (!end.closed).then_some(Ok(Element::Filemark));
+        let filemark = (!end.is_closed()).then_some(Ok(Element::Filemark));
         let all = filemark.into_iter().chain(elements);
         let recorded = self.record_with(opened, all, progress)?;
-        let of_elements = |on_tape: u64| on_tape.saturating_sub(u64::from(!end.closed));
+        let of_elements = |on_tape: u64| on_tape.saturating_sub(u64::from(!end.is_closed()));
         Ok(Recorded {
             full: recorded.full.map(of_elements),
             ..recorded
@@ -296,10 +305,14 @@ impl Cartridge {
             Err(RecordError::Refused(refusal)) => Err(self.refused("recording stopped", refusal)),
             Err(RecordError::Drive(failure) | RecordError::Source(failure)) => Err(failure),
         };
-        let recorded = recorded.and_then(|recorded| interruption::check().map(|()| recorded));
-        let recorded = recorded.map_err(Failure::unrecorded)?;
-        self.image_mut().commit()?;
-        Ok(recorded)
+        recorded.map_err(Failure::unrecorded)
+    }
+
+    /// Puts what was recorded in force. A recording that is not is given up with
+    /// the cartridge.
+    pub fn put_in_force(&mut self) -> Result<(), Failure> {
+        interruption::check().map_err(Failure::unrecorded)?;
+        self.image_mut().commit()
     }
 
     /// Reads jobs to the end of data, or until `taker` breaks. An empty
@@ -313,19 +326,16 @@ impl Cartridge {
             return Ok(ReadJobs::default());
         };
         let end = self.read_to_end(&header, taker, progress)?;
-        // The taker was told of a job that is cut off.
-        if end.closed || end.full == Some(WasFull::Within) {
-            return Ok(ReadJobs {
-                number: end.jobs,
-                full: end.full,
-            });
+        // The taker was told of any job of this tool that is not whole.
+        if end.ending == Ending::Foreign {
+            let path = self.image().path().display();
+            return Err(Failure::new(format!("{path}: {}", no_filemark(end.jobs))));
         }
-        Err(Failure::new(format!(
-            "{}: job {} has no filemark at its end: \
-             'adr salvage' restores it if nothing else is missing",
-            self.image().path().display(),
-            end.jobs
-        )))
+        Ok(ReadJobs {
+            number: end.jobs,
+            ending: end.ending,
+            given_up: end.given_up,
+        })
     }
 
     /// Reads jobs on the newest header, as [`Cartridge::read_jobs`] does, and
@@ -361,22 +371,18 @@ impl Cartridge {
             Ok(_) if stopped => Ok(End {
                 reader,
                 jobs: jobs.begun(),
-                closed: true,
-                full: None,
+                ending: Ending::Closed,
+                given_up: false,
             }),
             Ok(summary) => {
                 let delivered = summary.blocks.saturating_add(summary.filemarks);
                 // Only then can the end of data have a number that was read before.
                 let given_up = delivered > u64::from(self.latest_number);
-                let full = match jobs.end()? {
-                    true => Some(WasFull::Within),
-                    false => given_up.then_some(WasFull::Behind),
-                };
                 Ok(End {
                     reader,
+                    ending: jobs.end()?,
                     jobs: jobs.begun(),
-                    closed: !jobs.is_within(),
-                    full,
+                    given_up,
                 })
             }
         }

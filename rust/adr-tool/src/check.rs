@@ -8,7 +8,7 @@ use crate::failure::Failure;
 use crate::frame_checksums;
 use crate::image::Access;
 use crate::job::reading::{Event, Verdict};
-use crate::job::{not_whole, torn, Description};
+use crate::job::{not_whole, torn, Description, NO_FILEMARK};
 use crate::output;
 use crate::progress::Progress;
 use crate::record::DEPTH;
@@ -91,6 +91,7 @@ fn read_jobs(
             }
             Event::End(Verdict::Broken(why)) => broken.push(not_whole(number, why)),
             Event::End(Verdict::Cut(cut)) => broken.push(not_whole(number, cut)),
+            Event::End(Verdict::Unclosed) => broken.push(not_whole(number, NO_FILEMARK)),
             Event::End(Verdict::Foreign) => foreign += 1,
             Event::Begin(begun) => description = Some(begun.clone()),
             Event::Data(_) => {}

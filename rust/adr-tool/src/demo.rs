@@ -114,6 +114,7 @@ fn record(path: &Path, files: &[Made], seed: Option<u64>) -> Result<(), Failure>
     let mut cartridge = Cartridge::load(path, Access::Record, SETUP.depth, seed)?;
     let elements = Elements::new(inputs(files), false);
     let recorded = cartridge.record(SETUP, elements, |_: &Summary| {})?;
+    cartridge.put_in_force()?;
     for error in cartridge.write_errors() {
         let address = grouped(u64::from(error.position.0));
         output::line(if header_addresses().contains(&error.position) {

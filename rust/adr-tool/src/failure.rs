@@ -4,6 +4,9 @@ use std::fmt::Display;
 use std::io;
 use std::path::Path;
 
+/// What is told of a recording that was not put in force.
+pub const UNRECORDED: &str = "nothing was recorded, the cartridge holds what it held before";
+
 /// Why a command stopped.
 #[derive(Debug)]
 pub enum Failure {
@@ -44,7 +47,7 @@ impl Failure {
 
     /// This failure, of a recording that was not put in force.
     pub fn unrecorded(self) -> Failure {
-        self.with("nothing was recorded, the cartridge holds what it held before")
+        self.with(UNRECORDED)
     }
 
     /// This failure with more to tell, if there is a message.

@@ -157,6 +157,9 @@ impl Display for Cut {
     }
 }
 
+/// Why a job is not whole that lacks nothing else.
+pub const NO_FILEMARK: &str = "its filemark is missing";
+
 /// What is told of a job that is not whole.
 pub fn not_whole(number: u64, why: impl Display) -> String {
     format!("job {number} is not whole: {why}")

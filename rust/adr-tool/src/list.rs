@@ -9,7 +9,7 @@ use crate::digest::hexadecimal;
 use crate::failure::Failure;
 use crate::image::Access;
 use crate::job::reading::{Event, Verdict};
-use crate::job::Description;
+use crate::job::{Description, NO_FILEMARK};
 use crate::output;
 use crate::progress::Progress;
 use crate::record::{DEPTH, TAIL};
@@ -37,7 +37,7 @@ pub fn run(arguments: &Arguments) -> Result<(), Failure> {
             Event::Begin(begun) => description = Some(begun.clone()),
             Event::Data(_) => {}
             Event::End(verdict) => {
-                broken += u64::from(matches!(verdict, Verdict::Broken(_) | Verdict::Cut(_)));
+                broken += u64::from(!matches!(verdict, Verdict::Whole(_) | Verdict::Foreign));
                 let description = description.take();
                 output::line(job_line(number, description.as_ref(), verdict, checksums))?;
             }
@@ -84,6 +84,7 @@ fn job_line(
         }
         Verdict::Broken(why) => incomplete(number, &time, &name, why),
         Verdict::Cut(cut) => incomplete(number, &time, &name, cut),
+        Verdict::Unclosed => incomplete(number, &time, &name, NO_FILEMARK),
         Verdict::Foreign => format!("{number:>4}  (not recorded by this tool)"),
     }
 }

@@ -34,11 +34,16 @@ pub fn plain(text: &str) -> Result<(), Failure> {
         .map_err(|error| Failure::of_output(&error))
 }
 
+/// Prints a text as it is on standard error.
+pub fn plain_error(text: &str) {
+    progress::clear();
+    // Where it cannot be printed there is nobody to be told so.
+    let _ = std::io::stderr().write_all(text.as_bytes());
+}
+
 /// Prints a message on standard error. Names from a tape are among its words:
 /// none of them gives the terminal orders.
 pub fn message(text: impl Display) {
-    progress::clear();
     let text = printable(text.to_string().as_bytes());
-    // Where messages cannot be printed there is nobody to be told so.
-    let _ = writeln!(std::io::stderr(), "adr: {text}");
+    plain_error(&format!("adr: {text}\n"));
 }

@@ -15,7 +15,7 @@ use crate::earlier_jobs::EarlierJobs;
 use crate::failure::Failure;
 use crate::image::Access;
 use crate::interruption;
-use crate::job::source::{Elements, Input};
+use crate::job::source::{Change, Elements, Input};
 use crate::output;
 use crate::progress::Progress;
 use crate::room::{frames_of_job, Room};
@@ -38,72 +38,131 @@ pub const TAIL: u32 = 8;
 /// The most that can be.
 const LONGEST_TAIL: u32 = 255;
 
+/// What helps where files changed while they were read.
+const IF_CHANGED: &str = "record again when nothing writes to the files";
+
 /// Runs the command.
 pub fn run(arguments: &Arguments) -> Result<(), Failure> {
-    let (path, files) = arguments.image()?;
-    let depth = arguments.number("--depth")?.unwrap_or(DEPTH);
-    let setup = Setup {
-        depth,
-        blocks: arguments.number("--window")?.unwrap_or(WINDOW),
-        tail: tail(arguments)?,
-    };
+    let command = Command::parse(arguments)?;
     let seed = arguments.number("--faults")?;
-    let name = arguments.value("--name");
-    if arguments.has("--append") && arguments.has("--overwrite") {
-        return Err(Failure::usage("give --append or --overwrite, not both"));
-    }
-    let inputs = inputs(path, files, name)?;
-    let jobs = u64::try_from(inputs.len()).unwrap_or(u64::MAX);
-    let again: Vec<bool> = inputs.iter().map(Input::can_be_read_again).collect();
-    let total = known_length(&inputs);
-    let quiet = arguments.has("--quiet");
-
-    let mut cartridge = Cartridge::load(path, Access::Record, depth, seed)?;
+    let inputs = inputs(command.path, command.files, arguments.value("--name"))?;
+    let mut cartridge = Cartridge::load(command.path, Access::Record, command.setup.depth, seed)?;
     interruption::watch();
-    let earlier_jobs = if arguments.has("--append") {
-        cartridge.require_sizes(setup)?;
-        read_earlier_jobs(&mut cartridge, path, &inputs, setup.tail, quiet)?
-    } else {
-        if !arguments.has("--overwrite") {
-            refuse_content(&cartridge, path)?;
-        }
-        require_place(&cartridge, path, &inputs, setup.tail)?;
-        EarlierJobs::default()
-    };
+    let earlier_jobs = command.look(&mut cartridge, &inputs)?;
     tell_names_that_come_again(&inputs, &earlier_jobs);
-    let mut progress = Progress::new("recording", quiet);
-    let update = |summary: &Summary| {
-        let bytes = bytes_in(summary.blocks);
-        progress.update(bytes, bytes, total);
-    };
-    let elements = Elements::new(inputs, arguments.has("--allow-empty"));
-    let mut elements = elements.behind(earlier_jobs.jobs());
-    let recorded = match earlier_jobs.end() {
-        None => cartridge.record(setup, &mut elements, update),
-        Some(end) => cartridge.append(end, setup, &mut elements, update),
-    }?;
-    drop(progress);
-    if !quiet {
-        if std::io::stderr().is_terminal() && recorded.full.is_none() {
-            output::message(told(jobs, &recorded.summary));
+    command.record(&mut cartridge, inputs, &earlier_jobs)
+}
+
+/// What is to be done.
+struct Command<'a> {
+    arguments: &'a Arguments,
+    path: &'a Path,
+    files: &'a [OsString],
+    setup: Setup,
+    quiet: bool,
+}
+
+impl Command<'_> {
+    fn parse(arguments: &Arguments) -> Result<Command<'_>, Failure> {
+        let (path, files) = arguments.image()?;
+        if arguments.has("--append") && arguments.has("--overwrite") {
+            return Err(Failure::usage("give --append or --overwrite, not both"));
         }
-        let room = cartridge.room(setup.tail)?;
-        output::message(format!("{}: {room}", path.display()));
+        Ok(Command {
+            arguments,
+            path,
+            files,
+            setup: Setup {
+                depth: arguments.number("--depth")?.unwrap_or(DEPTH),
+                blocks: arguments.number("--window")?.unwrap_or(WINDOW),
+                tail: tail(arguments)?,
+            },
+            quiet: arguments.has("--quiet"),
+        })
     }
-    let Some(on_tape) = recorded.full else {
-        return tell_changed(path, elements.changed());
-    };
-    elements.changed().iter().for_each(output::message);
-    let full = FullTape {
-        path,
-        geometry: cartridge.image().geometry(),
-        arguments,
-        files,
-        again: &again,
-        before: earlier_jobs.jobs(),
-        reach: elements.reach(on_tape),
-    };
-    full.tell()
+
+    /// Refuses what cannot be recorded here; the jobs that others are added to.
+    fn look(&self, cartridge: &mut Cartridge, inputs: &[Input]) -> Result<EarlierJobs, Failure> {
+        let tail = self.setup.tail;
+        if self.arguments.has("--append") {
+            cartridge.require_sizes(self.setup)?;
+            return read_earlier_jobs(cartridge, self.path, inputs, tail, self.quiet);
+        }
+        if !self.arguments.has("--overwrite") {
+            refuse_content(cartridge, self.path)?;
+        }
+        require_place(cartridge, self.path, inputs, tail)?;
+        Ok(EarlierJobs::default())
+    }
+
+    /// Records the inputs, puts them in force and tells what came of it.
+    fn record(
+        &self,
+        cartridge: &mut Cartridge,
+        inputs: Vec<Input>,
+        earlier_jobs: &EarlierJobs,
+    ) -> Result<(), Failure> {
+        let jobs = u64::try_from(inputs.len()).unwrap_or(u64::MAX);
+        let again: Vec<bool> = inputs.iter().map(Input::can_be_read_again).collect();
+        let total = known_length(&inputs);
+        let replaces = earlier_jobs.end().is_none() && cartridge.holds_frames();
+        let elements = Elements::new(inputs, self.arguments.has("--allow-empty"));
+        let mut elements = elements.behind(earlier_jobs.jobs());
+        let mut progress = Progress::new("recording", self.quiet);
+        let update = |summary: &Summary| {
+            let bytes = bytes_in(summary.blocks);
+            progress.update(bytes, bytes, total);
+        };
+        let recorded = match earlier_jobs.end() {
+            None => cartridge.record(self.setup, &mut elements, update),
+            Some(end) => cartridge.append(end, self.setup, &mut elements, update),
+        }?;
+        let reach = recorded.full.map(|on_tape| elements.reach(on_tape));
+        // What a cartridge holds is not given for a part of a job.
+        let in_force = !replaces || reach.is_none_or(|reach| elements.has_whole_job(reach));
+        if in_force {
+            cartridge.put_in_force()?;
+        }
+        drop(progress);
+        let Some(reach) = reach else {
+            if !self.quiet && std::io::stderr().is_terminal() {
+                output::message(told(jobs, &recorded.summary));
+            }
+            self.tell_room(cartridge)?;
+            return tell_changed(self.path, elements.changed());
+        };
+        let full = FullTape {
+            path: self.path,
+            geometry: cartridge.image().geometry(),
+            arguments: self.arguments,
+            files: self.files,
+            again: &again,
+            before: earlier_jobs.jobs(),
+            reach,
+            in_force,
+            changed: elements.changed(),
+        };
+        Err(self.tell_full(cartridge, &full))
+    }
+
+    /// Tells what is on a full tape, and then its room; it failed.
+    fn tell_full(&self, cartridge: &mut Cartridge, full: &FullTape<'_>) -> Failure {
+        let failure = full.tell();
+        if full.in_force {
+            if let Err(Failure::Failed(message)) = self.tell_room(cartridge) {
+                output::message(message);
+            }
+        }
+        failure
+    }
+
+    fn tell_room(&self, cartridge: &mut Cartridge) -> Result<(), Failure> {
+        if !self.quiet {
+            let room = cartridge.room(self.setup.tail)?;
+            output::message(format!("{}: {room}", self.path.display()));
+        }
+        Ok(())
+    }
 }
 
 /// The frames that are kept for the end of data.
@@ -141,8 +200,8 @@ fn read_earlier_jobs(
     // Whether the last job is closed is known only when all was read.
     refuse_too_much(&room, &all, path, inputs, true)?;
     let earlier_jobs = EarlierJobs::read(cartridge, &header, quiet)?;
-    if let Some(end) = earlier_jobs.end().filter(|end| !end.closed) {
-        refuse_too_much(&room, &all, path, inputs, end.closed)?;
+    if let Some(end) = earlier_jobs.end().filter(|end| !end.is_closed()) {
+        refuse_too_much(&room, &all, path, inputs, false)?;
         let (shown, job) = (path.display(), end.jobs);
         output::message(format!(
             "{shown}: job {job} has no filemark at its end: one is recorded before the new jobs"
@@ -222,19 +281,23 @@ fn tell_names_that_come_again(inputs: &[Input], earlier_jobs: &EarlierJobs) {
 }
 
 /// Tells files that changed while they were recorded; it failed if any did.
-fn tell_changed(path: &Path, changed: &[String]) -> Result<(), Failure> {
-    for change in changed {
-        output::message(change);
+fn tell_changed(path: &Path, changed: &[Change]) -> Result<(), Failure> {
+    changed.iter().for_each(output::message);
+    if changed.is_empty() {
+        return Ok(());
     }
-    match u64::try_from(changed.len()) {
-        Ok(0) => Ok(()),
-        number => Err(Failure::new(format!(
-            "{}: recorded and in force, but {} while being read; the other jobs are whole: \
-             record again when nothing writes to the files",
-            path.display(),
-            count(number.unwrap_or(u64::MAX), "file changed", "files changed"),
-        ))),
-    }
+    Err(Failure::new(format!(
+        "{}: recorded and in force, but {} while being read; the other jobs are whole: \
+         {IF_CHANGED}",
+        path.display(),
+        files_changed(changed),
+    )))
+}
+
+/// How many files changed.
+fn files_changed(changed: &[Change]) -> String {
+    let number = u64::try_from(changed.len()).unwrap_or(u64::MAX);
+    count(number, "file changed", "files changed")
 }
 
 /// A recording starts at the first user frame: what stands there is lost.

@@ -15,7 +15,7 @@ use crate::failure::Failure;
 use crate::image::{refuse_itself, Access};
 use crate::interruption;
 use crate::job::reading::{Event, Verdict};
-use crate::job::{is_plain_name, not_whole, torn, Closing, Description};
+use crate::job::{is_plain_name, not_whole, torn, Closing, Description, NO_FILEMARK};
 use crate::output;
 use crate::progress::Progress;
 use crate::record::DEPTH;
@@ -230,11 +230,15 @@ impl Restoring<'_> {
             },
             Verdict::Broken(why) if current.is_some() => self.broken(not_whole(number, why)),
             Verdict::Cut(cut) if current.is_some() => self.broken(not_whole(number, cut)),
+            Verdict::Unclosed if current.is_some() => {
+                let why = format!("{NO_FILEMARK}, and 'adr salvage' restores it");
+                self.broken(not_whole(number, why))
+            }
             Verdict::Foreign if self.wanted.is_all() || self.wanted.has_number(number) => {
                 let foreign = format!("job {number} was not recorded by this tool");
                 self.pass_over(self.failure(foreign))
             }
-            Verdict::Broken(_) | Verdict::Cut(_) | Verdict::Foreign => Ok(()),
+            Verdict::Broken(_) | Verdict::Cut(_) | Verdict::Unclosed | Verdict::Foreign => Ok(()),
         }
     }
 

@@ -39,9 +39,12 @@ impl Room {
         let end = end.map_or(0, |end| u64::from(end.0));
         // The highest address is a user frame: the end of data has room there.
         let tail = u64::from(tail.max(END_OF_DATA));
+        let used = user_frames_below(end);
+        let frames = user_frames_below(behind_last.saturating_sub(tail));
+        // A recording that kept less may have gone further.
         Ok(Room {
-            frames: user_frames_below(behind_last.saturating_sub(tail)),
-            used: user_frames_below(end),
+            frames: frames.max(used),
+            used,
         })
     }
 
@@ -102,7 +105,7 @@ mod tests {
         }
         let longer = Geometry::beginning(3_020, 1);
         let used = Room::new(longer, Some(Address(3_015)), 8).expect("a cartridge");
-        assert_eq!(used.free(), 0);
+        assert_eq!((used.free(), used.frames, used.used), (0, 2_995, 2_995));
         for (length, frames) in [(0, 3), (1, 4), (32_768, 4), (32_769, 5)] {
             assert_eq!(frames_of_job(length), frames, "{length} bytes");
         }

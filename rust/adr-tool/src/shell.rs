@@ -4,7 +4,7 @@ use std::ffi::OsStr;
 use std::os::unix::ffi::OsStrExt;
 
 /// What stands for itself in a shell, beside letters and digits.
-const PLAIN: &[u8] = b"_-./+,:@%=";
+const PLAIN: &[u8] = b"_-./+,:@%";
 
 /// A word quoted where a shell needs it. What could give a terminal orders, or
 /// is no text, is made by printf, so that it can be shown and copied; the word
@@ -72,6 +72,7 @@ mod tests {
             (&b""[..], "''"),
             (b"parts.tar", "parts.tar"),
             (b"-n", "-n"),
+            (b"a=b", "'a=b'"),
             (b"a b", "'a b'"),
             (b"it's", "'it'\\''s'"),
             (b"'", "\\'"),

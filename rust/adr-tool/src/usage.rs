@@ -69,8 +69,10 @@ A tape that is full before all is recorded is closed behind what it could take,
 and that is in force. Told are the jobs that are whole on it, how far the next
 one got, and which files are not on it; standard output has two commands that
 make another cartridge and record the rest there, the job that was cut off from
-its beginning. The exit status is then 1. With --tail 0, and where the end of
-data finds no place either, nothing is recorded instead.
+its beginning. A job that had a whole tape and found no room is not among the
+rest: it needs a larger cartridge. The exit status is then 1. With --tail 0,
+where the end of data finds no place either, and with --overwrite where no new
+job is whole, nothing is recorded instead.
 
 Files that cannot fit are told before anything is written. A file that changes
 while it is recorded is told, and the exit status is then 1: the recording is

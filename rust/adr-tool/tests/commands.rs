@@ -332,9 +332,10 @@ fn the_gap_is_crossed_and_the_tape_ends() {
     let before = fs::metadata(place.path("a.adr")).expect("an image").len();
 
     let full = place
-        .shell("head -c 101000000 /dev/zero | $ADR record --overwrite --tail 0 a.adr -")
+        .shell("head -c 101000000 /dev/zero | $ADR record --overwrite a.adr -")
         .failed();
     assert!(full.error.contains("the tape is full"), "{}", full.error);
+    assert!(full.error.contains("holds what it held before"));
     let after = fs::metadata(place.path("a.adr")).expect("an image").len();
     assert_eq!(before, after);
     let check = place.adr(&["check", "a.adr"]).succeeded();

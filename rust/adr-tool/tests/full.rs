@@ -9,7 +9,7 @@ use std::ops::Range;
 use std::os::unix::ffi::OsStrExt;
 
 use place::image::{end_of_data, frame_at, move_frame, tell_end};
-use place::{bytes, Place, Ran};
+use place::{bytes, Place, Ran, ADR};
 
 const BLOCK: usize = 32_768;
 /// The first user frame.
@@ -20,6 +20,14 @@ const GROUP: usize = 2_990;
 const BEHIND_GROUP: usize = 3_000;
 /// Where a job's name stands in its row.
 const NAME: usize = 41;
+/// The files of the worked example, and their blocks: they would fit but for bad
+/// spots.
+const WEEK: [(&str, usize); 4] = [
+    ("monday", 900),
+    ("tuesday", 900),
+    ("wednesday", 1_100),
+    ("thursday", 20),
+];
 /// Drives that are tried until each thing was seen, from one on that does not
 /// take long.
 const SEEDS: Range<u64> = 96..400;
@@ -251,8 +259,31 @@ fn only_a_filemark_is_missing() {
         let told = "job 2 has no filemark at its end: 'adr salvage' restores it";
         assert!(ran.error.contains(told), "{}", ran.error);
     }
+    let list = place.adr(&["list", "--quiet", "a.adr"]).failed();
+    assert_eq!(listed(&list), ["mon", "stream (its filemark is missing)"]);
+    // Another job is restored, and its own bytes are all there.
+    for word in ["1", "mon"] {
+        let other = place.adr(&["restore", "a.adr", word]).succeeded();
+        assert!(other.output == place.read("mon"));
+        assert_eq!(other.error, "");
+    }
+    let told = "adr: a.adr: job 2 is not whole: its filemark is missing, \
+                and 'adr salvage' restores it\n";
+    for word in ["2", "stream"] {
+        let own = place.adr(&["restore", "a.adr", word]).failed();
+        assert!(own.output == place.read("stream"));
+        assert_eq!(own.error, told);
+    }
     place.directory("out");
-    let salvage = ["salvage", "a.adr", "--into", "out"];
+    let into = ["restore", "a.adr", "--into", "out"];
+    let into = place.adr(&into).failed();
+    assert_eq!(
+        into.error,
+        format!("{told}adr: a.adr: 1 job was not restored\n")
+    );
+    assert_eq!(place.names("out"), ["mon"]);
+    assert!(place.read("out/mon") == place.read("mon"));
+    let salvage = ["salvage", "a.adr", "--into", "out", "--overwrite"];
     place.adr(&salvage).succeeded();
     assert!(place.read("out/stream") == place.read("stream"));
     place.shell("sh rest.sh < stream").succeeded();
@@ -260,31 +291,210 @@ fn only_a_filemark_is_missing() {
     assert!(again.output == place.read("stream"));
 }
 
-/// A job that no cartridge of this size has room for, in place of others; and
-/// commands for which there is no standard output.
+/// A cartridge of 3,001 frames with the job `mon`, and a job that has no room on
+/// it: a stream that gives more.
+fn whole_tape(name: &str) -> Place {
+    let place = Place::new(name);
+    place.write("mon", &bytes(40_000, 1));
+    place.write("tue", &bytes(70_000, 2));
+    for name in ["a.adr", "b.adr"] {
+        let format = ["format", name, "--segtrk", "3001", "--trks", "1"];
+        place.adr(&format).succeeded();
+    }
+    place.adr(&["record", "a.adr", "mon"]).succeeded();
+    place
+}
+
+const TOO_LONG: &str = "head -c 98000000 /dev/zero | ";
+const LARGER: &str = "adr: 'standard input' had the tape from its beginning: \
+                      it needs a larger cartridge, or one with fewer bad spots\n";
+
+/// A job that no cartridge of this size has room for: it does not replace others,
+/// and the commands record what follows it; here there is no standard output for
+/// them.
 #[test]
 fn longer_than_a_tape() {
-    let place = Place::new("full-long");
-    place.write("mon", &bytes(40_000, 1));
-    place
-        .adr(&["format", "a.adr", "--segtrk", "3001", "--trks", "1"])
-        .succeeded();
-    place.adr(&["record", "a.adr", "mon"]).succeeded();
-    let line = "head -c 98000000 /dev/zero | $ADR record --overwrite a.adr - mon >&-";
-    let recorded = place.shell(line).failed();
+    let place = whole_tape("full-long");
+    let image = place.read("a.adr");
+    let line = format!("{TOO_LONG} $ADR record --overwrite a.adr - tue mon >&-");
+    let recorded = place.shell(&line).failed();
+    let commands =
+        format!("\n{ADR} format --segtrk 3001 --trks 1 a-2.adr\n{ADR} record a-2.adr tue mon\n");
     for told in [
-        "adr: a.adr: capacity at most 97.6 MB: 97.6 MB used, at most 0 bytes free\n",
-        "; no new job is whole on it\n",
-        "job 1, 'standard input': cut off behind at most 97,615,872 bytes: the tape was full\n",
-        "'standard input' had the tape from its beginning: it needs a larger cartridge",
-        "adr: a.adr: not on it: 'mon'\n",
-        "/adr format --segtrk 3001 --trks 1 a-2.adr\n",
-        "/adr record a-2.adr - mon\n",
+        "adr: a.adr: the tape is full, and no new job is whole on it: \
+         nothing was recorded, the cartridge holds what it held before\n",
+        "adr: a.adr: not on it: 'standard input' and 2 files behind it\n",
+        LARGER,
+        &commands,
+        "adr: a.adr: nothing was recorded: the two commands on standard error \
+         record what follows 'standard input' on another cartridge, and not 'standard input'\n",
     ] {
         assert!(recorded.error.contains(told), "{told}: {}", recorded.error);
     }
-    let list = place.adr(&["list", "--quiet", "a.adr"]).failed();
+    for untrue in ["cut off", "record the rest", "capacity", "only once"] {
+        assert!(!recorded.error.contains(untrue), "{}", recorded.error);
+    }
+    assert!(place.read("a.adr") == image);
+    place.shell(&commands).succeeded();
+    let list = place.adr(&["list", "--quiet", "a-2.adr"]).succeeded();
+    assert_eq!(listed(&list), ["tue", "mon"]);
+}
+
+/// The same on an empty cartridge, where nothing is replaced, and alone.
+#[test]
+fn longer_than_an_empty_tape() {
+    let place = whole_tape("full-empty");
+    let line = format!("{TOO_LONG} $ADR record b.adr -");
+    let recorded = place.shell(&line).failed();
+    for told in [
+        "adr: b.adr: the tape is full, and was closed behind what it could take; \
+         no new job is whole on it\n",
+        "job 1, 'standard input': cut off behind at most 97,615,872 bytes: the tape was full\n",
+        LARGER,
+        "adr: b.adr: capacity at most 97.6 MB: 97.6 MB used, at most 0 bytes free\n",
+    ] {
+        assert!(recorded.error.contains(told), "{told}: {}", recorded.error);
+    }
+    let last = "adr: b.adr: not everything was recorded\n";
+    assert!(recorded.error.ends_with(last), "{}", recorded.error);
+    assert_eq!(recorded.output, b"");
+    let list = place.adr(&["list", "--quiet", "b.adr"]).failed();
     assert_eq!(listed(&list).len(), 1);
+}
+
+/// With a whole new job on it a full tape replaces what was there. What is on it
+/// and the commands are told before the room.
+#[test]
+fn a_whole_job_replaces_others() {
+    let place = whole_tape("full-replaced");
+    let line = format!("{TOO_LONG} $ADR record --overwrite a.adr tue - mon 2>&1");
+    let recorded = place.shell(&line);
+    assert_eq!(recorded.status, Some(1));
+    let told = recorded.output_text();
+    let places = [
+        "; job 1 is whole on it\n",
+        "adr: standard input can be read only once",
+        "/adr record a-2.adr - mon\n",
+        "adr: a.adr: capacity at most 97.6 MB: ",
+        "adr: a.adr: not everything was recorded: the two commands on standard output ",
+    ];
+    let places = places.map(|part| told.find(part));
+    assert!(places.iter().all(Option::is_some), "{told}");
+    assert!(places.is_sorted(), "{told}");
+    let list = place.adr(&["list", "--quiet", "a.adr"]).failed();
+    let rows = listed(&list);
+    assert!(rows.len() == 2 && rows[0] == "tue", "{rows:?}");
+}
+
+/// A pipe that was read before is not recorded as an empty job, not even where
+/// empty ones were allowed.
+#[test]
+fn a_cut_pipe_is_no_empty_job() {
+    let place = nearly_full("full-empty-pipe", BEHIND_GROUP + 1, 30);
+    place.write("stream", &bytes(40 * BLOCK, 2));
+    let line =
+        "cat stream | $ADR record --append --allow-empty a.adr - > rest.sh; cat rest.sh | sh";
+    let recorded = place.shell(line).failed();
+    let told = "adr: standard input: there is nothing to read";
+    assert!(recorded.error.contains(told), "{}", recorded.error);
+    let rest = String::from_utf8(place.read("rest.sh")).expect("text");
+    assert!(rest.ends_with("/adr record a-2.adr -\n"), "{rest}");
+    let list = place.adr(&["list", "--quiet", "a-2.adr"]).succeeded();
+    assert_eq!(list.output, b"");
+}
+
+/// What a shell opened is not there for a later command.
+#[test]
+fn descriptors_are_read_once() {
+    let place = nearly_full("full-descriptors", BEHIND_GROUP + 1, 30);
+    place.write("stream", &bytes(40 * BLOCK, 2));
+    place.write("tue", &bytes(70_000, 3));
+    let (given, feed) = ("< tue 3< mon", "{ cat stream > pipe & }");
+    let files = "pipe /dev/stdin /dev/fd/3 /proc/self/fd/3 mon";
+    let line = format!("mkfifo pipe; {feed}; $ADR record --append a.adr {files} {given} > rest.sh");
+    let recorded = place.shell(&line).failed();
+    for name in ["pipe", "/dev/stdin", "/dev/fd/3", "/proc/self/fd/3"] {
+        let told = format!("adr: {name} can be read only once: give it again");
+        assert!(recorded.error.contains(&told), "{}", recorded.error);
+    }
+    assert!(!recorded.error.contains("adr: mon can be"));
+    let again = place.shell(&format!("{feed}; sh rest.sh {given}"));
+    again.succeeded();
+    let list = place.adr(&["list", "--quiet", "a-2.adr"]).succeeded();
+    assert_eq!(listed(&list), ["pipe", "stdin", "3", "3", "mon"]);
+    for (job, file) in [("1", "stream"), ("2", "tue"), ("3", "mon"), ("4", "mon")] {
+        let restored = place.adr(&["restore", "a-2.adr", job]).succeeded();
+        assert!(restored.output == place.read(file), "job {job}");
+    }
+}
+
+/// A file that changed is not told as whole. Those of the kernel tell a length
+/// that is not theirs.
+#[test]
+fn files_that_change_on_a_full_tape() {
+    let place = nearly_full("full-changed", BEHIND_GROUP + 1, 30);
+    place.write("stream", &bytes(40 * BLOCK, 2));
+    let line = "cat stream | $ADR record --append --quiet a.adr mon /proc/version mon - > rest.sh";
+    let recorded = place.shell(line).failed();
+    for told in [
+        "; jobs 2 to 4 are on it, whole but for those whose files changed while being read: 3\n",
+        "while it was recorded, as job 3\n",
+        "adr: a.adr: 1 file changed while being read: \
+         record again when nothing writes to the files\n",
+    ] {
+        assert!(recorded.error.contains(told), "{told}: {}", recorded.error);
+    }
+}
+
+/// Nor does it replace others alone.
+#[test]
+fn a_file_that_changed_replaces_nothing() {
+    let place = whole_tape("full-torn");
+    let image = place.read("a.adr");
+    let line = format!("{TOO_LONG} $ADR record --overwrite a.adr /proc/version - mon");
+    let recorded = place.shell(&line).failed();
+    for told in [
+        "no new job is whole on it: nothing was recorded, the cartridge holds",
+        "not on it: '/proc/version' and 2 files behind it\n",
+        "1 file changed while being read: record again when nothing writes to the files\n",
+        "nothing was recorded: the two commands on standard output record the rest",
+    ] {
+        assert!(recorded.error.contains(told), "{told}: {}", recorded.error);
+    }
+    assert!(!recorded.error.contains("larger"), "{}", recorded.error);
+    let commands = recorded.output_text();
+    let record = "/adr record a-2.adr /proc/version - mon\n";
+    assert!(commands.ends_with(record), "{commands}");
+    assert!(place.read("a.adr") == image);
+}
+
+/// The commands of the worked example in docs/TOOL.md.
+#[test]
+fn the_worked_example() {
+    let document = concat!(env!("CARGO_MANIFEST_DIR"), "/../../docs/TOOL.md");
+    let document = fs::read_to_string(document).expect("the document");
+    let (_, section) = document.split_once("\n## Full tapes\n").expect("it");
+    let (_, example) = section.split_once("```sh\n").expect("an example");
+    let (example, _) = example.split_once("```").expect("its end");
+    let (printed, typed): (Vec<&str>, Vec<&str>) =
+        example.lines().partition(|line| line.starts_with("# "));
+    let place = Place::new("full-example");
+    for (name, blocks) in WEEK {
+        place.write(&format!("{name}.tar"), &vec![7; blocks * BLOCK]);
+    }
+    let with_tool = |line: &str| line.replacen("adr", "$ADR", 1);
+    let [format, record] = typed[..] else {
+        panic!("{typed:?}");
+    };
+    place.shell(&with_tool(format)).succeeded();
+    let recorded = place.shell(&with_tool(record)).failed();
+    let commands = recorded.output_text().replace(ADR, "adr");
+    let commands: Vec<String> = commands.lines().map(|line| format!("# {line}")).collect();
+    assert_eq!(commands, printed);
+    place.write("rest.sh", &recorded.output);
+    place.shell("sh rest.sh").succeeded();
+    let list = place.adr(&["list", "--quiet", "week-2.adr"]).succeeded();
+    assert_eq!(listed(&list), ["wednesday.tar", "thursday.tar"]);
 }
 
 /// What was seen on drives with faults.

@@ -10,6 +10,7 @@ use crate::geometry::{
 };
 use crate::hostility::Hostility;
 use crate::random::Random;
+use crate::reply::LARGEST_SKIP;
 use crate::tape::{Shared, Tape};
 
 /// A call of a list. What the state refuses is refused and counts for
@@ -272,7 +273,7 @@ fn hostility(random: &mut Random) -> Hostility {
         reads_new: pick(&[0, 300, 1_000]),
         reads_nothing: pick(&[0, 300, 1_000]),
         report: pick(&[50, 300, 1_000]),
-        skip: pick(&[0, 3, 40, 255]),
+        skip: pick(&[0, 3, 40, LARGEST_SKIP]),
         busy: pick(&[0, 0, 50, 300, 800]),
         busy_located: pick(&[0, 500, 1_000]),
         early_end: pick(&[0, 0, 0, 5, 50]),
@@ -285,7 +286,7 @@ fn hostility(random: &mut Random) -> Hostility {
     hostility.stopped = random.chance(300);
     if random.chance(250) {
         hostility.bad_below = Address(random.between(2_970, 3_002));
-        hostility.skip = 255;
+        hostility.skip = LARGEST_SKIP;
     }
     if random.chance(100) {
         let copies: Vec<Address> = HEADER_GROUPS.into_iter().flatten().collect();

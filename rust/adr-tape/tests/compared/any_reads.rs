@@ -13,6 +13,11 @@ use adr_tape::ffi;
 use super::any_calls::any_sense;
 use super::{right, ComparedReading};
 
+/// Bytes of the AUX with the fields that tell what a frame is.
+const FIRST_FIELDS: u32 = 70;
+/// The same with the fields of the filemarks, and some behind them.
+const ALL_FIELDS: u32 = 210;
+
 /// A frame near what the reading expects; so many of a thousand are EOD.
 fn any_frame(random: &mut Random, expected: u32, eods: u32) -> Guarded {
     let kinds = [Kind::Data, Kind::Data, Kind::Data, Kind::Marker];
@@ -37,10 +42,10 @@ fn any_frame(random: &mut Random, expected: u32, eods: u32) -> Guarded {
     };
     let mut frame = Box::new([0; FRAME_LENGTH]);
     fill_frame(&mut frame, &label, Some(block(random.byte().into())));
-    // The fields that are looked at come first.
     let (damaged, bytes) = match label.kind {
-        Kind::Eod => (200, 70),
-        _ => (60, 210),
+        Kind::Eod if random.chance(500) => (200, FIRST_FIELDS),
+        Kind::Eod => (200, ALL_FIELDS),
+        _ => (60, ALL_FIELDS),
     };
     if random.chance(damaged) {
         let at = BLOCK_LENGTH + usize::try_from(random.below(bytes)).unwrap_or(0);

@@ -29,7 +29,23 @@ pub enum Verdict {
     Broken(&'static str),
     /// The data on tape end within it.
     Cut(Cut),
+    /// Every byte is there, the checksum holds, and the filemark is missing.
+    Unclosed,
     /// It was not recorded by this tool, and no bytes of it were handed on.
+    Foreign,
+}
+
+/// Where the data on tape end.
+#[derive(Clone, Copy, Debug, Default, PartialEq, Eq)]
+pub enum Ending {
+    /// Behind the filemark of the last job, if there is a job.
+    #[default]
+    Closed,
+    /// In a job of this tool.
+    Within,
+    /// Behind the last block of a job of this tool.
+    BeforeFilemark,
+    /// In something else, or behind all of it: it has no filemark.
     Foreign,
 }
 
@@ -79,7 +95,7 @@ impl<'t> Jobs<'t> {
     }
 
     /// Whether the latest job has not ended.
-    pub fn is_within(&self) -> bool {
+    fn is_within(&self) -> bool {
         !matches!(self.state, State::Between)
     }
 
@@ -103,16 +119,41 @@ impl<'t> Jobs<'t> {
         }
     }
 
-    /// Takes in the end of data; whether it cuts off a job of this tool. One that
-    /// lacks nothing but its filemark is none.
-    pub fn end(&mut self) -> Result<bool, Failure> {
-        let State::Own(own) = &mut self.state else {
-            return Ok(false);
+    /// Takes in the end of data, which is also that of a job that has not ended.
+    pub fn end(&mut self) -> Result<Ending, Failure> {
+        let (verdict, ending) = match std::mem::replace(&mut self.state, State::Between) {
+            State::Between => return Ok(Ending::Closed),
+            State::Foreign => return Ok(Ending::Foreign),
+            State::Own(own) if own.has_closing() => {
+                let verdict = match self.close(own)? {
+                    ControlFlow::Continue(Verdict::Whole(_)) => Some(Verdict::Unclosed),
+                    other => other.continue_value(),
+                };
+                (verdict, Ending::BeforeFilemark)
+            }
+            State::Own(own) => (Some(self.cut(own)?), Ending::Within),
         };
-        let last = own.held.back();
-        if last.is_some_and(|block| Closing::read(block).is_some()) {
-            return Ok(false);
+        if let Some(verdict) = verdict {
+            let _ = (self.taker)(self.number, Event::End(&verdict))?;
         }
+        Ok(ending)
+    }
+
+    /// Hands on the last bytes of a job; its verdict, unless the taker breaks.
+    fn close(&mut self, mut own: Own) -> Result<ControlFlow<(), Verdict>, Failure> {
+        let (rest, closing) = match own.rest() {
+            Err(verdict) => return Ok(ControlFlow::Continue(verdict)),
+            Ok(last) => last,
+        };
+        if (self.taker)(self.number, Event::Data(&rest))?.is_break() {
+            return Ok(ControlFlow::Break(()));
+        }
+        own.add(&rest);
+        Ok(ControlFlow::Continue(own.verdict(closing)))
+    }
+
+    /// Hands on what there is of a job that is cut off; its verdict.
+    fn cut(&mut self, mut own: Own) -> Result<Verdict, Failure> {
         for mut block in std::mem::take(&mut own.held) {
             let left = own.told.map(|told| told.saturating_sub(own.length));
             let left = left.and_then(|left| usize::try_from(left).ok());
@@ -120,9 +161,7 @@ impl<'t> Jobs<'t> {
             own.add(&block);
             let _ = (self.taker)(self.number, Event::Data(&block))?;
         }
-        let cut = Cut::behind(own.blocks, own.told);
-        let _ = (self.taker)(self.number, Event::End(&Verdict::Cut(cut)))?;
-        Ok(true)
+        Ok(Verdict::Cut(Cut::behind(own.blocks, own.told)))
     }
 
     fn take_block(&mut self, block: &[u8]) -> Result<ControlFlow<()>, Failure> {
@@ -165,15 +204,9 @@ impl<'t> Jobs<'t> {
                 Verdict::Foreign
             }
             State::Foreign => Verdict::Foreign,
-            State::Own(mut own) => match own.rest() {
-                Err(verdict) => verdict,
-                Ok((rest, closing)) => {
-                    if (self.taker)(self.number, Event::Data(&rest))?.is_break() {
-                        return Ok(ControlFlow::Break(()));
-                    }
-                    own.add(&rest);
-                    own.verdict(closing)
-                }
+            State::Own(own) => match self.close(own)? {
+                ControlFlow::Break(()) => return Ok(ControlFlow::Break(())),
+                ControlFlow::Continue(verdict) => verdict,
             },
         };
         (self.taker)(self.number, Event::End(&verdict))
@@ -184,6 +217,12 @@ impl Own {
     fn add(&mut self, data: &[u8]) {
         self.digest.add(data);
         self.length += u64::try_from(data.len()).unwrap_or(0);
+    }
+
+    /// Whether its last block is there.
+    fn has_closing(&self) -> bool {
+        let last = self.held.back();
+        last.is_some_and(|block| Closing::read(block).is_some())
     }
 
     /// The last bytes of the data, without padding, and the closing.
@@ -256,6 +295,24 @@ mod tests {
         }
         assert!(reading.end().is_ok());
         jobs
+    }
+
+    /// A job without its filemark: all of its bytes, and it is not called whole;
+    /// nor is one that is not what was recorded called so.
+    #[test]
+    fn unclosed() {
+        for length in [0, 5, 3 * BLOCK_LENGTH, 3 * BLOCK_LENGTH + 1] {
+            let file = vec![7; length];
+            let mut elements = elements(std::slice::from_ref(&file));
+            assert_eq!(elements.pop(), Some(Element::Filemark));
+            let unclosed = (1, file, Some(Verdict::Unclosed));
+            assert!(read(&elements) == [unclosed], "{length}");
+            if length > 0 {
+                elements[1] = vec![8; BLOCK_LENGTH].into();
+                let verdict = read(&elements).first().and_then(|job| job.2.clone());
+                assert_eq!(verdict, Some(Verdict::Broken("its checksum does not hold")));
+            }
+        }
     }
 
     /// A job of three blocks of data as ever more of its elements are on tape:

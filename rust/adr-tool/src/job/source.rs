@@ -2,6 +2,7 @@
 
 use std::collections::VecDeque;
 use std::ffi::OsStr;
+use std::fmt::{self, Display};
 use std::fs::{File, Metadata};
 use std::io::{self, Read};
 use std::os::fd::AsFd;
@@ -19,12 +20,17 @@ use crate::image::{open_regular, refuse_itself, Access};
 use crate::interruption::{self, Stream};
 use crate::timestamp::Timestamp;
 
+/// The links behind one another that a system follows.
+const MOST_LINKS: u32 = 40;
+
 /// What a job is made of.
 pub struct Input {
     /// What it is called in messages; a file's path.
     shown: PathBuf,
     description: Description,
     bytes: Bytes,
+    /// Whether its path leads to something else in another process.
+    inherited: bool,
 }
 
 enum Bytes {
@@ -51,6 +57,7 @@ impl Input {
             shown: path.to_path_buf(),
             description,
             bytes,
+            inherited: is_descriptor(path),
         })
     }
 
@@ -77,6 +84,7 @@ impl Input {
             shown: PathBuf::from(OsStr::from_bytes(&description.name)),
             description,
             bytes: Bytes::Stream(Box::new(bytes)),
+            inherited: false,
         }
     }
 
@@ -86,9 +94,9 @@ impl Input {
     }
 
     /// Whether a later recording can read it too: what is no regular file gives
-    /// its bytes once.
+    /// its bytes once, and a file that a shell opened may have no other name.
     pub fn can_be_read_again(&self) -> bool {
-        matches!(self.bytes, Bytes::File(_))
+        matches!(self.bytes, Bytes::File(_)) && !self.inherited
     }
 
     /// What is known of it before it is read.
@@ -123,6 +131,30 @@ impl Input {
             change: None,
         })
     }
+}
+
+/// Whether a path names a descriptor of this process, as `/dev/stdin`,
+/// `/dev/fd/3` and `/proc/self/fd/3` do.
+fn is_descriptor(path: &Path) -> bool {
+    let mut path = path.to_path_buf();
+    for _ in 0..MOST_LINKS {
+        let directory = match path.parent() {
+            Some(parent) if !parent.as_os_str().is_empty() => parent,
+            _ => Path::new("."),
+        };
+        let Ok(directory) = directory.canonicalize() else {
+            return false;
+        };
+        let of_process = directory.starts_with("/proc") && directory.ends_with("fd");
+        if of_process || directory == Path::new("/dev/fd") {
+            return true;
+        }
+        match path.read_link() {
+            Ok(target) => path = directory.join(target),
+            Err(_) => return false,
+        }
+    }
+    false
 }
 
 fn describe(path: &Path, file: &File) -> Result<Description, Failure> {
@@ -262,7 +294,21 @@ pub struct Elements {
     begun: Vec<Begun>,
     /// Elements sent.
     sent: u64,
-    changed: Vec<String>,
+    changed: Vec<Change>,
+}
+
+/// A file that changed while it was read.
+pub struct Change {
+    /// The job that was made of it.
+    pub job: u64,
+    /// The file and how it changed.
+    how: String,
+}
+
+impl Display for Change {
+    fn fmt(&self, formatter: &mut fmt::Formatter<'_>) -> fmt::Result {
+        write!(formatter, "{}, as job {}", self.how, self.job)
+    }
 }
 
 /// A job of which elements were sent.
@@ -277,7 +323,7 @@ struct Begun {
 /// How far a recording got on a tape that was full.
 #[derive(Clone, Copy, Debug, PartialEq, Eq)]
 pub struct Reach {
-    /// The jobs that are whole on tape.
+    /// The jobs that are on tape from beginning to end.
     pub whole: usize,
     /// The one behind them, if a part of it is.
     pub cut: Option<Cut>,
@@ -307,7 +353,7 @@ impl Elements {
     }
 
     /// The files that changed while they were read, and how.
-    pub fn changed(&self) -> &[String] {
+    pub fn changed(&self) -> &[Change] {
         &self.changed
     }
 
@@ -322,6 +368,14 @@ impl Elements {
             Cut::behind(blocks, job.length)
         });
         Reach { whole, cut }
+    }
+
+    /// Whether a job is whole where they got so far: one whose file changed is not.
+    pub fn has_whole_job(&self, reach: Reach) -> bool {
+        let whole = u64::try_from(reach.whole).unwrap_or(u64::MAX);
+        let last = self.before.saturating_add(whole);
+        let changed = self.changed.iter().filter(|change| change.job <= last);
+        reach.whole > changed.count()
     }
 
     fn current(&mut self) -> Option<Result<Job, Failure>> {
@@ -343,9 +397,10 @@ impl Elements {
         let element = job.next(self.allow_empty)?;
         if let Some(change) = job.change.take() {
             let begun = u64::try_from(self.begun.len()).unwrap_or(u64::MAX);
-            let (shown, number) = (job.shown.display(), self.before.saturating_add(begun));
-            self.changed
-                .push(format!("{shown}: {change}, as job {number}"));
+            self.changed.push(Change {
+                job: self.before.saturating_add(begun),
+                how: format!("{}: {change}", job.shown.display()),
+            });
         }
         self.sent += 1;
         if element != Element::Filemark {
@@ -392,7 +447,8 @@ mod tests {
         std::fs::remove_file(&path).expect("it");
         let shown = format!("{}: ", path.display());
         let told = elements.changed().iter();
-        told.map(|change| change.replace(&shown, "")).collect()
+        told.map(|change| change.to_string().replace(&shown, ""))
+            .collect()
     }
 
     #[test]
@@ -448,6 +504,35 @@ mod tests {
         assert_eq!(elements.by_ref().count(), 5);
         let reach = elements.reach(13);
         assert_eq!((reach.whole, reach.cut), (3, None));
+    }
+
+    #[test]
+    fn descriptors() {
+        for path in ["/dev/stdin", "/dev/fd/0", "/proc/self/fd/0"] {
+            assert!(is_descriptor(Path::new(path)), "{path}");
+        }
+        let directory = std::env::temp_dir();
+        for (name, target) in [("in", "/dev/stdin"), ("on", "on")] {
+            let link = directory.join(format!("adr-source-{name}-{}", std::process::id()));
+            let target = match target {
+                "on" => link.clone(),
+                target => PathBuf::from(target),
+            };
+            std::os::unix::fs::symlink(&target, &link).expect("room for a link");
+            assert_eq!(is_descriptor(&link), name == "in");
+            std::fs::remove_file(&link).expect("it");
+        }
+        for path in [
+            "file",
+            "/dev/null",
+            "/dev",
+            "/",
+            "",
+            "/proc/self/status",
+            "none/fd/0",
+        ] {
+            assert!(!is_descriptor(Path::new(path)), "{path}");
+        }
     }
 
     #[test]

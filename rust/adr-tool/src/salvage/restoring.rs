@@ -121,7 +121,9 @@ impl<'a> Restoring<'a> {
             Verdict::Whole(closing) => closing,
             Verdict::Broken(reason) => return Ok(Outcome::Broken(reason)),
             // A filemark was taken: nothing is cut off.
-            Verdict::Cut(_) | Verdict::Foreign => return Ok(Outcome::Broken(NO_DESCRIPTION)),
+            Verdict::Cut(_) | Verdict::Unclosed | Verdict::Foreign => {
+                return Ok(Outcome::Broken(NO_DESCRIPTION))
+            }
         };
         let Some((writer, name)) = target else {
             return Ok(Outcome::Broken(NO_DESCRIPTION));
