@@ -186,6 +186,27 @@ static void replied(const char *what, struct adr_recording s, struct adr_reply r
     same_recording(o.session, expected);
 }
 
+static struct adr_reply error_at_1999(void)
+{
+    struct adr_reply error = sense(0x03, 0x0C, 0x00);
+    error.position = 1999;
+    error.skip = 7;
+    return error;
+}
+
+/* A filemark at 1998 is then on tape, and 2006 is where the rest goes. */
+static struct adr_recording with_error_noted(struct adr_recording s)
+{
+    s.elements.first = 1002;
+    s.elements.pending = 3;
+    s.elements.outstanding = 0;
+    s.elements.trail.filemarks++;
+    s.elements.trail.marker = 1998;
+    s.elements.locate = 1;
+    s.elements.target = 2006;
+    return s;
+}
+
 static void accepting(void)
 {
     struct adr_recording s = recording(), expected = s;
@@ -217,17 +238,8 @@ static void elements(void)
     expected.elements.limit = 2000;
     replied("the tape's end", s, sense(0x0D, 0x00, 0x02), expected);
 
-    struct adr_reply error = sense(0x03, 0x0C, 0x00);
-    error.position = 1999;
-    error.skip = 7;
-    expected = s;
-    expected.elements.first = 1002;
-    expected.elements.pending = 3;
-    expected.elements.outstanding = 0;
-    expected.elements.trail.filemarks++;
-    expected.elements.trail.marker = 1998;
-    expected.elements.locate = 1;
-    expected.elements.target = 2006;
+    struct adr_reply error = error_at_1999();
+    expected = with_error_noted(s);
     replied("write error behind a filemark", s, error, expected);
     error.position = 2000;
     expect("a frame not outstanding", adr_record_reply(s, error).number == ADR_BAD_REPLY);
@@ -239,18 +251,9 @@ static void giving_up(void)
 {
     static uint8_t window[21 * ADR_BLOCK_LENGTH], frame[ADR_FRAME_LENGTH];
     struct adr_recording s = recording(), expected;
-    struct adr_reply error = sense(0x03, 0x0C, 0x00);
-    error.position = 1999;
-    error.skip = 7;
+    struct adr_reply error = error_at_1999();
     s.elements.limit = 2030; /* elements up to 1999 */
-    expected = s;
-    expected.elements.first = 1002;
-    expected.elements.pending = 3;
-    expected.elements.outstanding = 0;
-    expected.elements.trail.filemarks++;
-    expected.elements.trail.marker = 1998;
-    expected.elements.locate = 1;
-    expected.elements.target = 2006;
+    expected = with_error_noted(s);
     expected.ended = expected.spent = 1;
     struct adr_record_outcome o = adr_record_reply(s, error);
     expect("a target in the tail", o.number == ADR_TAPE_FULL);

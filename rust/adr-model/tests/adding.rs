@@ -2,15 +2,14 @@
 
 mod common;
 
-use std::collections::BTreeMap;
-
-use adr_model::frame::{fill_frame, number_at, Frame, HeaderFields, Kind, Label};
+use adr_model::frame::{fill_frame, number_at, HeaderFields, Kind, Label};
 use adr_model::geometry::{BLOCK_LENGTH, FRAME_LENGTH};
-use adr_model::reply::{BECOMING_READY, UNREADABLE};
+use adr_model::reply::BECOMING_READY;
 use adr_model::{
     Address, Answer, Command, Outcome, ReadAnswer, ReadOutcome, Reading, Recording, Reply,
     SequenceNumber,
 };
+use common::cartridge::Cartridge;
 use common::*;
 
 const LAST: u32 = 11_999;
@@ -27,20 +26,10 @@ fn closed(eod: u32) -> HeaderFields {
     }
 }
 
-/// What a cartridge holds.
-#[derive(Clone)]
-struct Cartridge {
-    header: Box<Frame>,
-    frames: BTreeMap<u32, Box<Frame>>,
-}
-
 impl Cartridge {
     /// Filemark 0 and blocks 1 and 2 from 10 on, and EOD 3 at the end.
     fn closed_at(end: u32) -> Cartridge {
-        let mut cartridge = Cartridge {
-            header: Box::new(header_of(&closed(end))),
-            frames: BTreeMap::new(),
-        };
+        let mut cartridge = Cartridge::blank(geometry()).with_header(&closed(end));
         for (address, kind, number) in [
             (10, Kind::Marker, 0),
             (11, Kind::Data, 1),
@@ -62,40 +51,14 @@ impl Cartridge {
             filemarks: 40,
             latest_marker: Some(Address(2_000)),
         };
-        let mut frame = Box::new([0; FRAME_LENGTH]);
+        let mut frame = [0; FRAME_LENGTH];
         fill_frame(&mut frame, &label, Some(&[0xE0; BLOCK_LENGTH]));
-        self.frames.insert(address, frame);
+        self.frames.insert(address, frame.to_vec());
     }
 
     fn with_header(mut self, fields: &HeaderFields) -> Cartridge {
-        *self.header = header_of(fields);
+        self.header = header_of(fields).to_vec();
         self
-    }
-
-    /// Reads it as far as a reading goes; the reading, what it delivered, and
-    /// the refusal that ended it, 0 for none.
-    fn read(&self) -> (Reading, Vec<u8>, u8) {
-        let (mut session, outcome) = Reading::open(&geometry(), &*self.header);
-        assert_eq!(outcome, ACCEPTED);
-        let blank = [0; FRAME_LENGTH];
-        let mut delivered = Vec::new();
-        loop {
-            let (sense, frame) = match session.fetch() {
-                ReadAnswer::Command(Command::Read(at)) => match self.frames.get(&at.0) {
-                    Some(frame) => (adr_model::reply::GOOD, frame.as_slice()),
-                    None => (UNREADABLE, blank.as_slice()),
-                },
-                ReadAnswer::Command(_) => (adr_model::reply::GOOD, blank.as_slice()),
-                ReadAnswer::End => return (session, delivered, 0),
-                ReadAnswer::Refused(number) => return (session, delivered, number),
-            };
-            match session.reply(&Reply::of(sense), frame) {
-                ReadOutcome::Block => delivered.push(frame[0]),
-                ReadOutcome::Filemark => delivered.push(b'F'),
-                ReadOutcome::Refused(number) => return (session, delivered, number),
-                ReadOutcome::Nothing | ReadOutcome::End => {}
-            }
-        }
     }
 
     /// A host that adds here.
@@ -104,27 +67,6 @@ impl Cartridge {
         let (reading, _, refused) = self.read();
         assert_eq!(refused, 0);
         Host::of(Recording::open_at_end(&reading, depth, blocks, 0), blocks)
-    }
-
-    /// Answers good until there is nothing to do and keeps what is written.
-    fn play(&mut self, host: &mut Host) -> Answer {
-        loop {
-            match host.fetch() {
-                Answer::Command(Command::Write(Address(at))) => self.keep(at, &host.frame),
-                Answer::Command(_) => {}
-                answer => return answer,
-            }
-            host.bring(good());
-        }
-    }
-
-    fn keep(&mut self, at: u32, frame: &[u8]) {
-        let frame: Frame = frame.try_into().expect("a whole frame");
-        if Address(at).is_header_copy() {
-            *self.header = frame;
-        } else {
-            self.frames.insert(at, Box::new(frame));
-        }
     }
 }
 
@@ -418,7 +360,7 @@ fn ends_elsewhere() {
 #[test]
 fn readings_not_at_their_end() {
     let cartridge = Cartridge::closed_at(13);
-    let (mut reading, _) = Reading::open(&geometry(), &*cartridge.header);
+    let (mut reading, _) = Reading::open(&geometry(), &cartridge.header);
     opens(&reading, 1, 1, REFUSED(7));
     let frame = [0; FRAME_LENGTH];
     while reading.fetch() != ReadAnswer::End {

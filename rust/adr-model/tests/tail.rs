@@ -2,17 +2,15 @@
 
 mod common;
 
-use std::collections::BTreeMap;
-
 use adr_model::fault::PLANTED_IN_ENDING;
 use adr_model::frame::{fill_frame, number_at, Frame, HeaderFields, Kind, Label};
 use adr_model::geometry::{BLOCK_LENGTH, FRAME_LENGTH};
-use adr_model::reply::{EARLY_END, GOOD, UNREADABLE};
+use adr_model::reply::EARLY_END;
 use adr_model::state::{ExchangeState, ReadingState};
 use adr_model::{
-    Address, Answer, Command, Fault, Geometry, Outcome, ReadAnswer, ReadOutcome, Reading,
-    Recording, Reply, SequenceNumber,
+    Address, Answer, Fault, Geometry, Outcome, Reading, Recording, Reply, SequenceNumber,
 };
+use common::cartridge::Cartridge;
 use common::*;
 
 const REFUSED: fn(u8) -> Outcome = Outcome::Refused;
@@ -392,72 +390,11 @@ fn openings() {
     }
 }
 
-/// A tape in memory of a session that is played by hand.
-#[derive(Default)]
-struct Cartridge {
-    header: Vec<u8>,
-    frames: BTreeMap<u32, Vec<u8>>,
-}
-
-impl Cartridge {
-    fn keep(&mut self, at: u32, frame: &[u8]) {
-        if Address(at).is_header_copy() {
-            self.header = frame.to_vec();
-        } else {
-            self.frames.insert(at, frame.to_vec());
-        }
-    }
-
-    /// Answers good until there is nothing to do and keeps what is written.
-    fn play(&mut self, host: &mut Host) -> Answer {
-        loop {
-            match host.fetch() {
-                Answer::Command(Command::Write(Address(at))) => self.keep(at, &host.frame),
-                Answer::Command(_) => {}
-                answer => return answer,
-            }
-            host.bring(good());
-        }
-    }
-
-    /// What a reading delivers, F for a filemark, and how it ends.
-    fn read(&self, fault: Fault) -> (Reading, Vec<u8>, ReadOutcome) {
-        let (mut session, outcome) = Reading::open(&smallest(), &self.header);
-        assert_eq!(outcome, ACCEPTED);
-        session.plant(fault);
-        let blank = vec![0; FRAME_LENGTH];
-        let mut delivered = Vec::new();
-        loop {
-            let command = match session.fetch() {
-                ReadAnswer::Command(command) => command,
-                ReadAnswer::End => return (session, delivered, ReadOutcome::End),
-                ReadAnswer::Refused(number) => {
-                    return (session, delivered, ReadOutcome::Refused(number))
-                }
-            };
-            let frame = match command {
-                Command::Read(at) => self.frames.get(&at.0),
-                _ => Some(&blank),
-            };
-            let sense = if frame.is_some() { GOOD } else { UNREADABLE };
-            let frame = frame.unwrap_or(&blank);
-            match session.reply(&Reply::of(sense), frame) {
-                ReadOutcome::Block => delivered.push(frame[0]),
-                ReadOutcome::Filemark => delivered.push(b'F'),
-                ReadOutcome::Refused(number) => {
-                    return (session, delivered, ReadOutcome::Refused(number))
-                }
-                ReadOutcome::Nothing | ReadOutcome::End => {}
-            }
-        }
-    }
-}
-
 /// One block, in a window of one, fails at the last address for an element and
 /// reads as new there. It is given up, delivered, and counted by what is added.
 #[test]
 fn the_failed_block_reads() {
-    let mut cartridge = Cartridge::default();
+    let mut cartridge = Cartridge::blank(smallest());
     let mut host = Host::at_elements_with_tail(&smallest(), 1, 1, 255);
     host.block(9);
     host.write_at(2_745);
@@ -470,8 +407,8 @@ fn the_failed_block_reads() {
     let eod = &cartridge.frames[&2_746];
     assert_eq!(number_at(eod, BLOCK_LENGTH + 44), 0);
 
-    let (reading, delivered, end) = cartridge.read(Fault::None);
-    assert_eq!((delivered, end), (vec![9], ReadOutcome::End));
+    let (reading, delivered, end) = cartridge.read();
+    assert_eq!((delivered, end), (vec![9], 0));
     let opened = Recording::open_at_end(&reading, 1, 1, 0);
     let mut host = Host::of(opened, 1);
     assert_eq!(cartridge.play(&mut host), Answer::Idle);
@@ -480,8 +417,8 @@ fn the_failed_block_reads() {
     assert_eq!(host.aux(44), 1);
     host.close();
     assert_eq!(cartridge.play(&mut host), Answer::Done);
-    let (_, delivered, end) = cartridge.read(Fault::None);
-    assert_eq!((delivered, end), (vec![9, b'F'], ReadOutcome::End));
+    let (_, delivered, end) = cartridge.read();
+    assert_eq!((delivered, end), (vec![9, b'F'], 0));
     let aux = |at: u32, byte| number_at(&cartridge.frames[&at], BLOCK_LENGTH + byte);
     assert_eq!((aux(2_746, 44), aux(2_747, 44)), (1, 2));
     assert_eq!((aux(2_747, 192), aux(2_747, 200)), (1, 2_746));
@@ -491,7 +428,7 @@ fn the_failed_block_reads() {
 /// does.
 #[test]
 fn the_failed_filemark_reads() {
-    let mut cartridge = Cartridge::default();
+    let mut cartridge = Cartridge::blank(smallest());
     let mut host = Host::at_elements_with_tail(&smallest(), 1, 1, 255);
     host.filemark();
     host.write_at(2_745);
@@ -505,8 +442,8 @@ fn the_failed_filemark_reads() {
         [44, 192, 200].map(|byte| number_at(frame, BLOCK_LENGTH + byte))
     };
     assert_eq!(aux(&cartridge, 2_746), [0, 0, NONE]);
-    let (reading, delivered, end) = cartridge.read(Fault::None);
-    assert_eq!((delivered, end), (vec![b'F'], ReadOutcome::End));
+    let (reading, delivered, end) = cartridge.read();
+    assert_eq!((delivered, end), (vec![b'F'], 0));
     let mut host = Host::of(Recording::open_at_end(&reading, 1, 1, 255), 1);
     host.close();
     assert_eq!(cartridge.play(&mut host), Answer::Done);
@@ -515,10 +452,8 @@ fn the_failed_filemark_reads() {
 
 /// Two blocks at 10 and 11, and an EOD at 20.
 fn two_blocks(number: u32, foreign: bool, fields: HeaderFields) -> Cartridge {
-    let mut cartridge = Cartridge {
-        header: header_of(&fields).to_vec(),
-        frames: BTreeMap::new(),
-    };
+    let mut cartridge = Cartridge::blank(smallest());
+    cartridge.header = header_of(&fields).to_vec();
     for (address, kind, number) in [
         (10, Kind::Data, 0),
         (11, Kind::Data, 1),
@@ -541,9 +476,9 @@ fn two_blocks(number: u32, foreign: bool, fields: HeaderFields) -> Cartridge {
     cartridge
 }
 
-/// How readings end at an EOD of this number where 2 is expected, as recorded
-/// or not, by the EOD address and the old end of the header.
-fn endings(fault: Fault) -> Vec<(u32, bool, u32, u32, ReadOutcome)> {
+/// By which refusal, 0 for none, readings end at an EOD of this number where 2 is
+/// expected, as recorded or not, by the EOD address and the old end of the header.
+fn endings(fault: Fault) -> Vec<(u32, bool, u32, u32, u8)> {
     let mut found = Vec::new();
     for number in 0..4 {
         for foreign in [false, true] {
@@ -563,7 +498,7 @@ fn endings(fault: Fault) -> Vec<(u32, bool, u32, u32, ReadOutcome)> {
                     eod: Address(eod),
                     old_end: Address(old_end),
                 };
-                let (_, delivered, end) = two_blocks(number, foreign, fields).read(fault);
+                let (_, delivered, end) = two_blocks(number, foreign, fields).read_with(fault);
                 assert_eq!(delivered, vec![5, 5]);
                 found.push((number, foreign, eod, old_end, end));
             }
@@ -576,14 +511,13 @@ fn endings(fault: Fault) -> Vec<(u32, bool, u32, u32, ReadOutcome)> {
 fn one_below_the_expected_number() {
     let sound = endings(Fault::None);
     for (number, foreign, eod, old_end, end) in &sound {
-        let refused = ReadOutcome::Refused;
         let expected = match (number, foreign) {
-            (3, _) => refused(10),
-            (2, false) if *eod <= 20 && (*eod > 0 || *old_end <= 20) => ReadOutcome::End,
-            (2, true) if *eod <= 20 && (*eod > 0 || *old_end <= 20) => refused(11),
-            (1, false) if *eod == 20 => ReadOutcome::End,
-            (1, true) if *eod == 20 => refused(11),
-            _ => refused(12),
+            (3, _) => 10,
+            (2, false) if *eod <= 20 && (*eod > 0 || *old_end <= 20) => 0,
+            (2, true) if *eod <= 20 && (*eod > 0 || *old_end <= 20) => 11,
+            (1, false) if *eod == 20 => 0,
+            (1, true) if *eod == 20 => 11,
+            _ => 12,
         };
         let row = format!("{number} {foreign} {eod} {old_end}");
         assert_eq!(*end, expected, "{row}");

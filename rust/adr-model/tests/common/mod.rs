@@ -1,6 +1,8 @@
 //! Helpers of the tests: sessions driven by hand.
 #![allow(dead_code)]
 
+pub mod cartridge;
+
 use adr_model::frame::{fill_header, Frame, HeaderFields};
 use adr_model::geometry::{BLOCK_LENGTH, FRAME_LENGTH};
 use adr_model::reply::GOOD;
