@@ -5,6 +5,7 @@ pub mod Tapes
 pub mod Elements
 pub mod FirstRecording
 pub mod Filemark
+pub mod FilemarkSession
 pub mod ReadingExchange
 pub mod FirstReading
 pub mod SecondRecording

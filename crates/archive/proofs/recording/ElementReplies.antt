@@ -39,7 +39,7 @@ use Rattle.archive.specs.Trails.{itemAt}
 use Rattle.archive.proofs.tape.Basics.{none-sent}
 use Rattle.archive.proofs.tape.Seen.{Has, Seen, Clean}
 use Rattle.archive.proofs.tape.FoldLaws.{fold-none}
-use Rattle.archive.proofs.tape.SeenLaws.{seen-moves, clean-moves}
+use Rattle.archive.proofs.tape.SeenLaws.{seen-as, seen-moves, clean-moves}
 use Rattle.archive.proofs.tape.Stands.{unending, StoredAs}
 use Rattle.archive.proofs.recording.Trailing.{Prior, Trailing}
 use Rattle.archive.proofs.recording.TrailingMoves.{trailing-idle, trailing-closed, trailing-stepped}
@@ -71,19 +71,9 @@ clean-top : {last pass : ℕ} {t : Tape} → 3000 ≤ last → Clean last pass (
 clean-top large = record { old = 0; old-low = omega arith; none = λ a f _ b u _ _. above-last large b u }
 
 seen-top : {last pass k edge : ℕ} {ps xs : List Element} {t : Tape} → 3000 ≤ last → last + 1 ≤ edge → Seen last pass ps xs k edge t → Seen last pass ps xs k (last + 1) t
-seen-top {last} {pass} {edge = edge} {xs = xs} {t} large l h = record {
-  base = h .base;
-  m = h .m;
-  floor = h .floor;
-  low = h .low;
-  high = h .high;
-  most = h .most;
-  top = h .top;
-  few = h .few;
-  prefix = h .prefix;
-  seen = subst (Has xs (h .m)) (fold-none (unending last pass) t (last + 1) edge l (λ c f b _ u _. above-last large b u)) (h .seen);
-  quiet = λ a f b u _ _ _. absurd (above-last large b u);
-}
+seen-top {last} {pass} {edge = edge} {xs = xs} {t} large l h =
+    seen-as h (subst (Has xs (h .m)) (fold-none (unending last pass) t (last + 1) edge l (λ c f b _ u _. above-last large b u)) (h .seen))
+    (λ a f b u _ _ _. absurd (above-last large b u))
 
 module _ {last pass : ℕ} {on-newest none-bears : Type 0} {prior : Prior} (w : World) (r : Reply) (set : Setting last pass) (wr : Within last (w .drive .written)) (l : Live last pass on-newest none-bears prior w) (st : ElementStage (w .session)) where
   abbrev After : OutcomeSaid → Type 0

@@ -3,8 +3,7 @@
 use Prim.Native.Nat.{ℕ}
 use mathlib.Core.Path.{_≡_, refl}
 use mathlib.Core.Bool.{Bool, true}
-use mathlib.Core.List.{List, [], _∷_}
-use mathlib.Core.Option.{some}
+use mathlib.Core.List.{List, []}
 use lib.Dec.{lit<, lit≤}
 use Rattle.geometry.specs.Place.{asAddress}
 use Rattle.frame.specs.Frame.{blank, elementFrame}
@@ -15,23 +14,21 @@ use Rattle.header.proofs.Built.{built-valid}
 use Rattle.drive.specs.declared.command.Command.the-variants.{Locate, ReadPosition}
 use Rattle.elements.specs.Trail.{trailOf}
 use Rattle.elements.specs.Reply as reply
-use Rattle.elements.specs.declared.elements.Elements.{Elements}
 use Rattle.recording_state.specs.Open.{startedAt, setupOf}
 use Rattle.recording_state.specs.State.{accepting}
 use Rattle.recording_state.specs.Written.{writtenFrame, writtenElement, elementOf}
 use Rattle.recording_state.specs.declared.state.State.{State}
 use Rattle.adding_opening.specs.AtEnd.{openAtEndOf}
 use Rattle.archive.specs.Conduct.{Drive}
-use Rattle.archive.specs.Tape.{Tape, put}
 use Rattle.archive.specs.Headers.{Newest}
 use Rattle.archive.specs.Recordings.{World, Runs, started}
-use Rattle.archive.specs.Sample.{depth, blocks, window, resumedOpening, resumedElements, resumedFilemark, resumedEod, resumedClosing, resumedCalls}
+use Rattle.archive.specs.Sample.{depth, blocks, window, resumedOpening, resumedElements, resumedFilemark, resumedEod, resumedClosing, filemarkCalls}
 use Rattle.archive.proofs.sample.Exchange.{reported}
 use Rattle.archive.proofs.sample.Flush.{buffered}
-use Rattle.archive.proofs.sample.Headers.{writing, ending, finished, headersWritten, opening-written-at, closing-written}
+use Rattle.archive.proofs.sample.Headers.{writing, ending, finished, headersWritten}
 use Rattle.archive.proofs.sample.Tapes.{headers-newest}
-use Rattle.archive.proofs.sample.Filemark.{Reaches, located, eodDue, eodOnTape, filemark-begun, filemark-written, eod-written}
-use Rattle.archive.proofs.sample.FirstRecording.{window-long}
+use Rattle.archive.proofs.sample.Filemark.{Reaches, located, eodDue}
+use Rattle.archive.proofs.sample.FilemarkSession.{eodWritten, written, filemark-runs}
 use Rattle.archive.proofs.sample.GivenUp.{givenUpLeft}
 use Rattle.archive.proofs.sample.GivenUpReading.{givenUpRead}
 
@@ -44,40 +41,32 @@ pub resumed-opened : (b : List ℕ) → openAtEndOf (givenUpRead b .session) dep
 unfolding openAtEndOf
 resumed-opened b = refl
 
--- ---- the elements: the filemark at 2,815, EOD behind it
+-- ---- the list
 
 abbrev marks : List Bool
 marks = located 3000 2815 1 noTrail .marks
 
-abbrev eodWritten : Elements
-eodWritten = eodOnTape 3000 2815 1 2815 noTrail marks
-
--- ---- the tape, by what was written
-
-abbrev pub afterMark : Tape → Tape
-afterMark t = put t 2815 (some (elementFrame resumedFilemark blank))
-
-abbrev afterEnd : Tape → Tape
-afterEnd t = put (afterMark t) 2816 (some (elementFrame resumedEod blank))
-
--- the drive as it was left, for which nothing is written yet; after the opening headers, after EOD, and at the end
+-- the drive as it was left, for which nothing is written yet
 abbrev pub resumedStart : List ℕ → Drive
 resumedStart b = buffered (givenUpLeft b .tape) (givenUpLeft b .at) [] []
 
-abbrev pub resumedOpened : List ℕ → Drive
-resumedOpened b = headersWritten resumedOpening (resumedStart b)
+-- the filemark goes to 2,815, EOD behind it
+module _ (b : List ℕ) where
+  abbrev mark : List ℕ
+  mark = elementFrame resumedFilemark blank
 
-abbrev pub resumedWritten : List ℕ → Drive
-resumedWritten b = buffered (afterEnd (resumedOpened b .tape)) 2817 (2816 ∷ 2815 ∷ resumedOpened b .written) []
+  abbrev eod : List ℕ
+  eod = elementFrame resumedEod blank
 
-abbrev pub resumedLeft : List ℕ → Drive
-resumedLeft b = headersWritten resumedClosing (resumedWritten b)
+  abbrev resumedWritten : Drive
+  resumedWritten = written resumedOpening 2815 1 noTrail (resumedStart b) mark eod
 
--- the close has reported done
-abbrev pub resumedEnd : List ℕ → World
-resumedEnd b = reported window resumedElements (finished 0 resumedClosing eodWritten) (resumedLeft b)
+  abbrev pub resumedLeft : Drive
+  resumedLeft = headersWritten resumedClosing resumedWritten
 
--- ---- the list
+  -- the close has reported done
+  abbrev pub resumedEnd : World
+  resumedEnd = reported window resumedElements (finished 0 resumedClosing (eodWritten resumedOpening 2815 1 noTrail (resumedStart b) mark eod)) resumedLeft
 
 large : Reaches 3000
 large = (lit≤ tt, lit< tt)
@@ -90,16 +79,9 @@ eod-frame : writtenFrame (ending 0 resumedOpening (eodDue 3000 2815 1 2815 noTra
 unfolding writtenFrame writtenElement elementOf elementFrame reply.confirmedOf trailOf
 eod-frame = refl
 
-pub resumed-runs : (b : List ℕ) → Runs (started resumedState window (resumedStart b)) resumedCalls (resumedEnd b)
+pub resumed-runs : (b : List ℕ) → Runs (started resumedState window (resumedStart b)) filemarkCalls (resumedEnd b)
 unfolding reply.confirmedOf
-resumed-runs b =
-    let t : Tape = resumedOpened b .tape in
-    let past : List ℕ = resumedOpened b .written in
-    opening-written-at 0 window window-long resumedOpening (asAddress 2815) (record { 0 = 1 }) noTrail (resumedStart b)
-    (filemark-begun 3000 2815 1 noTrail large resumedOpening (lit< tt) t (resumedOpened b .at) past
-    (filemark-written 3000 2815 1 2815 noTrail marks resumedOpening large (lit< tt) resumedElements t past (elementFrame resumedFilemark blank) (Locate (asAddress 2815)) filemark-frame
-    (eod-written 3000 2815 1 2815 noTrail marks resumedOpening large (lit< tt) resumedElements (afterMark t) (2815 ∷ past) (elementFrame resumedEod blank) eod-frame
-    (closing-written 0 window window-long resumedElements eodWritten resumedClosing (resumedWritten b)))))
+resumed-runs b = filemark-runs resumedOpening 2815 1 noTrail (resumedStart b) (elementFrame resumedFilemark blank) (elementFrame resumedEod blank) large (lit< tt) filemark-frame eod-frame
 
 -- the newest header of the cartridge as left
 pub resumed-valid : validHeader (asAddress 3000) (headerFrame resumedClosing) ≡ true

@@ -1,11 +1,9 @@
 -- The reading of what that addition left, to its end: the block that was given up and read nevertheless, then the filemark. Assumes nothing.
 use Prim.Native.Nat.{ℕ, _<_, _≤_}
-use mathlib.Core.Path.{_≡_, refl, sym, subst, _∙_}
+use mathlib.Core.Path.{_≡_, refl, sym, subst}
 use mathlib.Core.Bool.{true, false}
 use mathlib.Core.List.{List, _++_}
-use mathlib.Core.Logic.{inl}
 use mathlib.Core.Option.{some}
-use native.Mathlib.Omega.{arith}
 use lib.Dec.{lit<}
 use lib.ListN.{length}
 use Rattle.geometry.specs.Place.{asAddress}
@@ -24,11 +22,10 @@ use Rattle.archive.specs.Recordings.{Element}
 use Rattle.archive.specs.Readings.{World, Runs, started}
 use Rattle.archive.specs.Sample.{smallest, givenUpElements, resumedOpening, resumedElements, resumedFilemark, resumedEod, resumedClosing, resumedReading}
 use Rattle.archive.proofs.tape.Basics.{reads-itself}
-use Rattle.archive.proofs.tape.FoldLaws.{put-other}
-use Rattle.archive.proofs.sample.Tapes.{headers-elsewhere}
 use Rattle.archive.proofs.sample.ReadingExchange.{between, before, frame-read, end-said, reading-opened-on}
 use Rattle.archive.proofs.sample.GivenUpReading.{given-up-through}
-use Rattle.archive.proofs.sample.GivenUpAdded.{afterMark, resumedStart, resumedOpened, resumedWritten, resumedLeft, resumed-valid}
+use Rattle.archive.proofs.sample.FilemarkSession as session
+use Rattle.archive.proofs.sample.GivenUpAdded.{resumedStart, resumedLeft, resumed-valid}
 
 pub resumed-reading-opened : openOf smallest (headerFrame resumedClosing) ≡ record { session = fresh (toldOf resumedClosing); number = 0 }
 resumed-reading-opened = reading-opened-on smallest 3000 refl resumedClosing (lit< tt) (lit< tt) (lit< tt) (lit< tt) (lit< tt) resumed-valid
@@ -58,12 +55,7 @@ module _ (b : List ℕ) where
 
   -- as it was left before, but for what was written
   as-left : (a : ℕ) → 10 ≤ a → a < 2815 → left a ≡ resumedStart b .tape a
-  as-left a low high =
-      let t : Tape = resumedOpened b .tape in
-      headers-elsewhere resumedClosing (resumedWritten b) a (inl (low, omega arith))
-      ∙ put-other (afterMark t) 2816 (some (elementFrame resumedEod blank)) a (λ e. omega arith)
-      ∙ put-other t 2815 (some (elementFrame resumedFilemark blank)) a (λ e. omega arith)
-      ∙ headers-elsewhere resumedOpening (resumedStart b) a (inl (low, omega arith))
+  as-left a low high = session.as-left resumedOpening 2815 1 noTrail (resumedStart b) (elementFrame resumedFilemark blank) (elementFrame resumedEod blank) resumedClosing a low high (lit< tt)
 
 -- ---- the list
 

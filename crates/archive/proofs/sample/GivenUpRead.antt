@@ -17,7 +17,7 @@ use Rattle.archive.specs.Demand.{on-none, Faithful, Readable}
 use Rattle.archive.specs.EndNamed.{EndsAt}
 use Rattle.archive.specs.Chain as chain
 use Rattle.archive.specs.Chain.{NoneAbove, ReadsBack, Adds, Continued, Chain, ReadTogether, Chains}
-use Rattle.archive.specs.Sample.{depth, blocks, window, smallest, tail, givenUpElements, givenUpClosing, givenUpCalls, givenUpReading, resumedElements, resumedClosing, resumedCalls, resumedReading}
+use Rattle.archive.specs.Sample.{depth, blocks, window, smallest, tail, givenUpElements, givenUpClosing, givenUpCalls, givenUpReading, resumedElements, resumedClosing, filemarkCalls, resumedReading}
 use Rattle.archive.proofs.tape.Basics.{none-some}
 use Rattle.archive.proofs.sample.Tapes.{empty, empty-cartridge, empty-bears-none}
 use Rattle.archive.proofs.sample.AddedRecording.{chain-continued}
@@ -94,7 +94,7 @@ module _ (b : List ℕ) (full : length b ≡ 32768) where
   resumed-chain : Chain smallest 3000 chain.afresh (resumedLeft b .tape) [] both
   resumed-chain =
       chain-continued smallest 3000 (givenUpLeft b .tape) (givenUpEnd b .notes ∷ []) given-up-chain (givenUpLeft b .at) resumedState (headerFrame givenUpClosing) (givenUpRead b) given-up-read-at (resumed-opened b) (given-up-newest b) none-above
-      resumedCalls (resumedEnd b) (resumed-runs b) refl refl
+      filemarkCalls (resumedEnd b) (resumed-runs b) refl refl
 
   -- of each session what is promised, and at most one more
   pub resumed-together : ReadTogether smallest 3000 (resumedLeft b .tape) [] both

@@ -1,11 +1,9 @@
 -- The reading of what the chain of three left, to its end: all elements in order. Assumes nothing.
 use Prim.Native.Nat.{ℕ, _<_, _≤_}
-use mathlib.Core.Path.{_≡_, refl, sym, subst, _∙_}
+use mathlib.Core.Path.{_≡_, refl, sym, subst}
 use mathlib.Core.Bool.{true, false}
 use mathlib.Core.List.{List, _++_}
-use mathlib.Core.Logic.{inl}
 use mathlib.Core.Option.{some}
-use native.Mathlib.Omega.{arith}
 use lib.Dec.{lit<}
 use lib.ListN.{length}
 use Rattle.geometry.specs.Place.{asAddress}
@@ -23,11 +21,10 @@ use Rattle.archive.specs.Readings.{World, Runs, started}
 use Rattle.archive.specs.Demand.{Faithful}
 use Rattle.archive.specs.Sample.{geometry, firstElements, addedElements, thirdOpening, thirdElements, thirdFilemark, thirdEod, thirdClosing, thirdReading}
 use Rattle.archive.proofs.tape.Basics.{reads-itself}
-use Rattle.archive.proofs.tape.FoldLaws.{put-other}
-use Rattle.archive.proofs.sample.Tapes.{headers-elsewhere}
 use Rattle.archive.proofs.sample.ReadingExchange.{between, before, frame-read, end-said, reading-opened}
 use Rattle.archive.proofs.sample.AddedReading.{addedTrail, added-through}
-use Rattle.archive.proofs.sample.ThirdRecording.{afterMark, thirdStart, thirdOpened, thirdWritten, thirdLeft, third-valid, third-newest, third-readable}
+use Rattle.archive.proofs.sample.FilemarkSession as session
+use Rattle.archive.proofs.sample.ThirdRecording.{thirdStart, thirdLeft, third-valid, third-newest, third-readable}
 
 pub third-reading-opened : openOf geometry (headerFrame thirdClosing) ≡ record { session = fresh (toldOf thirdClosing); number = 0 }
 third-reading-opened = reading-opened thirdClosing (lit< tt) (lit< tt) (lit< tt) (lit< tt) (lit< tt) third-valid
@@ -57,12 +54,7 @@ module _ (b : List ℕ) where
 
   -- as the two left it, but for what was written
   pub as-left : (a : ℕ) → 10 ≤ a → a < 81 → left a ≡ thirdStart b .tape a
-  as-left a low high =
-      let t : Tape = thirdOpened b .tape in
-      headers-elsewhere thirdClosing (thirdWritten b) a (inl (low, omega arith))
-      ∙ put-other (afterMark t) 82 (some (elementFrame thirdEod blank)) a (λ e. omega arith)
-      ∙ put-other t 81 (some (elementFrame thirdFilemark blank)) a (λ e. omega arith)
-      ∙ headers-elsewhere thirdOpening (thirdStart b) a (inl (low, omega arith))
+  as-left a low high = session.as-left thirdOpening 81 3 addedTrail (thirdStart b) (elementFrame thirdFilemark blank) (elementFrame thirdEod blank) thirdClosing a low high (lit< tt)
 
 -- ---- the list
 

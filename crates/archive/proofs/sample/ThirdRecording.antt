@@ -3,7 +3,6 @@ use Prim.Native.Nat.{ℕ}
 use mathlib.Core.Path.{_≡_, refl, ap}
 use mathlib.Core.Bool.{Bool, true}
 use mathlib.Core.List.{List, [], _∷_, _++_}
-use mathlib.Core.Option.{some}
 use lib.Dec.{lit<, lit≤}
 use lib.ListN.{length}
 use Rattle.geometry.specs.Place.{asAddress}
@@ -12,11 +11,9 @@ use Rattle.frame.specs.Header.{headerFrame}
 use Rattle.header.specs.Valid.{validHeader}
 use Rattle.header.proofs.Built.{built-valid}
 use Rattle.archive.specs.Conduct.{Drive}
-use Rattle.archive.specs.Tape.{Tape, put}
 use Rattle.drive.specs.declared.command.Command.the-variants.{Locate, ReadPosition}
 use Rattle.elements.specs.Trail.{trailOf}
 use Rattle.elements.specs.Reply as reply
-use Rattle.elements.specs.declared.elements.Elements.{Elements}
 use Rattle.recording_state.specs.Open.{startedAt, setupOf}
 use Rattle.recording_state.specs.State.{accepting}
 use Rattle.recording_state.specs.Written.{writtenFrame, writtenElement, elementOf}
@@ -28,13 +25,14 @@ use Rattle.archive.specs.Recordings.{Notes, World, Runs, started}
 use Rattle.archive.specs.Demand.{Readable}
 use Rattle.archive.specs.Chain as chain
 use Rattle.archive.specs.Chain.{Chain, acceptedIn, NoneGiven}
-use Rattle.archive.specs.Sample.{geometry, depth, blocks, window, firstElements, addedElements, addedClosing, addedReading, thirdOpening, thirdElements, thirdFilemark, thirdEod, thirdClosing, thirdCalls}
+use Rattle.archive.specs.Sample.{geometry, depth, blocks, window, firstElements, addedElements, addedClosing, addedReading, thirdOpening, thirdElements, thirdFilemark, thirdEod, thirdClosing, filemarkCalls}
 use Rattle.archive.proofs.sample.Exchange.{reported}
 use Rattle.archive.proofs.sample.Flush.{buffered}
-use Rattle.archive.proofs.sample.Headers.{writing, ending, finished, headersWritten, opening-written-at, closing-written}
+use Rattle.archive.proofs.sample.Headers.{writing, ending, finished, headersWritten}
 use Rattle.archive.proofs.sample.Tapes.{headers-newest}
-use Rattle.archive.proofs.sample.Filemark.{reaches, located, eodDue, eodOnTape, filemark-begun, filemark-written, eod-written}
-use Rattle.archive.proofs.sample.FirstRecording.{window-long, firstEnd}
+use Rattle.archive.proofs.sample.Filemark.{reaches, located, eodDue}
+use Rattle.archive.proofs.sample.FilemarkSession.{eodWritten, opened, written, filemark-runs}
+use Rattle.archive.proofs.sample.FirstRecording.{firstEnd}
 use Rattle.archive.proofs.sample.AddedRecording.{addedLeft, addedEnd, chain-continued, chain-readable, added-chain, added-newest, added-cartridge, added-clear}
 use Rattle.archive.proofs.sample.AddedReading.{addedTrail, addedRead, added-reading-opened, added-read}
 
@@ -47,40 +45,35 @@ pub third-opened : (b : List ℕ) → openAtEndOf (addedRead b .session) depth b
 unfolding openAtEndOf
 third-opened b = refl
 
--- ---- the elements: the filemark at 81, EOD behind it
+-- ---- the list
 
 abbrev pub marks : List Bool
 marks = located 11999 81 3 addedTrail .marks
 
-abbrev eodWritten : Elements
-eodWritten = eodOnTape 11999 81 3 81 addedTrail marks
-
--- ---- the tape, by what was written
-
-abbrev pub afterMark : Tape → Tape
-afterMark t = put t 81 (some (elementFrame thirdFilemark blank))
-
-abbrev pub afterEnd : Tape → Tape
-afterEnd t = put (afterMark t) 82 (some (elementFrame thirdEod blank))
-
--- the drive as the two left it, for which nothing is written yet; after the opening headers, after EOD, and at the end
+-- the drive as the two left it, for which nothing is written yet
 abbrev pub thirdStart : List ℕ → Drive
 thirdStart b = buffered (addedLeft b .tape) (addedLeft b .at) [] []
 
-abbrev pub thirdOpened : List ℕ → Drive
-thirdOpened b = headersWritten thirdOpening (thirdStart b)
+-- the filemark goes to 81, EOD behind it
+module _ (b : List ℕ) where
+  abbrev mark : List ℕ
+  mark = elementFrame thirdFilemark blank
 
-abbrev pub thirdWritten : List ℕ → Drive
-thirdWritten b = buffered (afterEnd (thirdOpened b .tape)) 83 (82 ∷ 81 ∷ thirdOpened b .written) []
+  abbrev eod : List ℕ
+  eod = elementFrame thirdEod blank
 
-abbrev pub thirdLeft : List ℕ → Drive
-thirdLeft b = headersWritten thirdClosing (thirdWritten b)
+  abbrev pub thirdOpened : Drive
+  thirdOpened = opened thirdOpening 81 3 addedTrail (thirdStart b) mark eod
 
--- the close has reported done
-abbrev pub thirdEnd : List ℕ → World
-thirdEnd b = reported window thirdElements (finished 0 thirdClosing eodWritten) (thirdLeft b)
+  abbrev thirdWritten : Drive
+  thirdWritten = written thirdOpening 81 3 addedTrail (thirdStart b) mark eod
 
--- ---- the list
+  abbrev pub thirdLeft : Drive
+  thirdLeft = headersWritten thirdClosing thirdWritten
+
+  -- the close has reported done
+  abbrev pub thirdEnd : World
+  thirdEnd = reported window thirdElements (finished 0 thirdClosing (eodWritten thirdOpening 81 3 addedTrail (thirdStart b) mark eod)) thirdLeft
 
 pub filemark-frame : writtenFrame (writing 0 thirdOpening (located 11999 81 3 addedTrail) (Locate (asAddress 81))) window ≡ elementFrame thirdFilemark blank
 unfolding writtenFrame writtenElement elementOf elementFrame trailOf
@@ -90,16 +83,9 @@ eod-frame : writtenFrame (ending 0 thirdOpening (eodDue 11999 81 3 81 addedTrail
 unfolding writtenFrame writtenElement elementOf elementFrame reply.confirmedOf trailOf
 eod-frame = refl
 
-pub third-runs : (b : List ℕ) → Runs (started thirdState window (thirdStart b)) thirdCalls (thirdEnd b)
+pub third-runs : (b : List ℕ) → Runs (started thirdState window (thirdStart b)) filemarkCalls (thirdEnd b)
 unfolding reply.confirmedOf
-third-runs b =
-    let t : Tape = thirdOpened b .tape in
-    let past : List ℕ = thirdOpened b .written in
-    opening-written-at 0 window window-long thirdOpening (asAddress 81) (record { 0 = 3 }) addedTrail (thirdStart b)
-    (filemark-begun 11999 81 3 addedTrail reaches thirdOpening (lit< tt) t (thirdOpened b .at) past
-    (filemark-written 11999 81 3 81 addedTrail marks thirdOpening reaches (lit< tt) thirdElements t past (elementFrame thirdFilemark blank) (Locate (asAddress 81)) filemark-frame
-    (eod-written 11999 81 3 81 addedTrail marks thirdOpening reaches (lit< tt) thirdElements (afterMark t) (81 ∷ past) (elementFrame thirdEod blank) eod-frame
-    (closing-written 0 window window-long thirdElements eodWritten thirdClosing (thirdWritten b)))))
+third-runs b = filemark-runs thirdOpening 81 3 addedTrail (thirdStart b) (elementFrame thirdFilemark blank) (elementFrame thirdEod blank) reaches (lit< tt) filemark-frame eod-frame
 
 -- ---- the chain of the three
 
@@ -119,7 +105,7 @@ module _ (b : List ℕ) (full : length b ≡ 32768) where
   pub third-chain : Chain geometry 11999 chain.afresh (thirdLeft b .tape) [] threeNotes
   third-chain =
       chain-continued geometry 11999 (addedLeft b .tape) (firstEnd b .notes ∷ addedEnd b .notes ∷ []) (added-chain b full) (addedLeft b .at) thirdState (headerFrame addedClosing) (addedRead b) added-read-at (third-opened b) (added-newest b) (added-clear b full)
-      thirdCalls (thirdEnd b) (third-runs b) refl refl
+      filemarkCalls (thirdEnd b) (third-runs b) refl refl
 
   pub none-given : NoneGiven threeNotes
   unfolding NoneGiven

@@ -78,9 +78,10 @@ cartridge-put last t a v low long c = record {
     at b f (yes e) q = long f (sym (put-same t a v) ∙ ap (put t a v) (sym e) ∙ q)
     at b f (no n) q = c .long b f (sym (put-other t a v b n) ∙ q)
 
--- a header's address is no user frame's
-pub seen-elsewhere : {last pass k edge : ℕ} {ps xs : List Element} {t : Tape} (a : ℕ) (v : Option (List ℕ)) → isUser last a ≡ false → Seen last pass ps xs k edge t → Seen last pass ps xs k edge (put t a v)
-seen-elsewhere {last} {pass} {edge = edge} {xs = xs} {t} a v u h = record {
+-- the same of another tape, or up to another address
+pub seen-as : {last pass k edge to : ℕ} {ps xs : List Element} {t u : Tape} (h : Seen last pass ps xs k edge t)
+    → Has xs (h .m) (foldOf (unending last pass) u to) → Quiet last pass (h .base) to u → Seen last pass ps xs k to u
+seen-as h seen quiet = record {
   base = h .base;
   m = h .m;
   floor = h .floor;
@@ -90,26 +91,22 @@ seen-elsewhere {last} {pass} {edge = edge} {xs = xs} {t} a v u h = record {
   top = h .top;
   few = h .few;
   prefix = h .prefix;
-  seen = subst (Has xs (h .m)) (sym (fold-put-other (unending last pass) t a v u edge)) (h .seen);
-  quiet = λ b f l w e. h .quiet b f l w (sym (put-other t a v b (λ q. true≢false (sym w ∙ ap (isUser last) q ∙ u))) ∙ e);
+  seen = seen;
+  quiet = quiet;
 }
+
+-- a header's address is no user frame's
+pub seen-elsewhere : {last pass k edge : ℕ} {ps xs : List Element} {t : Tape} (a : ℕ) (v : Option (List ℕ)) → isUser last a ≡ false → Seen last pass ps xs k edge t → Seen last pass ps xs k edge (put t a v)
+seen-elsewhere {last} {pass} {edge = edge} {xs = xs} {t} a v u h =
+    seen-as h (subst (Has xs (h .m)) (sym (fold-put-other (unending last pass) t a v u edge)) (h .seen))
+    (λ b f l w e. h .quiet b f l w (sym (put-other t a v b (λ q. true≢false (sym w ∙ ap (isUser last) q ∙ u))) ∙ e))
 
 module _ {last pass k : ℕ} {ps xs : List Element} {t : Tape} where
   -- a LOCATE further on
   pub seen-moves : {edge : ℕ} (target : ℕ) → edge ≤ target → Seen last pass ps xs k edge t → Seen last pass ps xs k target t
-  seen-moves {edge} target l h = record {
-    base = h .base;
-    m = h .m;
-    floor = h .floor;
-    low = h .low;
-    high = h .high;
-    most = h .most;
-    top = h .top;
-    few = h .few;
-    prefix = h .prefix;
-    seen = fold-quiet (unending last pass) t xs (h .m) edge target l (λ c f b _ w e. h .quiet c f b w e (h .m) (h .floor)) (h .seen);
-    quiet = λ c f b. h .quiet c f (omega arith);
-  }
+  seen-moves {edge} target l h =
+      seen-as h (fold-quiet (unending last pass) t xs (h .m) edge target l (λ c f b _ w e. h .quiet c f b w e (h .m) (h .floor)) (h .seen))
+      (λ c f b. h .quiet c f (omega arith))
 
   module _ (a : ℕ) (large : 3000 ≤ last) (here : isUser last a ≡ true) (h : Seen last pass ps xs k a t) (room : k ≤ length ps) where
     quiet-put : (v : Option (List ℕ)) → Quiet last pass (h .base) (a + 1) (put t a v)
@@ -192,19 +189,9 @@ module _ {last pass k : ℕ} {ps xs : List Element} {t : Tape} where
         }
 
     failed-with : (v : Option (List ℕ)) → ((f : List ℕ) → v ≡ some f → judgeFrame (unending last pass) (record { 0 = a }) (record { 0 = h .m }) f ≡ skipped) → Seen last pass ps xs k (a + 1) (put t a v)
-    failed-with v passed = record {
-      base = h .base;
-      m = h .m;
-      floor = h .floor;
-      low = h .low;
-      high = h .high;
-      most = h .most;
-      top = h .top;
-      few = h .few;
-      prefix = h .prefix;
-      seen = put-has v (look-quiet (unending last pass) a v xs (h .m) passed (h .seen));
-      quiet = quiet-put v;
-    }
+    failed-with v passed =
+        seen-as h (put-has v (look-quiet (unending last pass) a v xs (h .m) passed (h .seen)))
+        (quiet-put v)
 
     -- a failed address reads as before, as the new frame, or not at all
     pub seen-fails : (f : List ℕ) (v : Option (List ℕ)) → Stands last pass (itemAt ps k) k f → Left (t a) f v → Seen last pass ps xs k (a + 1) (put t a v)
