@@ -22,7 +22,8 @@ use Rattle.header.proofs.Facts.{valid-last}
 use Rattle.reading_state.specs.Open.{toldOf}
 use Rattle.judgement.specs.declared.told.Told.{Told}
 use Rattle.judgement.proofs.JudgeLaws.{found-told}
-use Rattle.judgement.specs.Judgement.{foundSaid}
+use Rattle.judgement.specs.Judgement as judgement
+use Rattle.judgement.specs.Judgement.{JudgementSaid, foundSaid}
 use Rattle.judgement.proofs.Facts.{FoundAs}
 use Rattle.judgement.proofs.JudgeView.{found-kind}
 use Rattle.drive.specs.declared.command.Command.the-variants.{Write}
@@ -118,13 +119,18 @@ module _ {last pass base : ℕ} {none-bears : Type 0} {t : Tape} {ps xs : List E
             (latest-map xs i (MarkerBelow last pass edge t) (FrameOn last pass t Marker) (markerNamed f) (λ j _ _ m. marker-on m) (y .names));
       }
 
+-- of any judgement, since comparing that of a frame with itself takes seconds
+kind-said : {j : JudgementSaid} (k kind : Kind) → j ≡ foundSaid kind → (j ≡ foundSaid k) ⊎ (j ≡ judgement.end) → (kind ≡ k) ⊎ (kind ≡ Eod)
+kind-said k kind said (inl z) = inl (found-kind k kind (sym said ∙ z))
+kind-said k kind said (inr z) = inr (found-kind Eod kind (sym said ∙ z))
+
 -- where current markers are below an address
 so-trails : {last pass : ℕ} {xs : List Element} {t : Tape} (edge : ℕ) → ((j b : ℕ) (f : List ℕ) → isUser last b ≡ true → t b ≡ some f → FoundAs (telling last pass 0) (record { 0 = j }) Marker f → b < edge) → Trails last pass xs t → TapeTrails last pass xs xs (length xs) edge t
 so-trails {last} {pass} {xs} {t} edge low x a i f kind u r q =
     subst (λ (n : ℕ). trailing.TapeSays last pass xs xs (length xs) edge t n kind f) (q .number)
     (let y = x a f kind u r (judged-so q) in
     let said = judged-so q in
-    record { among = y .among; upto = y .among; is = ⊎-elim (λ z. inl (found-kind _ kind (sym said ∙ z))) (λ z. inr (found-kind Eod kind (sym said ∙ z))) (y .is); counts = y .counts; names = latest-map xs (sequenceNumber f) (FrameOn last pass t Marker) (MarkerBelow last pass edge t) (markerNamed f) (λ j _ _ m. below j (markerNamed f) m) (y .names) })
+    record { among = y .among; upto = y .among; is = kind-said _ kind said (y .is); counts = y .counts; names = latest-map xs (sequenceNumber f) (FrameOn last pass t Marker) (MarkerBelow last pass edge t) (markerNamed f) (λ j _ _ m. below j (markerNamed f) m) (y .names) })
   where
     below : (j b : ℕ) → FrameOn last pass t Marker j b → MarkerBelow last pass edge t j b
     below j b m =

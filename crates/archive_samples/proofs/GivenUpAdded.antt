@@ -19,18 +19,18 @@ use Rattle.recording_state.specs.State.{accepting}
 use Rattle.recording_state.specs.Written.{writtenFrame, writtenElement, elementOf}
 use Rattle.recording_state.specs.declared.state.State.{State}
 use Rattle.adding_opening.specs.AtEnd.{openAtEndOf}
 use Rattle.archive.specs.Conduct.{Drive}
 use Rattle.archive.specs.Headers.{Newest}
 use Rattle.archive.specs.Recordings.{World, Runs, started}
-use Rattle.archive.specs.Sample.{depth, blocks, window, resumedOpening, resumedElements, resumedFilemark, resumedEod, resumedClosing, filemarkCalls}
-use Rattle.archive.proofs.sample.Exchange.{reported}
-use Rattle.archive.proofs.sample.Flush.{buffered}
-use Rattle.archive.proofs.sample.Headers.{writing, ending, finished, headersWritten}
-use Rattle.archive.proofs.sample.Tapes.{headers-newest}
-use Rattle.archive.proofs.sample.Filemark.{Reaches, located, eodDue}
-use Rattle.archive.proofs.sample.FilemarkSession.{eodWritten, written, filemark-runs}
-use Rattle.archive.proofs.sample.GivenUp.{givenUpLeft}
-use Rattle.archive.proofs.sample.GivenUpReading.{givenUpRead}
+use Rattle.archive_samples.specs.Sample.{depth, blocks, window, resumedOpening, resumedElements, resumedFilemark, resumedEod, resumedClosing, filemarkCalls}
+use Rattle.archive_samples.proofs.Exchange.{reported}
+use Rattle.archive_samples.proofs.Flush.{buffered}
+use Rattle.archive_samples.proofs.Headers.{writing, ending, finished, headersWritten}
+use Rattle.archive_samples.proofs.Tapes.{headers-newest}
+use Rattle.archive_samples.proofs.Filemark.{Reaches, located, eodDue}
+use Rattle.archive_samples.proofs.FilemarkSession.{eodWritten, written, filemark-runs}
+use Rattle.archive_samples.proofs.GivenUp.{givenUpLeft}
+use Rattle.archive_samples.proofs.GivenUpReading.{givenUpRead}
 
 -- ---- the opening
 

@@ -21,14 +21,14 @@ use Rattle.frame.specs.declared.header.Header.{Header}
 use Rattle.frame.proofs.AuxFields.{aux-pass}
 use Rattle.frame.proofs.Frames.{element-aux, element-length, header-length}
 use Rattle.header.specs.Valid.{validHeader, updateOf}
 use Rattle.archive.specs.Conduct.{Drive}
 use Rattle.archive.specs.Tape.{Tape, put, Cartridge}
 use Rattle.archive.specs.Headers.{Newest, NoHeader}
 use Rattle.archive.specs.Demand.{NoneBears}
 use Rattle.archive.proofs.tape.FoldLaws.{put-same, put-other}
 use Rattle.archive.proofs.tape.SeenLaws.{cartridge-put}
-use Rattle.archive.proofs.sample.Flush.{flushed}
-use Rattle.archive.proofs.sample.Headers.{groupWritten, headersWritten}
+use Rattle.archive_samples.proofs.Flush.{flushed}
+use Rattle.archive_samples.proofs.Headers.{groupWritten, headersWritten}
 
 some-same : {f g : List ℕ} → _≡_ {A = Option (List ℕ)} (some f) (some g) → f ≡ g
 some-same e = cc

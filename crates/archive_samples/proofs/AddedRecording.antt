@@ -34,25 +34,25 @@ use Rattle.recording_state.specs.declared.state.State.{State}
 use Rattle.reading_state.specs.State.{endOf}
 use Rattle.reading_state.specs.Open as reading
 use Rattle.adding_opening.specs.AtEnd.{openAtEndOf}
 use Rattle.archive.specs.Headers.{Newest}
 use Rattle.archive.specs.Recordings.{Element, Notes, World, Call, Runs, started}
 use Rattle.archive.specs.Readings as readings
 use Rattle.archive.specs.Demand.{on-none, Readable}
 use Rattle.archive.specs.Chain as chain
 use Rattle.archive.specs.Chain.{NoneAbove, Adds, Continued, Chain, acceptedIn, NoneGiven, ReadTogether, Chains}
-use Rattle.archive.specs.Sample.{geometry, depth, blocks, good, stopped, older, firstOpening, window, firstElements, firstBlock, firstFilemark, firstEod, firstClosing, firstCalls, firstReading, addedOpening, addedElements, addedError, addedFilemark, addedEod, addedClosing, addedCalls}
+use Rattle.archive_samples.specs.Sample.{geometry, depth, blocks, good, stopped, older, firstOpening, window, firstElements, firstBlock, firstFilemark, firstEod, firstClosing, firstCalls, firstReading, addedOpening, addedElements, addedError, addedFilemark, addedEod, addedClosing, addedCalls}
 use Rattle.archive.proofs.tape.Basics.{none-some}
 use Rattle.archive.proofs.tape.FoldLaws.{put-other}
-use Rattle.archive.proofs.sample.Exchange.{Step, reported}
-use Rattle.archive.proofs.sample.Flush.{buffered}
-use Rattle.archive.proofs.sample.Headers.{writing, ending, finished, headersWritten, opening-written-at, closing-written}
-use Rattle.archive.proofs.sample.Tapes.{empty, same-reads, headers-elsewhere, headers-newest}
-use Rattle.archive.proofs.sample.Elements.{element-failed}
-use Rattle.archive.proofs.sample.Filemark.{reaches, located, eodDue, eodOnTape, filemark-begun, filemark-taken, filemark-written, eod-written}
-use Rattle.archive.proofs.sample.FirstRecording.{window-long, afterFailure, afterBlock, afterFilemark, firstOpened, firstWritten, firstLeft, firstEnd, first-opened, first-runs, first-cartridge, first-on-none, first-bears-none, first-newest}
-use Rattle.archive.proofs.sample.FirstReading.{firstTrail, firstRead, first-reading-opened, first-read}
-use Rattle.archive.proofs.sample.SecondRecording.{second-cartridge}
+use Rattle.archive_samples.proofs.Exchange.{Step, reported}
+use Rattle.archive_samples.proofs.Flush.{buffered}
+use Rattle.archive_samples.proofs.Headers.{writing, ending, finished, headersWritten, opening-written-at, closing-written}
+use Rattle.archive_samples.proofs.Tapes.{empty, same-reads, headers-elsewhere, headers-newest}
+use Rattle.archive_samples.proofs.Elements.{element-failed}
+use Rattle.archive_samples.proofs.Filemark.{reaches, located, eodDue, eodOnTape, filemark-begun, filemark-taken, filemark-written, eod-written}
+use Rattle.archive_samples.proofs.FirstRecording.{window-long, afterFailure, afterBlock, afterFilemark, firstOpened, firstWritten, firstLeft, firstEnd, first-opened, first-runs, first-cartridge, first-on-none, first-bears-none, first-newest}
+use Rattle.archive_samples.proofs.FirstReading.{firstTrail, firstRead, first-reading-opened, first-read}
+use Rattle.archive_samples.proofs.SecondRecording.{second-cartridge}
 use Rattle.archive.proofs.Chain.{adds, chains}
 
 -- ---- the opening
 

@@ -15,17 +15,17 @@ use Rattle.elements.specs.Reply as reply
 use Rattle.elements.specs.declared.elements.Elements.{Elements}
 use Rattle.recording_state.specs.Open.{startedAt, setupOf}
 use Rattle.recording_state.specs.Written.{writtenFrame}
 use Rattle.archive.specs.Conduct.{Drive}
 use Rattle.archive.specs.Tape.{Tape, put}
 use Rattle.archive.specs.Recordings.{filemark, World, Runs, started}
-use Rattle.archive.specs.Sample.{depth, window, filemarkCalls}
+use Rattle.archive_samples.specs.Sample.{depth, window, filemarkCalls}
 use Rattle.archive.proofs.tape.FoldLaws.{put-other}
-use Rattle.archive.proofs.sample.Exchange.{reported}
-use Rattle.archive.proofs.sample.Flush.{buffered}
-use Rattle.archive.proofs.sample.Headers.{writing, ending, finished, headersWritten, opening-written-at, closing-written}
-use Rattle.archive.proofs.sample.Tapes.{headers-elsewhere}
-use Rattle.archive.proofs.sample.Filemark.{Reaches, located, eodDue, eodOnTape, filemark-begun, filemark-written, eod-written}
-use Rattle.archive.proofs.sample.FirstRecording.{window-long}
+use Rattle.archive_samples.proofs.Exchange.{reported}
+use Rattle.archive_samples.proofs.Flush.{buffered}
+use Rattle.archive_samples.proofs.Headers.{writing, ending, finished, headersWritten, opening-written-at, closing-written}
+use Rattle.archive_samples.proofs.Tapes.{headers-elsewhere}
+use Rattle.archive_samples.proofs.Filemark.{Reaches, located, eodDue, eodOnTape, filemark-begun, filemark-written, eod-written}
+use Rattle.archive_samples.proofs.FirstRecording.{window-long}
 
 -- its opening header, the address, number and trail that it begins with, the drive, and the frames of the filemark and of EOD
 module _ (h : Header) (a number : ℕ) (trail : Trail) (d : Drive) (mark eod : List ℕ) where

@@ -20,21 +20,21 @@ use Rattle.recording_state.specs.Written.{writtenFrame, writtenElement, element
 use Rattle.recording_state.specs.declared.state.State.{State}
 use Rattle.reading_state.specs.Open as reading
 use Rattle.adding_opening.specs.AtEnd.{openAtEndOf}
 use Rattle.archive.specs.Headers.{Newest}
 use Rattle.archive.specs.Recordings.{Notes, World, Runs, started}
 use Rattle.archive.specs.Demand.{Readable}
 use Rattle.archive.specs.Chain as chain
 use Rattle.archive.specs.Chain.{Chain, acceptedIn, NoneGiven}
-use Rattle.archive.specs.Sample.{geometry, depth, blocks, window, firstElements, addedElements, addedClosing, addedReading, thirdOpening, thirdElements, thirdFilemark, thirdEod, thirdClosing, filemarkCalls}
-use Rattle.archive.proofs.sample.Exchange.{reported}
-use Rattle.archive.proofs.sample.Flush.{buffered}
-use Rattle.archive.proofs.sample.Headers.{writing, ending, finished, headersWritten}
-use Rattle.archive.proofs.sample.Tapes.{headers-newest}
-use Rattle.archive.proofs.sample.Filemark.{reaches, located, eodDue}
-use Rattle.archive.proofs.sample.FilemarkSession.{eodWritten, opened, written, filemark-runs}
-use Rattle.archive.proofs.sample.FirstRecording.{firstEnd}
-use Rattle.archive.proofs.sample.AddedRecording.{addedLeft, addedEnd, chain-continued, chain-readable, added-chain, added-newest, added-cartridge, added-clear}
-use Rattle.archive.proofs.sample.AddedReading.{addedTrail, addedRead, added-reading-opened, added-read}
+use Rattle.archive_samples.specs.Sample.{geometry, depth, blocks, window, firstElements, addedElements, addedClosing, addedReading, thirdOpening, thirdElements, thirdFilemark, thirdEod, thirdClosing, filemarkCalls}
+use Rattle.archive_samples.proofs.Exchange.{reported}
+use Rattle.archive_samples.proofs.Flush.{buffered}
+use Rattle.archive_samples.proofs.Headers.{writing, ending, finished, headersWritten}
+use Rattle.archive_samples.proofs.Tapes.{headers-newest}
+use Rattle.archive_samples.proofs.Filemark.{reaches, located, eodDue}
+use Rattle.archive_samples.proofs.FilemarkSession.{eodWritten, opened, written, filemark-runs}
+use Rattle.archive_samples.proofs.FirstRecording.{firstEnd}
+use Rattle.archive_samples.proofs.AddedRecording.{addedLeft, addedEnd, chain-continued, chain-readable, added-chain, added-newest, added-cartridge, added-clear}
+use Rattle.archive_samples.proofs.AddedReading.{addedTrail, addedRead, added-reading-opened, added-read}
 
 -- ---- the opening
 

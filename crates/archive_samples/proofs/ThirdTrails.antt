@@ -24,26 +24,26 @@ use Rattle.judgement.proofs.Written.{found-written}
 use Rattle.drive.specs.declared.command.Command.the-variants.{Write, Locate}
 use Rattle.recording_state.specs.Fetch.{awaits}
 use Rattle.recording_state.specs.declared.state.State.{State}
 use Rattle.archive.specs.Conduct.{Drive, empty}
 use Rattle.archive.specs.Recordings.{Element, World, Call, accept-filemark, fetch, sent, Runs, stop, started}
 use Rattle.archive.specs.Chain as chain
 use Rattle.archive.specs.Chain.{acceptedIn}
 use Rattle.archive.specs.Trails.{itemAt, latestAmong, NamesLatest, markerNamed, sequenceNumber, FrameOn, StandsAt, InFlight, WritesNameMarkers, Trails, TrailsTogether, ChainsNameMarkers}
-use Rattle.archive.specs.Sample.{geometry, depth, blocks, frameElement, noMarker, window, frame, headerExchanges, exchanges, firstElements, firstFilemark, addedElements, addedClosing, thirdOpening, thirdElements, thirdFilemark, thirdClosing}
+use Rattle.archive_samples.specs.Sample.{geometry, depth, blocks, frameElement, noMarker, window, frame, headerExchanges, exchanges, firstElements, firstFilemark, addedElements, addedClosing, thirdOpening, thirdElements, thirdFilemark, thirdClosing}
 use Rattle.archive.proofs.tape.Basics.{reads-itself}
 use Rattle.archive.proofs.tape.Judged.{judged-so}
 use Rattle.archive.proofs.Trails.{writes-name-markers, chains-name-markers}
-use Rattle.archive.proofs.sample.Exchange.{world, between, given}
-use Rattle.archive.proofs.sample.Flush.{buffered}
-use Rattle.archive.proofs.sample.Headers.{writing, opening-written-at}
-use Rattle.archive.proofs.sample.Filemark.{reaches, located, filemark-begun, filemark-taken}
-use Rattle.archive.proofs.sample.FirstRecording.{window-long}
-use Rattle.archive.proofs.sample.FirstReading.{filemark-reads}
-use Rattle.archive.proofs.sample.AddedRecording.{addedLeft, added-cartridge}
-use Rattle.archive.proofs.sample.AddedReading as added
-use Rattle.archive.proofs.sample.AddedReading.{addedTrail, addedRead}
-use Rattle.archive.proofs.sample.ThirdRecording.{thirdState, marks, thirdStart, thirdOpened, third-opened, filemark-frame, added-read-at, threeNotes, third-chain, none-given, third-newest}
-use Rattle.archive.proofs.sample.ThirdReading.{left, third-reads, end-reads, as-left}
+use Rattle.archive_samples.proofs.Exchange.{world, between, given}
+use Rattle.archive_samples.proofs.Flush.{buffered}
+use Rattle.archive_samples.proofs.Headers.{writing, opening-written-at}
+use Rattle.archive_samples.proofs.Filemark.{reaches, located, filemark-begun, filemark-taken}
+use Rattle.archive_samples.proofs.FirstRecording.{window-long}
+use Rattle.archive_samples.proofs.FirstReading.{filemark-reads}
+use Rattle.archive_samples.proofs.AddedRecording.{addedLeft, added-cartridge}
+use Rattle.archive_samples.proofs.AddedReading as added
+use Rattle.archive_samples.proofs.AddedReading.{addedTrail, addedRead}
+use Rattle.archive_samples.proofs.ThirdRecording.{thirdState, marks, thirdStart, thirdOpened, third-opened, filemark-frame, added-read-at, threeNotes, third-chain, none-given, third-newest}
+use Rattle.archive_samples.proofs.ThirdReading.{left, third-reads, end-reads, as-left}
 
 -- ---- the tape
 

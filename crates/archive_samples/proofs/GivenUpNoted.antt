@@ -8,10 +8,10 @@ use Rattle.geometry.proofs.PickLaws.{pick-t}
 use Rattle.recording_state.specs.State.{OutcomeSaid, accepting}
 use Rattle.recording_state.specs.Accept.{isSpent, closeOf}
 use Rattle.recording_state.specs.declared.state.State.{State}
 use Rattle.archive.specs.Conduct.{Drive}
 use Rattle.archive.specs.Recordings as recordings
 use Rattle.archive.specs.Recordings.{Element, World, Call, accept-block, accept-filemark, close, fetch, reply, Calls, Moves, Runs, stop, call, drive}
-use Rattle.archive.proofs.sample.Exchange.{between}
+use Rattle.archive_samples.proofs.Exchange.{between}
 
 abbrev pub withGiven : ℕ → World → World
 withGiven n w = record {

@@ -21,17 +21,17 @@ use Rattle.judgement.specs.Judgement as judgement
 use Rattle.judgement.proofs.JudgeLaws.{one-below-so, found-told}
 use Rattle.judgement.proofs.Written.{found-written, judged-written}
 use Rattle.reading_state.specs.Open.{OpenedSaid, toldOf, fresh, openOf}
 use Rattle.archive.specs.Tape.{Tape, put}
 use Rattle.archive.specs.Trails.{namingNoEnd}
 use Rattle.archive.specs.Recordings.{block}
 use Rattle.archive.specs.Readings.{World, Call, Runs, started}
-use Rattle.archive.specs.Sample.{smallest, givenUpOpening, givenUpElements, givenUpBlock, givenUpEod, givenUpClosing, unreadables, throughGivenUp, givenUpReading}
+use Rattle.archive_samples.specs.Sample.{smallest, givenUpOpening, givenUpElements, givenUpBlock, givenUpEod, givenUpClosing, unreadables, throughGivenUp, givenUpReading}
 use Rattle.archive.proofs.tape.Basics.{reads-itself}
 use Rattle.archive.proofs.tape.FoldLaws.{put-other}
 use Rattle.archive.proofs.tape.WrittenFrames.{block-fits}
-use Rattle.archive.proofs.sample.Tapes.{same-reads, headers-elsewhere}
-use Rattle.archive.proofs.sample.ReadingExchange.{between, before, address-located, frame-read, addresses-missed, end-said, toldOn, reading-opened-on}
-use Rattle.archive.proofs.sample.GivenUp.{afterFailures, afterTen, afterEleven, givenUpStart, givenUpOpened, givenUpWritten, givenUpLeft, given-up-valid}
+use Rattle.archive_samples.proofs.Tapes.{same-reads, headers-elsewhere}
+use Rattle.archive_samples.proofs.ReadingExchange.{between, before, address-located, frame-read, addresses-missed, end-said, toldOn, reading-opened-on}
+use Rattle.archive_samples.proofs.GivenUp.{afterFailures, afterTen, afterEleven, givenUpStart, givenUpOpened, givenUpWritten, givenUpLeft, given-up-valid}
 
 pub given-up-reading-opened : openOf smallest (headerFrame givenUpClosing) ≡ record { session = fresh (toldOf givenUpClosing); number = 0 }
 given-up-reading-opened = reading-opened-on smallest 3000 refl givenUpClosing (lit< tt) (lit< tt) (lit< tt) (lit< tt) (lit< tt) given-up-valid

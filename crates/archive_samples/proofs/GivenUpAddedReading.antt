@@ -17,15 +17,15 @@ use Rattle.judgement.specs.declared.told.Told.{Told}
 use Rattle.judgement.specs.Judgement as judgement
 use Rattle.judgement.proofs.Written.{judged-written}
 use Rattle.reading_state.specs.Open.{OpenedSaid, toldOf, fresh, openOf}
 use Rattle.archive.specs.Tape.{Tape, put}
 use Rattle.archive.specs.Recordings.{Element}
 use Rattle.archive.specs.Readings.{World, Runs, started}
-use Rattle.archive.specs.Sample.{smallest, givenUpElements, resumedOpening, resumedElements, resumedFilemark, resumedEod, resumedClosing, resumedReading}
+use Rattle.archive_samples.specs.Sample.{smallest, givenUpElements, resumedOpening, resumedElements, resumedFilemark, resumedEod, resumedClosing, resumedReading}
 use Rattle.archive.proofs.tape.Basics.{reads-itself}
-use Rattle.archive.proofs.sample.ReadingExchange.{between, before, frame-read, end-said, reading-opened-on}
-use Rattle.archive.proofs.sample.GivenUpReading.{given-up-through}
-use Rattle.archive.proofs.sample.FilemarkSession as session
-use Rattle.archive.proofs.sample.GivenUpAdded.{resumedStart, resumedLeft, resumed-valid}
+use Rattle.archive_samples.proofs.ReadingExchange.{between, before, frame-read, end-said, reading-opened-on}
+use Rattle.archive_samples.proofs.GivenUpReading.{given-up-through}
+use Rattle.archive_samples.proofs.FilemarkSession as session
+use Rattle.archive_samples.proofs.GivenUpAdded.{resumedStart, resumedLeft, resumed-valid}
 
 pub resumed-reading-opened : openOf smallest (headerFrame resumedClosing) ≡ record { session = fresh (toldOf resumedClosing); number = 0 }
 resumed-reading-opened = reading-opened-on smallest 3000 refl resumedClosing (lit< tt) (lit< tt) (lit< tt) (lit< tt) (lit< tt) resumed-valid

@@ -26,13 +26,13 @@ use Rattle.recording_state.specs.Accept.{filemarkOf, closeOf}
 use Rattle.recording_state.specs.Due.{decisionOf}
 use Rattle.recording_state.specs.Written.{writtenFrame}
 use Rattle.recording_state.specs.Reply.{replyBy, replyOf}
 use Rattle.archive.specs.Recordings.{Element, filemark, World, Call, accept-filemark, close, Runs}
-use Rattle.archive.specs.Sample.{good, window, exchanges}
-use Rattle.archive.proofs.sample.Exchange.{Step, between, exchange, filemark-accepted, close-accepted}
-use Rattle.archive.proofs.sample.Flush.{buffered}
-use Rattle.archive.proofs.sample.Headers.{writing, ending, closing}
-use Rattle.archive.proofs.sample.Elements.{element-written}
-use Rattle.archive.proofs.sample.FirstRecording.{window-long}
+use Rattle.archive_samples.specs.Sample.{good, window, exchanges}
+use Rattle.archive_samples.proofs.Exchange.{Step, between, exchange, filemark-accepted, close-accepted}
+use Rattle.archive_samples.proofs.Flush.{buffered}
+use Rattle.archive_samples.proofs.Headers.{writing, ending, closing}
+use Rattle.archive_samples.proofs.Elements.{element-written}
+use Rattle.archive_samples.proofs.FirstRecording.{window-long}
 
 user-frame : (a : ℕ) → a < 2990 → eqb a 2990 ≡ false
 user-frame a low = ne-eqb a 2990 (λ e. omega arith)

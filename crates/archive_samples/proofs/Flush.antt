@@ -4,12 +4,12 @@ use mathlib.Core.Path.{refl}
 use mathlib.Core.Bool.{false}
 use mathlib.Core.List.{List, [], _∷_}
 use mathlib.Core.Option.{some}
 use Rattle.archive.specs.Conduct.{Drive, reads, writes}
 use Rattle.archive.specs.Tape.{Tape, put}
 use Rattle.recording_state.specs.declared.state.State.{State}
 use Rattle.archive.specs.Recordings.{Element, World, Call, Runs}
 use Rattle.archive.proofs.tape.Basics.{reads-itself}
-use Rattle.archive.proofs.sample.Exchange.{between, acting}
+use Rattle.archive_samples.proofs.Exchange.{between, acting}
 
 abbrev pub buffered : Tape → ℕ → List ℕ → List (List ℕ) → Drive
 buffered t at written frames = record { tape = t; at = at; buffer = frames; failed = false; written = written }

@@ -10,22 +10,22 @@ use Rattle.frame.specs.declared.header.Header.{Header}
 use Rattle.header.specs.Valid.{headerOf}
 use Rattle.header.proofs.Built.{built-fields}
 use Rattle.reading_state.specs.Open as reading
 use Rattle.archive.specs.Conduct as conduct
 use Rattle.archive.specs.Headers.{NoHeader}
 use Rattle.archive.specs.Recordings.{Element, Notes}
 use Rattle.archive.specs.Demand.{on-none, Faithful, Readable}
 use Rattle.archive.specs.EndNamed.{EndsAt}
 use Rattle.archive.specs.Chain as chain
 use Rattle.archive.specs.Chain.{NoneAbove, ReadsBack, Adds, Continued, Chain, ReadTogether, Chains}
-use Rattle.archive.specs.Sample.{depth, blocks, window, smallest, tail, givenUpElements, givenUpClosing, givenUpCalls, givenUpReading, resumedElements, resumedClosing, filemarkCalls, resumedReading}
+use Rattle.archive_samples.specs.Sample.{depth, blocks, window, smallest, tail, givenUpElements, givenUpClosing, givenUpCalls, givenUpReading, resumedElements, resumedClosing, filemarkCalls, resumedReading}
 use Rattle.archive.proofs.tape.Basics.{none-some}
-use Rattle.archive.proofs.sample.Tapes.{empty, empty-cartridge, empty-bears-none}
-use Rattle.archive.proofs.sample.AddedRecording.{chain-continued}
-use Rattle.archive.proofs.sample.GivenUp.{givenUpState, given-up-opened, givenUpStart, givenUpLeft, givenUpEnd, given-up-runs, given-up-newest}
-use Rattle.archive.proofs.sample.GivenUpReading.{given-up-reading-opened, givenUpRead, given-up-read}
-use Rattle.archive.proofs.sample.GivenUpAdded.{resumedState, resumed-opened, resumedLeft, resumedEnd, resumed-runs, resumed-newest}
-use Rattle.archive.proofs.sample.GivenUpAddedReading.{resumedRead, resumed-read}
+use Rattle.archive_samples.proofs.Tapes.{empty, empty-cartridge, empty-bears-none}
+use Rattle.archive_samples.proofs.AddedRecording.{chain-continued}
+use Rattle.archive_samples.proofs.GivenUp.{givenUpState, given-up-opened, givenUpStart, givenUpLeft, givenUpEnd, given-up-runs, given-up-newest}
+use Rattle.archive_samples.proofs.GivenUpReading.{given-up-reading-opened, givenUpRead, given-up-read}
+use Rattle.archive_samples.proofs.GivenUpAdded.{resumedState, resumed-opened, resumedLeft, resumedEnd, resumed-runs, resumed-newest}
+use Rattle.archive_samples.proofs.GivenUpAddedReading.{resumedRead, resumed-read}
 use Rattle.archive.proofs.Chain.{adds, chains}
 
 -- ---- the recording that gives up
 

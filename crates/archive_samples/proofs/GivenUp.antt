@@ -36,19 +36,19 @@ use Rattle.recording_state.specs.Fetch.{awaits}
 use Rattle.recording_state.specs.Reply.{elementReplyBy, replyBy, replyOf}
 use Rattle.recording_state.specs.declared.state.State.{State}
 use Rattle.recording_state.proofs.WindowLaws.{put-same-block}
 use Rattle.archive.specs.Conduct.{Drive, Answers, locates, takes, fails, as-new, reads, position-fails}
 use Rattle.archive.specs.Tape.{Tape, put}
 use Rattle.archive.specs.Headers.{Newest}
 use Rattle.archive.specs.Recordings.{World, Call, promised, fetch, reply, Runs, started}
-use Rattle.archive.specs.Sample.{depth, blocks, good, writeError, window, frame, windowWith, exchanges, headerExchanges, smallest, tail, givenUpOpening, givenUpElements, givenUpBlock, givenUpEod, givenUpClosing, failures, givenUpCalls}
+use Rattle.archive_samples.specs.Sample.{depth, blocks, good, writeError, window, frame, windowWith, exchanges, headerExchanges, smallest, tail, givenUpOpening, givenUpElements, givenUpBlock, givenUpEod, givenUpClosing, failures, givenUpCalls}
 use Rattle.archive.proofs.tape.Basics.{reads-itself}
-use Rattle.archive.proofs.sample.Exchange.{Step, between, reported, exchange, exchange-ended, acting, block-accepted}
-use Rattle.archive.proofs.sample.Flush.{buffered}
-use Rattle.archive.proofs.sample.Headers.{writing, ending, closing, finished, headersWritten, opening-written, closing-written}
-use Rattle.archive.proofs.sample.Tapes.{empty, headers-newest}
-use Rattle.archive.proofs.sample.Elements.{element-written, element-failed}
-use Rattle.archive.proofs.sample.FirstRecording.{window-long, stored-long}
-use Rattle.archive.proofs.sample.GivenUpNoted.{withGiven, close-given-up}
+use Rattle.archive_samples.proofs.Exchange.{Step, between, reported, exchange, exchange-ended, acting, block-accepted}
+use Rattle.archive_samples.proofs.Flush.{buffered}
+use Rattle.archive_samples.proofs.Headers.{writing, ending, closing, finished, headersWritten, opening-written, closing-written}
+use Rattle.archive_samples.proofs.Tapes.{empty, headers-newest}
+use Rattle.archive_samples.proofs.Elements.{element-written, element-failed}
+use Rattle.archive_samples.proofs.FirstRecording.{window-long, stored-long}
+use Rattle.archive_samples.proofs.GivenUpNoted.{withGiven, close-given-up}
 
 -- ---- the opening
 
