@@ -14,18 +14,18 @@ use Rattle.header.specs.Valid.{headerOf}
 use Rattle.header.proofs.Facts.{valid-last}
 use Rattle.recording_state.specs.declared.state.State.{State}
 use Rattle.reading_state.specs.Open.{toldOf}
-use Rattle.archive.specs.Tape.{Tape, Cartridge, SameFrames}
-use Rattle.archive.specs.Conduct.{Drive}
-use Rattle.archive.specs.Headers.{Newest}
-use Rattle.archive.specs.Fold.{finished, wholeOf}
-use Rattle.archive.specs.Recordings as recordings
-use Rattle.archive.specs.Recordings.{Element, promised}
+use Rattle.archive_lists.specs.Tape.{Tape, Cartridge, SameFrames}
+use Rattle.archive_lists.specs.Conduct.{Drive}
+use Rattle.archive_lists.specs.Headers.{Newest}
+use Rattle.archive_lists.specs.Fold.{finished, wholeOf}
+use Rattle.archive_lists.specs.Recordings as recordings
+use Rattle.archive_lists.specs.Recordings.{Element, promised}
 use Rattle.archive.specs.Demand.{Readable}
 use Rattle.archive.specs.Chain.{Start, fresh, added, earlierOf, OnItsNewest, AsItStands, NoneInTheWay, Read, Adds, Closed, Way, adding, wayOf, Chain, first, more, Together, one-more, none, acceptedIn, NoneGiven, ReadTogether, WithoutTails, Chains}
-use Rattle.archive.proofs.tape.FoldLaws.{fold-users}
+use Rattle.archive_lists.proofs.tape.FoldLaws.{fold-users}
 use Rattle.archive.proofs.Continued.{left-whole, readable, read-count, read-behind, leaves, start-kept, added-ended, continued}
-use Rattle.archive.proofs.recording.Noted.{noted}
-use Rattle.archive.proofs.recording.Setting.{Leaves}
+use Rattle.archive_lists.proofs.recording.Noted.{noted}
+use Rattle.archive_lists.proofs.recording.Setting.{Leaves}
 
 pub adds : Adds
 unfolding Adds

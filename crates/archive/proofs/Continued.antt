@@ -35,39 +35,41 @@ use Rattle.reading_state.specs.State.{isAtEnd, endOf}
 use Rattle.reading_state.specs.Open as reading
 use Rattle.reading_state.specs.Open.{toldOf}
 use Rattle.adding_opening.specs.AtEnd.{endsElsewhere, openAtEndOf}
-use Rattle.archive.specs.Tape.{Tape, Cartridge, SameFrames}
-use Rattle.archive.specs.Conduct.{Drive, AtRest}
-use Rattle.archive.specs.Headers.{Newest}
-use Rattle.archive.specs.Fold.{finished, wholeOf, ReadingIsFold}
-use Rattle.archive.specs.Recordings as recordings
-use Rattle.archive.specs.Recordings.{Element, promised}
-use Rattle.archive.specs.Readings as readings
-use Rattle.archive.specs.Demand.{Opening, opened, newPass, OnNewest, NoneBears, Faithful, Readable, Within}
+use Rattle.archive_lists.specs.Tape.{Tape, Cartridge, SameFrames}
+use Rattle.archive_lists.specs.Conduct.{Drive, AtRest, Within}
+use Rattle.archive_lists.specs.Headers.{Newest}
+use Rattle.archive_lists.specs.Fold.{finished, wholeOf, ReadingIsFold}
+use Rattle.archive_lists.specs.Recordings as recordings
+use Rattle.archive_lists.specs.Recordings.{Element, promised}
+use Rattle.archive_lists.specs.Readings as readings
+use Rattle.archive_lists.specs.Openings.{Opening, opened, newPass, OnNewest, NoneBears}
+use Rattle.archive_lists.specs.Faithful.{Faithful}
+use Rattle.archive.specs.Demand.{Readable}
 use Rattle.archive.specs.Chain.{HasRead, HasRecorded, Start, fresh, added, earlierOf, OnItsNewest, AsItStands, NoneAbove, NoneInTheWay, Read, ReadsBack, Continued}
 use Rattle.archive.specs.EndNamed.{EndsAt}
-use Rattle.archive.proofs.tape.Basics.{promised-all}
-use Rattle.archive.proofs.tape.Seen.{Seen, Clean}
-use Rattle.archive.proofs.tape.Stands.{telling}
-use Rattle.archive.proofs.tape.FoldLaws.{fold-users}
-use Rattle.archive.proofs.tape.Ended.{EndsHere, fold-ended, ends-known}
-use Rattle.archive.proofs.reading.Invariant.{Ended}
-use Rattle.archive.proofs.reading.Promises.{AtEnd, at-end-so}
-use Rattle.archive.proofs.recording.Trailing.{Prior, Marked, Traces, priorOf}
-use Rattle.archive.proofs.recording.Setting.{Setting, HeadersLeft, Leaves}
-use Rattle.archive.proofs.recording.Invariant.{Inv, gaveUp, live, rejecting, spent, over}
-use Rattle.archive.proofs.recording.InvariantLaws.{flight-awaits, fetch-awaited}
-use Rattle.archive.proofs.recording.Start.{Started, started-as, starts-below, sets, pass-is, trail-none, opened-unspent, nothing-seen, nothing-borne, nothing-traced, begins}
+use Rattle.archive_lists.proofs.tape.Basics.{promised-all}
+use Rattle.archive_lists.proofs.tape.Seen.{Seen, Clean}
+use Rattle.archive_lists.proofs.tape.Stands.{telling}
+use Rattle.archive_lists.proofs.tape.FoldLaws.{fold-users}
+use Rattle.archive_lists.proofs.tape.Ended.{EndsHere, fold-ended, ends-known}
+use Rattle.archive_lists.proofs.reading.Invariant.{Ended}
+use Rattle.archive_lists.proofs.reading.Promises.{AtEnd, at-end-so}
+use Rattle.archive_lists.proofs.recording.Trailing.{Prior, Marked, Traces, priorOf}
+use Rattle.archive_lists.proofs.recording.Setting.{Setting, HeadersLeft, Leaves}
+use Rattle.archive_lists.proofs.recording.Invariant.{Inv, gaveUp, live, rejecting, spent, over}
+use Rattle.archive_lists.proofs.recording.InvariantLaws.{flight-awaits, fetch-awaited}
+use Rattle.archive_lists.proofs.recording.Start.{Started, started-as, starts-below, sets, pass-is, trail-none, opened-unspent, nothing-seen, nothing-borne, nothing-traced, begins}
 use Rattle.archive.proofs.recording.Added.{AddedView, at-end-facts, added-view, added-started, added-pass, added-traced, marker-low, added-below, added-seen, added-clean}
-use Rattle.archive.proofs.recording.Noted.{noted, runs-with}
-use Rattle.archive.proofs.recording.SetUp.{close-unspent, runs-unspent}
-use Rattle.archive.proofs.Refusals.{close-spent}
+use Rattle.archive_lists.proofs.recording.Noted.{noted, runs-with}
+use Rattle.archive_lists.proofs.recording.SetUp.{close-unspent, runs-unspent}
+use Rattle.archive_lists.proofs.Refusals.{close-spent}
 use Rattle.geometry.proofs.PickLaws.{pick-t}
-use Rattle.archive.proofs.recording.HeaderCopies.{Below}
-use Rattle.archive.proofs.recording.DriveMoves.{keeps-move}
-use Rattle.archive.proofs.recording.Calls.{keeps-call}
-use Rattle.archive.proofs.recording.Completion.{spent-first, user-some, ends-named, reported-rests, closes, completes, aims, opens}
+use Rattle.archive_lists.proofs.recording.HeaderCopies.{Below}
+use Rattle.archive_lists.proofs.recording.DriveMoves.{keeps-move}
+use Rattle.archive_lists.proofs.recording.Calls.{keeps-call}
+use Rattle.archive_lists.proofs.recording.Completion.{spent-first, user-some, ends-named, reported-rests, closes, completes, aims, opens}
 use Rattle.archive.proofs.recording.Named.{given-named, newest-named}
-use Rattle.archive.proofs.Fold.{Opens, reading-is-fold, reading-opened, reading-kept}
+use Rattle.archive_lists.proofs.Fold.{Opens, reading-is-fold, reading-opened, reading-kept}
 
 -- ---- the invariant holds after every list
 

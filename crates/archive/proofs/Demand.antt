@@ -1,7 +1,7 @@
 -- Demand 3 holds: the case of a fresh session without a tail of what holds however it was opened. Assumes nothing.
 use Rattle.archive.specs.Demand.{Demand3}
 use Rattle.archive.specs.Chain.{fresh}
-use Rattle.archive.proofs.recording.Start.{opened-tail}
+use Rattle.archive_lists.proofs.recording.Start.{opened-tail}
 use Rattle.archive.proofs.Continued.{continued}
 
 pub demand-3 : Demand3

@@ -5,10 +5,10 @@ use native.Mathlib.Omega.{arith}
 use lib.ListN.{length}
 use lib.Seq.{length-take-le}
 use Rattle.frame.specs.declared.header.Header.{Header}
-use Rattle.archive.specs.Tape.{Tape}
+use Rattle.archive_lists.specs.Tape.{Tape}
 use Rattle.archive.specs.EndNamed.{EndsAt, EndNamed}
-use Rattle.archive.specs.Recordings as recordings
-use Rattle.archive.specs.Recordings.{keptOf, promised}
+use Rattle.archive_lists.specs.Recordings as recordings
+use Rattle.archive_lists.specs.Recordings.{keptOf, promised}
 use Rattle.archive.specs.Chain.{fresh}
 use Rattle.archive.proofs.Continued.{continued}
 

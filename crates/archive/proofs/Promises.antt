@@ -5,12 +5,12 @@ use Rattle.elements.proofs.FormerLaws.{as-formerly}
 use Rattle.archive.specs.Promises.{Promises}
 use Rattle.archive.proofs.Demand.{demand-3}
 use Rattle.archive.proofs.EndNamed.{end-named}
-use Rattle.archive.proofs.Fold.{reading-is-fold, fold-of-user-frames}
+use Rattle.archive_lists.proofs.Fold.{reading-is-fold, fold-of-user-frames}
 use Rattle.archive.proofs.Chain.{adds, chains}
 use Rattle.archive.proofs.Trails.{writes-name-markers, chains-name-markers}
 use Rattle.archive.proofs.SentCommands.{commands-sent}
 use Rattle.archive.proofs.RepliesRefused.{replies-refused}
-use Rattle.archive.proofs.Refusals.{refused-calls}
+use Rattle.archive_lists.proofs.Refusals.{refused-calls}
 
 pub promises : Promises
 promises = record {

@@ -2,11 +2,11 @@
 use mathlib.Core.Bool.{true}
 use Rattle.archive.specs.Chain.{earlierOf}
 use Rattle.archive.specs.Exchanges.{RepliesRefused}
-use Rattle.archive.proofs.recording.Noted.{noted}
+use Rattle.archive_lists.proofs.recording.Noted.{noted}
 use Rattle.archive.proofs.recording.ListedReplies.{unlisted-8, unlawful-8, listed-not-8}
 use Rattle.archive.proofs.reading.ListedReplies.{reading-refuses}
 use Rattle.archive.proofs.Continued.{kept-after}
-use Rattle.archive.proofs.Fold.{reading-kept}
+use Rattle.archive_lists.proofs.Fold.{reading-kept}
 
 pub replies-refused : RepliesRefused
 replies-refused = record {

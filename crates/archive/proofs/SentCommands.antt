@@ -15,8 +15,8 @@ use Rattle.recording_state.proofs.FetchView.{FetchView, fetch-view}
 use Rattle.reading_state.specs.Fetch as reading
 use Rattle.reading_state.specs.declared.state.State.{State as Reading}
 use Rattle.reading_state.proofs.FetchView as reading-view
-use Rattle.archive.specs.Recordings as recordings
-use Rattle.archive.specs.Readings as readings
+use Rattle.archive_lists.specs.Recordings as recordings
+use Rattle.archive_lists.specs.Readings as readings
 use Rattle.archive.specs.Exchanges.{NamesCommand, CommandsSent}
 
 named : {number address : ℕ} {c : Command} → NamesCommand number address c → commandBy number address ≡ c

@@ -28,26 +28,27 @@ use Rattle.judgement.proofs.Facts.{FoundAs}
 use Rattle.judgement.proofs.JudgeView.{found-kind}
 use Rattle.drive.specs.declared.command.Command.the-variants.{Write}
 use Rattle.recording_state.specs.declared.state.State.{State}
-use Rattle.archive.specs.Tape.{Tape, Cartridge, SameFrames}
-use Rattle.archive.specs.Conduct.{Drive}
-use Rattle.archive.specs.Headers.{Newest}
-use Rattle.archive.specs.Recordings as recordings
-use Rattle.archive.specs.Recordings.{World, Element, promised}
+use Rattle.archive_lists.specs.Tape.{Tape, Cartridge, SameFrames}
+use Rattle.archive_lists.specs.Conduct.{Drive}
+use Rattle.archive_lists.specs.Headers.{Newest}
+use Rattle.archive_lists.specs.Recordings as recordings
+use Rattle.archive_lists.specs.Recordings.{World, Element, promised}
 use Rattle.archive.specs.Chain.{HasRecorded, Start, fresh, added, earlierOf, passOf, OnItsNewest, AsItStands, Closed, afresh, adding, wayOf, Chain, first, more, none}
-use Rattle.archive.specs.Trails.{itemAt, kindFor, NamesLatest, sequenceNumber, markerNamed, FrameOn, InFlight, WritesNameMarkers, Trails, ChainsNameMarkers}
-use Rattle.archive.proofs.tape.Marks.{filemarks-alike, latest-alike, latest-map}
-use Rattle.archive.proofs.tape.Stands.{telling}
-use Rattle.archive.proofs.tape.Judged.{judged-so, found-back, kind-same}
-use Rattle.archive.proofs.tape.Basics.{some-same}
-use Rattle.archive.proofs.tape.StandsLaws.{item-take}
-use Rattle.archive.proofs.tape.Ended.{element-delivered}
-use Rattle.archive.proofs.recording.Invariant.{Inv, live, rejecting, spent, over}
-use Rattle.archive.proofs.recording.ContentMoves.{user-low}
-use Rattle.archive.proofs.recording.Setting.{Leaves}
-use Rattle.archive.proofs.recording.Start.{pass-is}
-use Rattle.archive.proofs.recording.Noted.{noted}
-use Rattle.archive.proofs.recording.Trailing as trailing
-use Rattle.archive.proofs.recording.Trailing.{Prior, MarkerBelow, TapeTrails}
+use Rattle.archive_lists.specs.Filemarks.{itemAt, kindFor, NamesLatest, sequenceNumber, markerNamed}
+use Rattle.archive.specs.Trails.{FrameOn, InFlight, WritesNameMarkers, Trails, ChainsNameMarkers}
+use Rattle.archive_lists.proofs.tape.Marks.{filemarks-alike, latest-alike, latest-map}
+use Rattle.archive_lists.proofs.tape.Stands.{telling}
+use Rattle.archive_lists.proofs.tape.Judged.{judged-so, found-back, kind-same}
+use Rattle.archive_lists.proofs.tape.Basics.{some-same}
+use Rattle.archive_lists.proofs.tape.StandsLaws.{item-take}
+use Rattle.archive_lists.proofs.tape.Ended.{element-delivered}
+use Rattle.archive_lists.proofs.recording.Invariant.{Inv, live, rejecting, spent, over}
+use Rattle.archive_lists.proofs.recording.ContentMoves.{user-low}
+use Rattle.archive_lists.proofs.recording.Setting.{Leaves}
+use Rattle.archive_lists.proofs.recording.Start.{pass-is}
+use Rattle.archive_lists.proofs.recording.Noted.{noted}
+use Rattle.archive_lists.proofs.recording.Trailing as trailing
+use Rattle.archive_lists.proofs.recording.Trailing.{Prior, MarkerBelow, TapeTrails}
 use Rattle.archive.proofs.Continued.{startOf, kept-after, pass-kept, markers-low, start-kept, headers, left-whole, promised-behind, read-behind}
 use Rattle.archive.proofs.Chain.{nothing-whole, Left, Held, held-behind, closed-leaves, closed-count, closed-left, earlier-is}
 use Rattle.archive.proofs.recording.InFlight.{marker-on, goes-out}

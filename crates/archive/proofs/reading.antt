@@ -1,10 +1,1 @@
-pub mod Facts
-pub mod FoldTrails
-pub mod Bound
-pub mod Invariant
-pub mod Serves
-pub mod Fetches
-pub mod Replies
-pub mod Calls
-pub mod Promises
 pub mod ListedReplies

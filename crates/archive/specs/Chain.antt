@@ -20,13 +20,14 @@ use Rattle.recording_state.specs.declared.state.State.{State}
 use Rattle.reading_state.specs.State.{isAtEnd, endOf}
 use Rattle.reading_state.specs.Open as reading
 use Rattle.adding_opening.specs.AtEnd.{endsElsewhere, openAtEndOf}
-use Rattle.archive.specs.Tape.{Tape, Cartridge, SameFrames, Bears}
-use Rattle.archive.specs.Conduct.{Drive, AtRest}
-use Rattle.archive.specs.Headers.{Newest}
-use Rattle.archive.specs.Recordings as recordings
-use Rattle.archive.specs.Recordings.{Element, keptOf, promised}
-use Rattle.archive.specs.Readings as readings
-use Rattle.archive.specs.Demand.{Opening, opened, OnNewest, newPass, NoneBears, Readable, Within}
+use Rattle.archive_lists.specs.Tape.{Tape, Cartridge, SameFrames, Bears}
+use Rattle.archive_lists.specs.Conduct.{Drive, AtRest, Within}
+use Rattle.archive_lists.specs.Headers.{Newest}
+use Rattle.archive_lists.specs.Recordings as recordings
+use Rattle.archive_lists.specs.Recordings.{Element, keptOf, promised}
+use Rattle.archive_lists.specs.Readings as readings
+use Rattle.archive_lists.specs.Openings.{Opening, opened, OnNewest, newPass, NoneBears}
+use Rattle.archive.specs.Demand.{Readable}
 use Rattle.archive.specs.EndNamed.{EndsAt}
 
 -- where a list of a reading's calls on a cartridge of the geometry has come, from its opening on a header

@@ -18,10 +18,10 @@ use Rattle.recording_state.specs.Lawful.{Lawful}
 use Rattle.recording_state.specs.declared.state.State.{State}
 use Rattle.reading_state.specs.Fetch as reading
 use Rattle.reading_state.specs.declared.state.State.{State as Reading}
-use Rattle.archive.specs.Tape.{Tape}
-use Rattle.archive.specs.Conduct.{Drive}
-use Rattle.archive.specs.Recordings as recordings
-use Rattle.archive.specs.Readings as readings
+use Rattle.archive_lists.specs.Tape.{Tape}
+use Rattle.archive_lists.specs.Conduct.{Drive}
+use Rattle.archive_lists.specs.Recordings as recordings
+use Rattle.archive_lists.specs.Readings as readings
 use Rattle.archive.specs.Chain.{HasRead, HasRecorded, Start}
 
 -- ---- the command that a fetch answers is the one that goes to the drive

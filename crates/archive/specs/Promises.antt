@@ -4,11 +4,11 @@ use Rattle.header.specs.ReadBack.{HeaderReadBack}
 use Rattle.elements.specs.Former.{AsFormerly}
 use Rattle.archive.specs.Demand.{Demand3}
 use Rattle.archive.specs.EndNamed.{EndNamed}
-use Rattle.archive.specs.Fold.{ReadingIsFold, FoldOfUserFrames}
+use Rattle.archive_lists.specs.Fold.{ReadingIsFold, FoldOfUserFrames}
 use Rattle.archive.specs.Chain.{Adds, Chains}
 use Rattle.archive.specs.Trails.{WritesNameMarkers, ChainsNameMarkers}
 use Rattle.archive.specs.Exchanges.{CommandsSent, RepliesRefused}
-use Rattle.archive.specs.Refusals.{RefusedCalls}
+use Rattle.archive_lists.specs.Refusals.{RefusedCalls}
 
 pub record Promises : Type 0 where
   -- 00, demand 1: what a refused call leaves; 01, "Replies": which replies are refused with 8

@@ -1,90 +1,32 @@
 -- 01, "AUX bytes", over whole lists: each frame's number and kind, the filemarks before it (192-195) and the address of the latest earlier marker (200-203);
 -- and that the drive puts a WRITE's frame where the WRITE says. The ground of 02, Card 5.
-use Prim.Native.Nat.{ℕ, zero, suc, _+_, _^_, _≤_, _<_}
+use Prim.Native.Nat.{ℕ, _+_, _^_, _≤_, _<_}
 use mathlib.Core.Path.{_≡_}
-use mathlib.Core.Bool.{Bool, true, false}
-use mathlib.Core.List.{List, [], _∷_, _++_}
+use mathlib.Core.Bool.{true, false}
+use mathlib.Core.List.{List, [], _++_}
 use mathlib.Core.Logic.{_⊎_}
-use mathlib.Core.Option.{Option, none, some}
-use lib.ListN.{length, getD, drop}
-use Rattle.geometry.specs.Pick.{pick}
-use Rattle.geometry.specs.Place.{address, asAddress, asSeq}
+use mathlib.Core.Option.{some}
+use lib.ListN.{length, getD}
+use Rattle.geometry.specs.Place.{address}
 use Rattle.geometry.specs.Cartridge.{lastOf, isUser, isHeader}
 use Rattle.geometry.specs.declared.address.Address.{Address}
 use Rattle.geometry.specs.declared.cartridge.Geometry.{Geometry}
-use Rattle.buffer.specs.Bytes.{get32}
-use Rattle.frame.specs.Lengths.{dataLength}
 use Rattle.frame.specs.declared.element.Kind.{Kind}
-use Rattle.frame.specs.declared.element.Kind.the-variants.{Data, Marker, Eod}
+use Rattle.frame.specs.declared.element.Kind.the-variants.{Marker}
 use Rattle.header.specs.Valid.{headerOf}
 use Rattle.judgement.specs.Judgement as judgement
-use Rattle.judgement.specs.Judgement.{JudgementSaid, foundSaid, judgeFrame}
-use Rattle.judgement.specs.declared.told.Told.{Told}
+use Rattle.judgement.specs.Judgement.{foundSaid}
 use Rattle.drive.specs.declared.command.Command.the-variants.{Write}
 use Rattle.recording_state.specs.declared.state.State.{State}
-use Rattle.archive.specs.Tape.{Tape}
-use Rattle.archive.specs.Conduct.{Drive}
-use Rattle.archive.specs.Headers.{Newest}
-use Rattle.archive.specs.Recordings as recordings
-use Rattle.archive.specs.Recordings.{Element, block, filemark, promised}
+use Rattle.archive_lists.specs.Tape.{Tape}
+use Rattle.archive_lists.specs.Conduct.{Drive}
+use Rattle.archive_lists.specs.Headers.{Newest}
+use Rattle.archive_lists.specs.Recordings as recordings
+use Rattle.archive_lists.specs.Recordings.{Element, promised}
+use Rattle.archive_lists.specs.Filemarks.{itemAt, kindFor, filemarksAmong, latestAmong, NamesLatest, sequenceNumber, filemarksBefore, markerNamed, judged}
 use Rattle.archive.specs.Chain.{HasRecorded, Start, earlierOf, passOf, AsItStands, afresh, Chain, ReadTogether}
 
--- ---- elements, which are numbered from 0
-
--- an element, or EOD behind the last
-pub data Item : Type 0 where
-  element : Element → Item
-  eod : Item
-
-unfoldable pub itemAt : List Element → ℕ → Item
-itemAt [] n = eod
-itemAt (x ∷ xs) zero = element x
-itemAt (x ∷ xs) (suc n) = itemAt xs n
-
-abbrev pub kindFor : Item → Kind
-kindFor (element (block b)) = Data
-kindFor (element filemark) = Marker
-kindFor eod = Eod
-
-abbrev pub isMarker : Item → Bool
-isMarker (element (block b)) = false
-isMarker (element filemark) = true
-isMarker eod = false
-
--- how many of the first n elements are filemarks
-unfoldable pub filemarksAmong : List Element → ℕ → ℕ
-filemarksAmong xs zero = 0
-filemarksAmong xs (suc n) = pick (isMarker (itemAt xs n)) (filemarksAmong xs n + 1) (filemarksAmong xs n)
-
--- the number of the latest filemark of the first n elements
-unfoldable pub latestAmong : List Element → ℕ → Option ℕ
-latestAmong xs zero = none
-latestAmong xs (suc n) = pick (isMarker (itemAt xs n)) (some n) (latestAmong xs n)
-
--- a name of that filemark: FF FF FF FF if there is none, else an address at which it is
-abbrev pub NamesLatest : Option ℕ → (ℕ → ℕ → Type 0) → ℕ → Type 0
-NamesLatest none IsAt name = name ≡ 0xFFFFFFFF
-NamesLatest (some j) IsAt name = IsAt j name
-
--- ---- frames: AUX 44-47, 192-195 and 200-203
-
-abbrev pub sequenceNumber : List ℕ → ℕ
-sequenceNumber frame = get32 (drop dataLength frame) 44
-
-abbrev pub filemarksBefore : List ℕ → ℕ
-filemarksBefore frame = get32 (drop dataLength frame) 192
-
-abbrev pub markerNamed : List ℕ → ℕ
-markerNamed frame = get32 (drop dataLength frame) 200
-
--- what a header tells that has this LAST and pass and names no end, as those that open a fresh recording: under it every EOD ends reading
-abbrev pub namingNoEnd : ℕ → ℕ → Told
-namingNoEnd last pass = record { last = asAddress last; pass = pass; eod = asAddress 0; old = asAddress 0; update = 0 }
-
--- 02, Card 5: what a frame is to a reading on such a header that expects the frame's own number. It is current if that is a block, a filemark or the end.
--- The address plays no part: only an EOD's is looked at, and here no EOD is an earlier end or one that the header names
-abbrev pub judged : ℕ → ℕ → List ℕ → JudgementSaid
-judged last pass frame = judgeFrame (namingNoEnd last pass) (asAddress 0) (asSeq (sequenceNumber frame)) frame
+-- ---- frames
 
 -- a current frame of this kind with number j
 pub record IsFrame (last pass : ℕ) (kind : Kind) (j : ℕ) (frame : List ℕ) : Type 0 where

@@ -14,18 +14,18 @@ use Rattle.frame.specs.Header.{headerFrame}
 use Rattle.frame.specs.Trail.{noTrail}
 use Rattle.frame.specs.declared.trail.Trail.{Trail}
 use Rattle.frame.proofs.Frames.{element-length}
-use Rattle.archive.specs.Tape.{Tape, put}
+use Rattle.archive_lists.specs.Tape.{Tape, put}
 use Rattle.drive.specs.declared.command.Command.the-variants.{Read, Locate, ReadPosition}
 use Rattle.judgement.specs.declared.told.Told.{Told}
 use Rattle.judgement.specs.Judgement as judgement
 use Rattle.judgement.proofs.Written.{judged-written, judged-earlier}
 use Rattle.reading_state.specs.Open.{OpenedSaid, toldOf, fresh, openOf}
-use Rattle.archive.specs.Recordings.{Element}
-use Rattle.archive.specs.Readings.{World, Call, Runs, started}
-use Rattle.archive.specs.Demand.{Faithful}
+use Rattle.archive_lists.specs.Recordings.{Element}
+use Rattle.archive_lists.specs.Readings.{World, Call, Runs, started}
+use Rattle.archive_lists.specs.Faithful.{Faithful}
 use Rattle.archive_samples.specs.Sample.{geometry, firstElements, firstEod, addedOpening, addedElements, addedFilemark, addedEod, addedClosing, throughAdded, addedReading}
-use Rattle.archive.proofs.tape.Basics.{reads-itself}
-use Rattle.archive.proofs.tape.FoldLaws.{put-other}
+use Rattle.archive_lists.proofs.tape.Basics.{reads-itself}
+use Rattle.archive_lists.proofs.tape.FoldLaws.{put-other}
 use Rattle.archive_samples.proofs.Tapes.{same-reads, headers-elsewhere}
 use Rattle.archive_samples.proofs.ReadingExchange.{between, before, address-located, frame-read, unreadable-skipped, blank-jumped, end-said, reading-opened}
 use Rattle.archive_samples.proofs.FirstReading.{toldAt, firstTrail, eod-reads, first-through}

@@ -16,10 +16,10 @@ use Rattle.frame.specs.Header.{headerFrame}
 use Rattle.frame.specs.declared.header.Header.{Header}
 use Rattle.header.specs.Valid.{validHeader, headerOf}
 use Rattle.header.proofs.Built.{built-valid, built-fields}
-use Rattle.archive.specs.Conduct as conduct
-use Rattle.archive.specs.Conduct.{Drive}
+use Rattle.archive_lists.specs.Conduct as conduct
+use Rattle.archive_lists.specs.Conduct.{Drive}
 use Rattle.drive.specs.Senses.{meaningIn}
-use Rattle.archive.specs.Tape.{Tape, put, Cartridge}
+use Rattle.archive_lists.specs.Tape.{Tape, put, Cartridge}
 use Rattle.drive.specs.declared.command.Command.the-variants.{Write, Locate, ReadPosition}
 use Rattle.elements.specs.Trail.{trailOf}
 use Rattle.elements.specs.Due.{dueOf}
@@ -34,15 +34,16 @@ use Rattle.recording_state.specs.declared.state.State.{State}
 use Rattle.reading_state.specs.State.{endOf}
 use Rattle.reading_state.specs.Open as reading
 use Rattle.adding_opening.specs.AtEnd.{openAtEndOf}
-use Rattle.archive.specs.Headers.{Newest}
-use Rattle.archive.specs.Recordings.{Element, Notes, World, Call, Runs, started}
-use Rattle.archive.specs.Readings as readings
-use Rattle.archive.specs.Demand.{on-none, Readable}
+use Rattle.archive_lists.specs.Headers.{Newest}
+use Rattle.archive_lists.specs.Recordings.{Element, Notes, World, Call, Runs, started}
+use Rattle.archive_lists.specs.Readings as readings
+use Rattle.archive_lists.specs.Openings.{on-none}
+use Rattle.archive.specs.Demand.{Readable}
 use Rattle.archive.specs.Chain as chain
 use Rattle.archive.specs.Chain.{NoneAbove, Adds, Continued, Chain, acceptedIn, NoneGiven, ReadTogether, Chains}
 use Rattle.archive_samples.specs.Sample.{geometry, depth, blocks, good, stopped, older, firstOpening, window, firstElements, firstBlock, firstFilemark, firstEod, firstClosing, firstCalls, firstReading, addedOpening, addedElements, addedError, addedFilemark, addedEod, addedClosing, addedCalls}
-use Rattle.archive.proofs.tape.Basics.{none-some}
-use Rattle.archive.proofs.tape.FoldLaws.{put-other}
+use Rattle.archive_lists.proofs.tape.Basics.{none-some}
+use Rattle.archive_lists.proofs.tape.FoldLaws.{put-other}
 use Rattle.archive_samples.proofs.Exchange.{Step, reported}
 use Rattle.archive_samples.proofs.Flush.{buffered}
 use Rattle.archive_samples.proofs.Headers.{writing, ending, finished, headersWritten, opening-written-at, closing-written}

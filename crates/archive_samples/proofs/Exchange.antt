@@ -10,7 +10,7 @@ use Rattle.geometry.proofs.PickLaws.{pick-f}
 use Rattle.buffer.proofs.Agreement.{agree-same}
 use Rattle.buffer.specs.Bytes.{agree}
 use Rattle.frame.proofs.Frames.{header-length}
-use Rattle.archive.specs.Conduct.{Drive, Acts, Answers}
+use Rattle.archive_lists.specs.Conduct.{Drive, Acts, Answers}
 use Rattle.drive.specs.Command.{commandSaid}
 use Rattle.drive.specs.declared.command.Command.{Command}
 use Rattle.drive.specs.declared.reply.Reply.{Reply}
@@ -24,7 +24,7 @@ use Rattle.recording_state.specs.Fetch.{FetchedSaid, awaits, frameFor, sending,
 use Rattle.recording_state.specs.Reply.{replyOf}
 use Rattle.recording_state.specs.declared.state.State.{State}
 use Rattle.recording_state.proofs.FetchView.{fetch-decided, fetch-sends}
-use Rattle.archive.specs.Recordings.{Element, block, filemark, Flight, no-command, answered, World, Call, accept-block, accept-filemark, close, fetch, reply, refusal, returned, fetchNumber, flightAfter, reportedAfter, TakesEffect, Calls, refuses, accepts-block, accepts-filemark, closes, fetches, replies, acts, answers, Runs, stop, call, drive, windowAfter, sent, acceptedAfter}
+use Rattle.archive_lists.specs.Recordings.{Element, block, filemark, Flight, no-command, answered, World, Call, accept-block, accept-filemark, close, fetch, reply, refusal, returned, fetchNumber, flightAfter, reportedAfter, TakesEffect, Calls, refuses, accepts-block, accepts-filemark, closes, fetches, replies, acts, answers, Runs, stop, call, drive, windowAfter, sent, acceptedAfter}
 use Rattle.archive_samples.specs.Sample.{firstOpening, frame}
 
 pub framed : length frame ≡ 33280

@@ -11,9 +11,9 @@ use lib.Dec.{eqb, leb, lit<, lit≤}
 use Rattle.geometry.specs.Place.{asAddress, asSeq}
 use Rattle.frame.specs.declared.header.Header.{Header}
 use Rattle.frame.specs.declared.trail.Trail.{Trail}
-use Rattle.archive.specs.Conduct.{locates}
+use Rattle.archive_lists.specs.Conduct.{locates}
 use Rattle.drive.specs.Senses.{meaningIn}
-use Rattle.archive.specs.Tape.{Tape, put}
+use Rattle.archive_lists.specs.Tape.{Tape, put}
 use Rattle.drive.specs.declared.command.Command.{Command}
 use Rattle.drive.specs.declared.command.Command.the-variants.{Write, Locate, ReadPosition}
 use Rattle.carried_headers.specs.Carried.{closingOf}
@@ -26,7 +26,7 @@ use Rattle.recording_state.specs.Accept.{filemarkOf, closeOf}
 use Rattle.recording_state.specs.Due.{decisionOf}
 use Rattle.recording_state.specs.Written.{writtenFrame}
 use Rattle.recording_state.specs.Reply.{replyBy, replyOf}
-use Rattle.archive.specs.Recordings.{Element, filemark, World, Call, accept-filemark, close, Runs}
+use Rattle.archive_lists.specs.Recordings.{Element, filemark, World, Call, accept-filemark, close, Runs}
 use Rattle.archive_samples.specs.Sample.{good, window, exchanges}
 use Rattle.archive_samples.proofs.Exchange.{Step, between, exchange, filemark-accepted, close-accepted}
 use Rattle.archive_samples.proofs.Flush.{buffered}

@@ -15,11 +15,11 @@ use Rattle.elements.specs.Reply as reply
 use Rattle.elements.specs.declared.elements.Elements.{Elements}
 use Rattle.recording_state.specs.Open.{startedAt, setupOf}
 use Rattle.recording_state.specs.Written.{writtenFrame}
-use Rattle.archive.specs.Conduct.{Drive}
-use Rattle.archive.specs.Tape.{Tape, put}
-use Rattle.archive.specs.Recordings.{filemark, World, Runs, started}
+use Rattle.archive_lists.specs.Conduct.{Drive}
+use Rattle.archive_lists.specs.Tape.{Tape, put}
+use Rattle.archive_lists.specs.Recordings.{filemark, World, Runs, started}
 use Rattle.archive_samples.specs.Sample.{depth, window, filemarkCalls}
-use Rattle.archive.proofs.tape.FoldLaws.{put-other}
+use Rattle.archive_lists.proofs.tape.FoldLaws.{put-other}
 use Rattle.archive_samples.proofs.Exchange.{reported}
 use Rattle.archive_samples.proofs.Flush.{buffered}
 use Rattle.archive_samples.proofs.Headers.{writing, ending, finished, headersWritten, opening-written-at, closing-written}

@@ -13,7 +13,7 @@ use Rattle.frame.specs.declared.element.Kind.the-variants.{Data}
 use Rattle.frame.specs.Frame.{blank, elementFrame}
 use Rattle.frame.specs.Header.{headerFrame}
 use Rattle.frame.proofs.Frames.{element-length, element-data}
-use Rattle.archive.specs.Tape.{Tape, put}
+use Rattle.archive_lists.specs.Tape.{Tape, put}
 use Rattle.drive.specs.declared.command.Command.the-variants.{Read, Locate, ReadPosition}
 use Rattle.frame.specs.Trail.{noTrail}
 use Rattle.frame.specs.declared.trail.Trail.{Trail}
@@ -21,13 +21,13 @@ use Rattle.judgement.specs.declared.told.Told.{Told}
 use Rattle.judgement.specs.Judgement as judgement
 use Rattle.judgement.proofs.Written.{judged-written, judged-other-pass}
 use Rattle.reading_state.specs.Open.{OpenedSaid, toldOf, fresh, openOf}
-use Rattle.archive.specs.Recordings.{block, filemark}
-use Rattle.archive.specs.Readings.{World, Call, Runs, started}
-use Rattle.archive.specs.Demand.{Faithful}
+use Rattle.archive_lists.specs.Recordings.{block, filemark}
+use Rattle.archive_lists.specs.Readings.{World, Call, Runs, started}
+use Rattle.archive_lists.specs.Faithful.{Faithful}
 use Rattle.archive_samples.specs.Sample.{geometry, older, stopped, firstOpening, firstElements, firstBlock, firstFilemark, firstEod, firstClosing, throughFirst, firstReading}
-use Rattle.archive.proofs.tape.Basics.{reads-itself}
-use Rattle.archive.proofs.tape.FoldLaws.{put-other}
-use Rattle.archive.proofs.tape.WrittenFrames.{block-fits}
+use Rattle.archive_lists.proofs.tape.Basics.{reads-itself}
+use Rattle.archive_lists.proofs.tape.FoldLaws.{put-other}
+use Rattle.archive_lists.proofs.tape.WrittenFrames.{block-fits}
 use Rattle.archive_samples.proofs.Tapes.{empty, same-reads, headers-elsewhere}
 use Rattle.archive_samples.proofs.ReadingExchange.{between, before, address-located, address-located-again, frame-read, unreadable-skipped, blank-jumped, end-said, toldOn, reading-opened}
 use Rattle.archive_samples.proofs.FirstRecording.{older-fits, afterFailure, afterBlock, afterFilemark, firstOpened, firstWritten, firstLeft, first-valid, first-newest, first-readable}

@@ -15,10 +15,10 @@ use Rattle.frame.specs.declared.element.Kind.the-variants.{Data, Eod}
 use Rattle.frame.proofs.Frames.{data-length}
 use Rattle.header.specs.Valid.{validHeader, headerOf}
 use Rattle.header.proofs.Built.{built-valid}
-use Rattle.archive.specs.Conduct as conduct
-use Rattle.archive.specs.Conduct.{Drive, locates, waits}
+use Rattle.archive_lists.specs.Conduct as conduct
+use Rattle.archive_lists.specs.Conduct.{Drive, locates, waits}
 use Rattle.drive.specs.Senses.{meaningIn}
-use Rattle.archive.specs.Tape.{Tape, put, Cartridge}
+use Rattle.archive_lists.specs.Tape.{Tape, put, Cartridge}
 use Rattle.drive.specs.declared.command.Command.the-variants.{Write, Locate, ReadPosition}
 use Rattle.elements.specs.Elements as elements
 use Rattle.elements.specs.Trail.{trailOf}
@@ -33,16 +33,17 @@ use Rattle.recording_state.specs.Written.{writtenFrame, writtenElement, element
 use Rattle.recording_state.specs.Fetch.{awaits}
 use Rattle.recording_state.specs.Reply.{repeatedOf, replyBy, replyOf}
 use Rattle.recording_state.specs.declared.state.State.{State}
-use Rattle.archive.specs.Headers.{Newest, NoHeader}
-use Rattle.archive.specs.Recordings.{block, World, Call, accept-block, accept-filemark, close, fetch, reply, Runs, started}
-use Rattle.archive.specs.Demand.{NoneBears, newPass, on-none, Promised, Readable, Demand3}
+use Rattle.archive_lists.specs.Headers.{Newest, NoHeader}
+use Rattle.archive_lists.specs.Recordings.{block, World, Call, accept-block, accept-filemark, close, fetch, reply, Runs, started}
+use Rattle.archive_lists.specs.Openings.{NoneBears, newPass, on-none}
+use Rattle.archive.specs.Demand.{Promised, Readable, Demand3}
 use Rattle.archive.specs.EndNamed.{EndsAt, EndNamed}
 use Rattle.archive_samples.specs.Sample.{geometry, depth, blocks, good, busy, older, tape, stopped, firstOpening, window, frame, firstElements, windowWith, firstError, firstBlock, firstFilemark, firstEod, firstClosing, exchanges, firstCalls}
 use Rattle.archive_samples.proofs.Exchange.{Step, between, reported, exchange, block-accepted, filemark-accepted, close-accepted, filemark-refused, close-refused}
 use Rattle.archive_samples.proofs.Flush.{buffered}
 use Rattle.recording_state.proofs.WindowLaws.{put-length, put-same-block}
 use Rattle.archive_samples.proofs.Headers.{writing, ending, closing, finished, headersWritten, opening-written, closing-written}
-use Rattle.archive.proofs.tape.WrittenFrames.{block-fits}
+use Rattle.archive_lists.proofs.tape.WrittenFrames.{block-fits}
 use Rattle.archive_samples.proofs.Tapes.{empty, empty-cartridge, empty-bears-none, frame-on-none, frame-cartridge, frame-bears-none, headers-newest}
 use Rattle.archive_samples.proofs.Elements.{noneAccepted, element-written, element-failed}
 use Rattle.archive.proofs.Demand.{demand-3}

@@ -4,11 +4,11 @@ use mathlib.Core.Path.{refl}
 use mathlib.Core.Bool.{false}
 use mathlib.Core.List.{List, [], _∷_}
 use mathlib.Core.Option.{some}
-use Rattle.archive.specs.Conduct.{Drive, reads, writes}
-use Rattle.archive.specs.Tape.{Tape, put}
+use Rattle.archive_lists.specs.Conduct.{Drive, reads, writes}
+use Rattle.archive_lists.specs.Tape.{Tape, put}
 use Rattle.recording_state.specs.declared.state.State.{State}
-use Rattle.archive.specs.Recordings.{Element, World, Call, Runs}
-use Rattle.archive.proofs.tape.Basics.{reads-itself}
+use Rattle.archive_lists.specs.Recordings.{Element, World, Call, Runs}
+use Rattle.archive_lists.proofs.tape.Basics.{reads-itself}
 use Rattle.archive_samples.proofs.Exchange.{between, acting}
 
 abbrev pub buffered : Tape → ℕ → List ℕ → List (List ℕ) → Drive

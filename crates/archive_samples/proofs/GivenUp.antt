@@ -36,12 +36,12 @@ use Rattle.recording_state.specs.Fetch.{awaits}
 use Rattle.recording_state.specs.Reply.{elementReplyBy, replyBy, replyOf}
 use Rattle.recording_state.specs.declared.state.State.{State}
 use Rattle.recording_state.proofs.WindowLaws.{put-same-block}
-use Rattle.archive.specs.Conduct.{Drive, Answers, locates, takes, fails, as-new, reads, position-fails}
-use Rattle.archive.specs.Tape.{Tape, put}
-use Rattle.archive.specs.Headers.{Newest}
-use Rattle.archive.specs.Recordings.{World, Call, promised, fetch, reply, Runs, started}
+use Rattle.archive_lists.specs.Conduct.{Drive, Answers, locates, takes, fails, as-new, reads, position-fails}
+use Rattle.archive_lists.specs.Tape.{Tape, put}
+use Rattle.archive_lists.specs.Headers.{Newest}
+use Rattle.archive_lists.specs.Recordings.{World, Call, promised, fetch, reply, Runs, started}
 use Rattle.archive_samples.specs.Sample.{depth, blocks, good, writeError, window, frame, windowWith, exchanges, headerExchanges, smallest, tail, givenUpOpening, givenUpElements, givenUpBlock, givenUpEod, givenUpClosing, failures, givenUpCalls}
-use Rattle.archive.proofs.tape.Basics.{reads-itself}
+use Rattle.archive_lists.proofs.tape.Basics.{reads-itself}
 use Rattle.archive_samples.proofs.Exchange.{Step, between, reported, exchange, exchange-ended, acting, block-accepted}
 use Rattle.archive_samples.proofs.Flush.{buffered}
 use Rattle.archive_samples.proofs.Headers.{writing, ending, closing, finished, headersWritten, opening-written, closing-written}

@@ -19,9 +19,9 @@ use Rattle.recording_state.specs.State.{accepting}
 use Rattle.recording_state.specs.Written.{writtenFrame, writtenElement, elementOf}
 use Rattle.recording_state.specs.declared.state.State.{State}
 use Rattle.adding_opening.specs.AtEnd.{openAtEndOf}
-use Rattle.archive.specs.Conduct.{Drive}
-use Rattle.archive.specs.Headers.{Newest}
-use Rattle.archive.specs.Recordings.{World, Runs, started}
+use Rattle.archive_lists.specs.Conduct.{Drive}
+use Rattle.archive_lists.specs.Headers.{Newest}
+use Rattle.archive_lists.specs.Recordings.{World, Runs, started}
 use Rattle.archive_samples.specs.Sample.{depth, blocks, window, resumedOpening, resumedElements, resumedFilemark, resumedEod, resumedClosing, filemarkCalls}
 use Rattle.archive_samples.proofs.Exchange.{reported}
 use Rattle.archive_samples.proofs.Flush.{buffered}

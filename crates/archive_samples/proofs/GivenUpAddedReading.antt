@@ -17,11 +17,11 @@ use Rattle.judgement.specs.declared.told.Told.{Told}
 use Rattle.judgement.specs.Judgement as judgement
 use Rattle.judgement.proofs.Written.{judged-written}
 use Rattle.reading_state.specs.Open.{OpenedSaid, toldOf, fresh, openOf}
-use Rattle.archive.specs.Tape.{Tape, put}
-use Rattle.archive.specs.Recordings.{Element}
-use Rattle.archive.specs.Readings.{World, Runs, started}
+use Rattle.archive_lists.specs.Tape.{Tape, put}
+use Rattle.archive_lists.specs.Recordings.{Element}
+use Rattle.archive_lists.specs.Readings.{World, Runs, started}
 use Rattle.archive_samples.specs.Sample.{smallest, givenUpElements, resumedOpening, resumedElements, resumedFilemark, resumedEod, resumedClosing, resumedReading}
-use Rattle.archive.proofs.tape.Basics.{reads-itself}
+use Rattle.archive_lists.proofs.tape.Basics.{reads-itself}
 use Rattle.archive_samples.proofs.ReadingExchange.{between, before, frame-read, end-said, reading-opened-on}
 use Rattle.archive_samples.proofs.GivenUpReading.{given-up-through}
 use Rattle.archive_samples.proofs.FilemarkSession as session

@@ -10,15 +10,17 @@ use Rattle.frame.specs.declared.header.Header.{Header}
 use Rattle.header.specs.Valid.{headerOf}
 use Rattle.header.proofs.Built.{built-fields}
 use Rattle.reading_state.specs.Open as reading
-use Rattle.archive.specs.Conduct as conduct
-use Rattle.archive.specs.Headers.{NoHeader}
-use Rattle.archive.specs.Recordings.{Element, Notes}
-use Rattle.archive.specs.Demand.{on-none, Faithful, Readable}
+use Rattle.archive_lists.specs.Conduct as conduct
+use Rattle.archive_lists.specs.Headers.{NoHeader}
+use Rattle.archive_lists.specs.Recordings.{Element, Notes}
+use Rattle.archive_lists.specs.Openings.{on-none}
+use Rattle.archive_lists.specs.Faithful.{Faithful}
+use Rattle.archive.specs.Demand.{Readable}
 use Rattle.archive.specs.EndNamed.{EndsAt}
 use Rattle.archive.specs.Chain as chain
 use Rattle.archive.specs.Chain.{NoneAbove, ReadsBack, Adds, Continued, Chain, ReadTogether, Chains}
 use Rattle.archive_samples.specs.Sample.{depth, blocks, window, smallest, tail, givenUpElements, givenUpClosing, givenUpCalls, givenUpReading, resumedElements, resumedClosing, filemarkCalls, resumedReading}
-use Rattle.archive.proofs.tape.Basics.{none-some}
+use Rattle.archive_lists.proofs.tape.Basics.{none-some}
 use Rattle.archive_samples.proofs.Tapes.{empty, empty-cartridge, empty-bears-none}
 use Rattle.archive_samples.proofs.AddedRecording.{chain-continued}
 use Rattle.archive_samples.proofs.GivenUp.{givenUpState, given-up-opened, givenUpStart, givenUpLeft, givenUpEnd, given-up-runs, given-up-newest}

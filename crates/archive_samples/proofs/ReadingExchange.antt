@@ -19,12 +19,12 @@ use Rattle.frame.proofs.Frames.{header-length}
 use Rattle.header.specs.Valid.{validHeader}
 use Rattle.header.proofs.Built.{built-fields}
 use Rattle.header.proofs.ReadLaws.{valid-taken}
-use Rattle.archive.specs.Conduct.{Serves, locates, brings, misses, blanks}
+use Rattle.archive_lists.specs.Conduct.{Serves, locates, brings, misses, blanks}
 use Rattle.drive.specs.Command.{commandCode, commandAddress, commandBy}
 use Rattle.drive.specs.Listed.{Means}
 use Rattle.drive.specs.Senses as senses
 use Rattle.drive.specs.Senses.{meaningIn}
-use Rattle.archive.specs.Tape.{Tape}
+use Rattle.archive_lists.specs.Tape.{Tape}
 use Rattle.drive.specs.declared.command.Command.{Command}
 use Rattle.drive.specs.declared.command.Command.the-variants.{Read, Locate}
 use Rattle.drive.specs.declared.reply.Reply.{Reply}
@@ -36,9 +36,9 @@ use Rattle.reading_state.specs.Open.{toldOf, fresh, openFor, openOf}
 use Rattle.reading_state.specs.Fetch as fetch
 use Rattle.reading_state.specs.Reply as reply
 use Rattle.reading_state.specs.declared.state.State.{State as Reading}
-use Rattle.archive.specs.Recordings.{Element}
-use Rattle.archive.specs.Readings.{Flight, sent, answered, World, Call, fetching, replying, LentWith, withSession, fetchNumber, replyNumber, delivered, refusedAfter, repliesAfter, afterFetching, afterTaking, Calls, refuses, fetches, replies, serves, Runs, stop, call, drive, endAfter}
-use Rattle.archive.specs.Readings as readings
+use Rattle.archive_lists.specs.Recordings.{Element}
+use Rattle.archive_lists.specs.Readings.{Flight, sent, answered, World, Call, fetching, replying, LentWith, withSession, fetchNumber, replyNumber, delivered, refusedAfter, repliesAfter, afterFetching, afterTaking, Calls, refuses, fetches, replies, serves, Runs, stop, call, drive, endAfter}
+use Rattle.archive_lists.specs.Readings as readings
 use Rattle.archive_samples.specs.Sample.{geometry, frame, good, recovered, unreadable, endOfData, unreadables}
 use Rattle.archive_samples.proofs.Exchange.{framed}
 

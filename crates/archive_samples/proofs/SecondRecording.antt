@@ -18,10 +18,10 @@ use Rattle.header.specs.Read.{CheckedSaid}
 use Rattle.header.proofs.ReadLaws.{valid-taken}
 use Rattle.frame.proofs.HeaderFields.{header-pass}
 use Rattle.header.proofs.Built.{built-valid, built-fields}
-use Rattle.archive.specs.Conduct as conduct
-use Rattle.archive.specs.Conduct.{Drive}
+use Rattle.archive_lists.specs.Conduct as conduct
+use Rattle.archive_lists.specs.Conduct.{Drive}
 use Rattle.drive.specs.Senses.{meaningIn}
-use Rattle.archive.specs.Tape.{Tape, put, Cartridge}
+use Rattle.archive_lists.specs.Tape.{Tape, put, Cartridge}
 use Rattle.drive.specs.declared.command.Command.the-variants.{Write, Locate, ReadPosition}
 use Rattle.frame.specs.Trail.{noTrail}
 use Rattle.elements.specs.Trail.{trailOf}
@@ -34,14 +34,15 @@ use Rattle.recording_state.specs.State.{accepting, settledOf}
 use Rattle.recording_state.specs.Due.{decisionOf}
 use Rattle.recording_state.specs.Written.{writtenFrame, writtenElement, elementOf}
 use Rattle.recording_state.specs.Reply.{replyBy, replyOf}
-use Rattle.archive.specs.Headers.{Newest}
-use Rattle.archive.specs.Recordings.{World, Runs, started}
-use Rattle.archive.specs.Demand.{NoneBears, newPass, on-header, Promised, Readable, Demand3}
+use Rattle.archive_lists.specs.Headers.{Newest}
+use Rattle.archive_lists.specs.Recordings.{World, Runs, started}
+use Rattle.archive_lists.specs.Openings.{NoneBears, newPass, on-header}
+use Rattle.archive.specs.Demand.{Promised, Readable, Demand3}
 use Rattle.archive_samples.specs.Sample.{geometry, depth, blocks, good, stopped, firstOpening, window, firstBlock, firstFilemark, firstEod, firstClosing, secondOpening, secondElements, secondError, secondFilemark, secondEod, secondClosing, secondCalls}
 use Rattle.archive_samples.proofs.Exchange.{Step, reported, close-accepted}
 use Rattle.archive_samples.proofs.Flush.{buffered}
 use Rattle.archive_samples.proofs.Headers.{writing, ending, closing, finished, headersWritten, opening-written, closing-written}
-use Rattle.archive.proofs.tape.WrittenFrames.{block-fits}
+use Rattle.archive_lists.proofs.tape.WrittenFrames.{block-fits}
 use Rattle.archive_samples.proofs.Tapes.{frame-cartridge, frame-bears-none, same-cartridge, same-bears-none, headers-newest, headers-cartridge, headers-bear-none}
 use Rattle.archive_samples.proofs.Elements.{element-written, element-failed}
 use Rattle.archive_samples.proofs.Filemark.{reaches, located, onTape, eodDue, filemark-begun, filemark-written, close-called, eod-taken}

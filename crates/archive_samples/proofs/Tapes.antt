@@ -21,12 +21,12 @@ use Rattle.frame.specs.declared.header.Header.{Header}
 use Rattle.frame.proofs.AuxFields.{aux-pass}
 use Rattle.frame.proofs.Frames.{element-aux, element-length, header-length}
 use Rattle.header.specs.Valid.{validHeader, updateOf}
-use Rattle.archive.specs.Conduct.{Drive}
-use Rattle.archive.specs.Tape.{Tape, put, Cartridge}
-use Rattle.archive.specs.Headers.{Newest, NoHeader}
-use Rattle.archive.specs.Demand.{NoneBears}
-use Rattle.archive.proofs.tape.FoldLaws.{put-same, put-other}
-use Rattle.archive.proofs.tape.SeenLaws.{cartridge-put}
+use Rattle.archive_lists.specs.Conduct.{Drive}
+use Rattle.archive_lists.specs.Tape.{Tape, put, Cartridge}
+use Rattle.archive_lists.specs.Headers.{Newest, NoHeader}
+use Rattle.archive_lists.specs.Openings.{NoneBears}
+use Rattle.archive_lists.proofs.tape.FoldLaws.{put-same, put-other}
+use Rattle.archive_lists.proofs.tape.SeenLaws.{cartridge-put}
 use Rattle.archive_samples.proofs.Flush.{flushed}
 use Rattle.archive_samples.proofs.Headers.{groupWritten, headersWritten}
 

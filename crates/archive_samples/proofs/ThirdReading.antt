@@ -11,16 +11,16 @@ use Rattle.frame.specs.Frame.{blank, elementFrame}
 use Rattle.frame.specs.Header.{headerFrame}
 use Rattle.frame.specs.declared.trail.Trail.{Trail}
 use Rattle.frame.proofs.Frames.{element-length}
-use Rattle.archive.specs.Tape.{Tape, put}
+use Rattle.archive_lists.specs.Tape.{Tape, put}
 use Rattle.drive.specs.declared.command.Command.the-variants.{Read}
 use Rattle.judgement.specs.Judgement as judgement
 use Rattle.judgement.proofs.Written.{judged-written}
 use Rattle.reading_state.specs.Open.{OpenedSaid, toldOf, fresh, openOf}
-use Rattle.archive.specs.Recordings.{Element}
-use Rattle.archive.specs.Readings.{World, Runs, started}
-use Rattle.archive.specs.Demand.{Faithful}
+use Rattle.archive_lists.specs.Recordings.{Element}
+use Rattle.archive_lists.specs.Readings.{World, Runs, started}
+use Rattle.archive_lists.specs.Faithful.{Faithful}
 use Rattle.archive_samples.specs.Sample.{geometry, firstElements, addedElements, thirdOpening, thirdElements, thirdFilemark, thirdEod, thirdClosing, thirdReading}
-use Rattle.archive.proofs.tape.Basics.{reads-itself}
+use Rattle.archive_lists.proofs.tape.Basics.{reads-itself}
 use Rattle.archive_samples.proofs.ReadingExchange.{between, before, frame-read, end-said, reading-opened}
 use Rattle.archive_samples.proofs.AddedReading.{addedTrail, added-through}
 use Rattle.archive_samples.proofs.FilemarkSession as session

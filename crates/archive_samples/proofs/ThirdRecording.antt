@@ -10,7 +10,7 @@ use Rattle.frame.specs.Frame.{blank, elementFrame}
 use Rattle.frame.specs.Header.{headerFrame}
 use Rattle.header.specs.Valid.{validHeader}
 use Rattle.header.proofs.Built.{built-valid}
-use Rattle.archive.specs.Conduct.{Drive}
+use Rattle.archive_lists.specs.Conduct.{Drive}
 use Rattle.drive.specs.declared.command.Command.the-variants.{Locate, ReadPosition}
 use Rattle.elements.specs.Trail.{trailOf}
 use Rattle.elements.specs.Reply as reply
@@ -20,8 +20,8 @@ use Rattle.recording_state.specs.Written.{writtenFrame, writtenElement, element
 use Rattle.recording_state.specs.declared.state.State.{State}
 use Rattle.reading_state.specs.Open as reading
 use Rattle.adding_opening.specs.AtEnd.{openAtEndOf}
-use Rattle.archive.specs.Headers.{Newest}
-use Rattle.archive.specs.Recordings.{Notes, World, Runs, started}
+use Rattle.archive_lists.specs.Headers.{Newest}
+use Rattle.archive_lists.specs.Recordings.{Notes, World, Runs, started}
 use Rattle.archive.specs.Demand.{Readable}
 use Rattle.archive.specs.Chain as chain
 use Rattle.archive.specs.Chain.{Chain, acceptedIn, NoneGiven}

@@ -24,14 +24,15 @@ use Rattle.judgement.proofs.Written.{found-written}
 use Rattle.drive.specs.declared.command.Command.the-variants.{Write, Locate}
 use Rattle.recording_state.specs.Fetch.{awaits}
 use Rattle.recording_state.specs.declared.state.State.{State}
-use Rattle.archive.specs.Conduct.{Drive, empty}
-use Rattle.archive.specs.Recordings.{Element, World, Call, accept-filemark, fetch, sent, Runs, stop, started}
+use Rattle.archive_lists.specs.Conduct.{Drive, empty}
+use Rattle.archive_lists.specs.Recordings.{Element, World, Call, accept-filemark, fetch, sent, Runs, stop, started}
 use Rattle.archive.specs.Chain as chain
 use Rattle.archive.specs.Chain.{acceptedIn}
-use Rattle.archive.specs.Trails.{itemAt, latestAmong, NamesLatest, markerNamed, sequenceNumber, FrameOn, StandsAt, InFlight, WritesNameMarkers, Trails, TrailsTogether, ChainsNameMarkers}
+use Rattle.archive_lists.specs.Filemarks.{itemAt, latestAmong, NamesLatest, markerNamed, sequenceNumber}
+use Rattle.archive.specs.Trails.{FrameOn, StandsAt, InFlight, WritesNameMarkers, Trails, TrailsTogether, ChainsNameMarkers}
 use Rattle.archive_samples.specs.Sample.{geometry, depth, blocks, frameElement, noMarker, window, frame, headerExchanges, exchanges, firstElements, firstFilemark, addedElements, addedClosing, thirdOpening, thirdElements, thirdFilemark, thirdClosing}
-use Rattle.archive.proofs.tape.Basics.{reads-itself}
-use Rattle.archive.proofs.tape.Judged.{judged-so}
+use Rattle.archive_lists.proofs.tape.Basics.{reads-itself}
+use Rattle.archive_lists.proofs.tape.Judged.{judged-so}
 use Rattle.archive.proofs.Trails.{writes-name-markers, chains-name-markers}
 use Rattle.archive_samples.proofs.Exchange.{world, between, given}
 use Rattle.archive_samples.proofs.Flush.{buffered}

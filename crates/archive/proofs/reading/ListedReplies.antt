@@ -13,12 +13,12 @@ use Rattle.reading_state.specs.Reply as reply
 use Rattle.reading_state.specs.declared.state.State.{State as Reading}
 use Rattle.reading_state.proofs.ReplyView.{Taken}
 use Rattle.reading_state.proofs.ListedReplies.{taken-listed, listed-taken}
-use Rattle.archive.specs.Tape.{Tape}
-use Rattle.archive.specs.Readings as readings
-use Rattle.archive.specs.Readings.{World, refusal, replyNumber}
+use Rattle.archive_lists.specs.Tape.{Tape}
+use Rattle.archive_lists.specs.Readings as readings
+use Rattle.archive_lists.specs.Readings.{World, refusal, replyNumber}
 use Rattle.archive.specs.Exchanges.{ListedFor, ReadingRefuses}
-use Rattle.archive.proofs.reading.Serves.{none-sent}
-use Rattle.archive.proofs.reading.Invariant.{Under, Ordered, locates, crosses, reads, Agreed, under-way, ReadInv, under, over, halted}
+use Rattle.archive_lists.proofs.reading.Serves.{none-sent}
+use Rattle.archive_lists.proofs.reading.Invariant.{Under, Ordered, locates, crosses, reads, Agreed, under-way, ReadInv, under, over, halted}
 
 -- what a reading has sent, and awaits the reply to
 record Issued (s : Reading) (lent : List ℕ) (c : Command) : Type 0 where

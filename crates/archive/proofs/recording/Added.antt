@@ -34,24 +34,24 @@ use Rattle.reading_state.specs.State.{isAtEnd, endOf}
 use Rattle.reading_state.specs.Open.{toldOf}
 use Rattle.reading_state.specs.declared.state.State.{State as Reading}
 use Rattle.adding_opening.specs.AtEnd.{endsElsewhere, addedSession, openAtEndOf}
-use Rattle.archive.specs.Tape.{Tape, Cartridge, SameFrames}
-use Rattle.archive.specs.Headers.{Newest}
-use Rattle.archive.specs.Recordings.{Element}
-use Rattle.archive.specs.Fold.{going, finished, foldOf}
+use Rattle.archive_lists.specs.Tape.{Tape, Cartridge, SameFrames}
+use Rattle.archive_lists.specs.Headers.{Newest}
+use Rattle.archive_lists.specs.Recordings.{Element}
+use Rattle.archive_lists.specs.Fold.{going, finished, foldOf}
 use Rattle.archive.specs.Chain.{NoneAbove}
-use Rattle.archive.proofs.tape.Seen.{has, Seen, Quiet, Clean}
-use Rattle.archive.proofs.tape.Stands.{telling, unending}
-use Rattle.archive.proofs.tape.StandsLaws.{ends-telling}
-use Rattle.archive.proofs.tape.FoldLaws.{fold-alike}
-use Rattle.archive.proofs.tape.Ended.{EndsHere, fold-ended, ends-known}
-use Rattle.archive.proofs.reading.Facts.{Counts, fold-counts, Spread, fold-spread}
-use Rattle.archive.specs.Trails.{filemarksAmong, latestAmong, NamesLatest}
-use Rattle.archive.proofs.reading.FoldTrails.{Tracing, fold-traces}
-use Rattle.archive.proofs.reading.Invariant.{Ended}
-use Rattle.archive.proofs.recording.Trailing.{MarkerBelow, Marked, Traces, priorOf}
-use Rattle.archive.proofs.tape.Marks.{latest-map}
-use Rattle.archive.proofs.recording.HeaderCopies.{Below}
-use Rattle.archive.proofs.recording.Start.{Started, refused-accepting}
+use Rattle.archive_lists.proofs.tape.Seen.{has, Seen, Quiet, Clean}
+use Rattle.archive_lists.proofs.tape.Stands.{telling, unending}
+use Rattle.archive_lists.proofs.tape.StandsLaws.{ends-telling}
+use Rattle.archive_lists.proofs.tape.FoldLaws.{fold-alike}
+use Rattle.archive_lists.proofs.tape.Ended.{EndsHere, fold-ended, ends-known}
+use Rattle.archive_lists.proofs.reading.Facts.{Counts, fold-counts, Spread, fold-spread}
+use Rattle.archive_lists.specs.Filemarks.{filemarksAmong, latestAmong, NamesLatest}
+use Rattle.archive_lists.proofs.reading.FoldTrails.{Tracing, fold-traces}
+use Rattle.archive_lists.proofs.reading.Invariant.{Ended}
+use Rattle.archive_lists.proofs.recording.Trailing.{MarkerBelow, Marked, Traces, priorOf}
+use Rattle.archive_lists.proofs.tape.Marks.{latest-map}
+use Rattle.archive_lists.proofs.recording.HeaderCopies.{Below}
+use Rattle.archive_lists.proofs.recording.Start.{Started, refused-accepting}
 
 -- ---- an opening that was accepted
 

@@ -26,27 +26,28 @@ use Rattle.judgement.proofs.JudgeLaws.{other-pass}
 use Rattle.drive.specs.declared.command.Command.the-variants.{Write}
 use Rattle.recording_state.proofs.Kept.{heldOf}
 use Rattle.recording_state.proofs.Stages.{ElementStage}
-use Rattle.archive.specs.Tape.{Tape}
-use Rattle.archive.specs.Recordings as recordings
-use Rattle.archive.specs.Recordings.{World, Element, promised}
+use Rattle.archive_lists.specs.Tape.{Tape}
+use Rattle.archive_lists.specs.Recordings as recordings
+use Rattle.archive_lists.specs.Recordings.{World, Element, promised}
 use Rattle.archive.specs.Chain.{first}
-use Rattle.archive.specs.Trails.{itemAt, kindFor, filemarksAmong, latestAmong, NamesLatest, sequenceNumber, markerNamed, IsFrame, FrameOn, StandsAt, on-tape, held, StandsSomewhere, HeaderGoesOut, ElementGoesOut, InFlight}
-use Rattle.archive.proofs.tape.Marks.{isFilemark, kind-marker, latest-map}
-use Rattle.archive.proofs.tape.Stands.{telling}
-use Rattle.archive.proofs.tape.Judged.{judged-so}
-use Rattle.archive.proofs.tape.Basics.{none-sent, answered-sent}
-use Rattle.archive.proofs.recording.CopiesLink as copies
-use Rattle.archive.proofs.recording.CopiesLink.{Copying}
-use Rattle.archive.proofs.recording.CopiesMoves.{next-header}
-use Rattle.archive.proofs.recording.ContentMoves.{most}
-use Rattle.archive.proofs.recording.ElementsLink as elements
-use Rattle.archive.proofs.recording.ElementsLink.{Linked, Writing}
-use Rattle.archive.proofs.recording.Invariant as inv
-use Rattle.archive.proofs.recording.Invariant.{Course, Live, Inv, live, rejecting, spent, over}
-use Rattle.archive.proofs.recording.Setting.{Setting}
-use Rattle.archive.proofs.recording.Trailing as trailing
-use Rattle.archive.proofs.recording.Trailing.{Prior, MarkerBelow, Place, Buffered, holds, halted}
-use Rattle.archive.proofs.recording.TrailingLaws.{frames-at}
+use Rattle.archive_lists.specs.Filemarks.{itemAt, kindFor, filemarksAmong, latestAmong, NamesLatest, sequenceNumber, markerNamed}
+use Rattle.archive.specs.Trails.{IsFrame, FrameOn, StandsAt, on-tape, held, StandsSomewhere, HeaderGoesOut, ElementGoesOut, InFlight}
+use Rattle.archive_lists.proofs.tape.Marks.{isFilemark, kind-marker, latest-map}
+use Rattle.archive_lists.proofs.tape.Stands.{telling}
+use Rattle.archive_lists.proofs.tape.Judged.{judged-so}
+use Rattle.archive_lists.proofs.tape.Basics.{none-sent, answered-sent}
+use Rattle.archive_lists.proofs.recording.CopiesLink as copies
+use Rattle.archive_lists.proofs.recording.CopiesLink.{Copying}
+use Rattle.archive_lists.proofs.recording.CopiesMoves.{next-header}
+use Rattle.archive_lists.proofs.recording.ContentMoves.{most}
+use Rattle.archive_lists.proofs.recording.ElementsLink as elements
+use Rattle.archive_lists.proofs.recording.ElementsLink.{Linked, Writing}
+use Rattle.archive_lists.proofs.recording.Invariant as inv
+use Rattle.archive_lists.proofs.recording.Invariant.{Course, Live, Inv, live, rejecting, spent, over}
+use Rattle.archive_lists.proofs.recording.Setting.{Setting}
+use Rattle.archive_lists.proofs.recording.Trailing as trailing
+use Rattle.archive_lists.proofs.recording.Trailing.{Prior, MarkerBelow, Place, Buffered, holds, halted}
+use Rattle.archive_lists.proofs.recording.TrailingLaws.{frames-at}
 
 -- ---- markers
 

@@ -9,7 +9,7 @@ use lib.ListN.{length}
 use Rattle.geometry.specs.Cartridge.{isHeader}
 use Rattle.geometry.specs.declared.address.Address.{Address}
 use Rattle.geometry.proofs.Impossible.{never}
-use Rattle.archive.specs.Conduct.{Drive}
+use Rattle.archive_lists.specs.Conduct.{Drive}
 use Rattle.drive.specs.declared.command.Command.{Command}
 use Rattle.drive.specs.declared.command.Command.the-variants.{Read, Write}
 use Rattle.drive.specs.declared.reply.Reply.{Reply}
@@ -20,19 +20,19 @@ use Rattle.recording_state.proofs.Kept.{Held, heldOf}
 use Rattle.recording_state.proofs.ListedReplies.{OffHeaders, OnHeaders, unlisted-refused, listed-taken}
 use Rattle.recording_state.proofs.LawfulReplies.{unlawful-refused}
 use Rattle.recording_state.proofs.Stages.{HeaderStage, ElementStage, header-not-element}
-use Rattle.archive.specs.Recordings as recordings
-use Rattle.archive.specs.Recordings.{World, refusal}
+use Rattle.archive_lists.specs.Recordings as recordings
+use Rattle.archive_lists.specs.Recordings.{World, refusal}
 use Rattle.archive.specs.Exchanges.{ListedFor}
-use Rattle.archive.proofs.tape.Basics.{none-sent, answered-sent}
-use Rattle.archive.proofs.recording.Trailing.{Prior}
-use Rattle.archive.proofs.recording.CopiesLink as copies
-use Rattle.archive.proofs.recording.CopiesLink.{CopyAsks, Copying}
-use Rattle.archive.proofs.recording.CopiesMoves.{next-header}
-use Rattle.archive.proofs.recording.ElementsLink as elements
-use Rattle.archive.proofs.recording.ElementsLink.{Asks, Writing}
-use Rattle.archive.proofs.recording.ElementsMoves.{asks-off-header}
-use Rattle.archive.proofs.recording.Invariant as invariant
-use Rattle.archive.proofs.recording.Invariant.{Course, Live, Inv, live, rejecting, spent, over}
+use Rattle.archive_lists.proofs.tape.Basics.{none-sent, answered-sent}
+use Rattle.archive_lists.proofs.recording.Trailing.{Prior}
+use Rattle.archive_lists.proofs.recording.CopiesLink as copies
+use Rattle.archive_lists.proofs.recording.CopiesLink.{CopyAsks, Copying}
+use Rattle.archive_lists.proofs.recording.CopiesMoves.{next-header}
+use Rattle.archive_lists.proofs.recording.ElementsLink as elements
+use Rattle.archive_lists.proofs.recording.ElementsLink.{Asks, Writing}
+use Rattle.archive_lists.proofs.recording.ElementsMoves.{asks-off-header}
+use Rattle.archive_lists.proofs.recording.Invariant as invariant
+use Rattle.archive_lists.proofs.recording.Invariant.{Course, Live, Inv, live, rejecting, spent, over}
 
 -- what a session has sent, and awaits the reply to
 pub record Issued (s : State) (c : Command) : Type 0 where

@@ -23,17 +23,17 @@ use Rattle.recording_state.specs.declared.state.State.{State}
 use Rattle.recording_state.specs.declared.state.Stage.the-variants as S
 use Rattle.recording_state.proofs.FetchView as view
 use Rattle.recording_state.proofs.FetchView.{FetchView, fetch-view}
-use Rattle.archive.specs.Tape.{Tape}
-use Rattle.archive.specs.Headers.{Newest}
-use Rattle.archive.specs.Recordings as recordings
-use Rattle.archive.specs.Recordings.{Element, promised}
+use Rattle.archive_lists.specs.Tape.{Tape}
+use Rattle.archive_lists.specs.Headers.{Newest}
+use Rattle.archive_lists.specs.Recordings as recordings
+use Rattle.archive_lists.specs.Recordings.{Element, promised}
 use Rattle.archive.specs.EndNamed.{EndsAt}
-use Rattle.archive.proofs.tape.Basics.{reads-itself}
-use Rattle.archive.proofs.tape.StandsLaws.{eod-ends}
-use Rattle.archive.proofs.recording.Trailing.{Prior}
-use Rattle.archive.proofs.recording.Setting.{Setting, EodAt}
-use Rattle.archive.proofs.recording.Invariant.{Inv, live, rejecting, spent, over}
-use Rattle.archive.proofs.recording.Completion.{copy-fields, ends-named, user-some, closes, reported-floor}
+use Rattle.archive_lists.proofs.tape.Basics.{reads-itself}
+use Rattle.archive_lists.proofs.tape.StandsLaws.{eod-ends}
+use Rattle.archive_lists.proofs.recording.Trailing.{Prior}
+use Rattle.archive_lists.proofs.recording.Setting.{Setting, EodAt}
+use Rattle.archive_lists.proofs.recording.Invariant.{Inv, live, rejecting, spent, over}
+use Rattle.archive_lists.proofs.recording.Completion.{copy-fields, ends-named, user-some, closes, reported-floor}
 
 -- EOD at an address, in the terms of a header that names it
 ends-at : {last pass n : ℕ} {none-bears : Type 0} {t : Tape} (h : Header) → h .last .0 ≡ last → h .pass ≡ pass → EodAt last pass none-bears n t (h .eod .0) → EndsAt h n t

@@ -1,0 +1,10 @@
+pub mod Tape
+pub mod Conduct
+pub mod Headers
+pub mod Recordings
+pub mod Readings
+pub mod Openings
+pub mod Faithful
+pub mod Fold
+pub mod Filemarks
+pub mod Refusals
