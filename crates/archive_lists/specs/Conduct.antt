@@ -52,7 +52,8 @@ failing d v = record { tape = put (d .tape) (d .at) v; at = d .at; buffer = d .b
 -- what the drive does by itself: it writes buffered frames in order to consecutive addresses and stops at a failure
 pub data Acts (d : Drive) : Drive → Type 0 where
   writes : (f : List ℕ) (rest : List (List ℕ)) (v : Option (List ℕ)) → d .buffer ≡ f ∷ rest → d .failed ≡ false → Written f v → Acts d (wrote d rest v)
-  fails : (f : List ℕ) (rest : List (List ℕ)) (v : Option (List ℕ)) → d .buffer ≡ f ∷ rest → d .failed ≡ false → Left (d .tape (d .at)) f v → Acts d (failing d v)
+  fails : (f : List ℕ) (rest : List (List ℕ)) (v : Option (List ℕ)) → d .buffer ≡ f ∷ rest → d .failed ≡ false
+      → Left (d .tape (d .at)) f v → Acts d (failing d v)
 
 abbrev pub taking : Drive → List ℕ → Drive
 taking d f = record { tape = d .tape; at = d .at; buffer = d .buffer ++ f ∷ []; failed = d .failed; written = d .written }

@@ -212,7 +212,8 @@ withDrive w d f = record { session = w .session; window = w .window; drive = d; 
 -- what the drive does between calls: it acts by itself, or answers the command that it was sent, once
 pub data Moves (w : World) : World → Type 0 where
   acts : (d : Drive) → Acts (w .drive) d → Moves w (withDrive w d (w .flight))
-  answers : (c : Command) (frame : List ℕ) (r : Reply) (d : Drive) → w .flight ≡ sent c frame → Answers (w .drive) frame c r d → Moves w (withDrive w d (answered r))
+  answers : (c : Command) (frame : List ℕ) (r : Reply) (d : Drive) → w .flight ≡ sent c frame → Answers (w .drive) frame c r d
+      → Moves w (withDrive w d (answered r))
 
 -- a list of calls, with whatever the drive does before, between and after them
 pub data Runs : World → List Call → World → Type 0 where

@@ -45,7 +45,7 @@ use Rattle.archive_samples.specs.Sample.{geometry, depth, blocks, good, 
 use Rattle.archive_lists.proofs.tape.Basics.{none-some}
 use Rattle.archive_lists.proofs.tape.FoldLaws.{put-other}
 use Rattle.archive_samples.proofs.Exchange.{Step, reported}
-use Rattle.archive_samples.proofs.Flush.{buffered}
+use Rattle.archive_samples.proofs.Flush.{buffered, startingOn}
 use Rattle.archive_samples.proofs.Headers.{writing, ending, finished, headersWritten, opening-written-at, closing-written}
 use Rattle.archive_samples.proofs.Tapes.{empty, same-reads, headers-elsewhere, headers-newest}
 use Rattle.archive_samples.proofs.Elements.{element-failed}
@@ -104,7 +104,7 @@ afterEnd t = put (afterMark t) 81 (some (elementFrame addedEod blank))
 
 -- the drive as the first recording left it, for which nothing is written yet; after the opening headers, after EOD, and at the end
 abbrev pub addedStart : List ℕ → Drive
-addedStart b = buffered (firstLeft b .tape) (firstLeft b .at) [] []
+addedStart b = startingOn (firstLeft b)
 
 abbrev pub addedOpened : List ℕ → Drive
 addedOpened b = headersWritten addedOpening (addedStart b)

@@ -14,6 +14,10 @@ use Rattle.archive_samples.proofs.Exchange.{between, acting}
 abbrev pub buffered : Tape → ℕ → List ℕ → List (List ℕ) → Drive
 buffered t at written frames = record { tape = t; at = at; buffer = frames; failed = false; written = written }
 
+-- a drive as a session left it, for the next one, for which nothing is written yet
+abbrev pub startingOn : Drive → Drive
+startingOn d = buffered (d .tape) (d .at) [] []
+
 abbrev pub flushed : Tape → ℕ → List ℕ → List (List ℕ) → Drive
 flushed t at written [] = buffered t at written []
 flushed t at written (f ∷ rest) = flushed (put t at (some f)) (at + 1) (at ∷ written) rest

@@ -3,7 +3,7 @@
 use Prim.Native.Nat.{ℕ}
 use mathlib.Core.Path.{_≡_, refl}
 use mathlib.Core.Bool.{Bool, true}
-use mathlib.Core.List.{List, []}
+use mathlib.Core.List.{List}
 use lib.Dec.{lit<, lit≤}
 use Rattle.geometry.specs.Place.{asAddress}
 use Rattle.frame.specs.Frame.{blank, elementFrame}
@@ -24,7 +24,7 @@ use Rattle.archive_lists.specs.Headers.{Newest}
 use Rattle.archive_lists.specs.Recordings.{World, Runs, started}
 use Rattle.archive_samples.specs.Sample.{depth, blocks, window, resumedOpening, resumedElements, resumedFilemark, resumedEod, resumedClosing, filemarkCalls}
 use Rattle.archive_samples.proofs.Exchange.{reported}
-use Rattle.archive_samples.proofs.Flush.{buffered}
+use Rattle.archive_samples.proofs.Flush.{startingOn}
 use Rattle.archive_samples.proofs.Headers.{writing, ending, finished, headersWritten}
 use Rattle.archive_samples.proofs.Tapes.{headers-newest}
 use Rattle.archive_samples.proofs.Filemark.{Reaches, located, eodDue}
@@ -48,7 +48,7 @@ marks = located 3000 2815 1 noTrail .marks
 
 -- the drive as it was left, for which nothing is written yet
 abbrev pub resumedStart : List ℕ → Drive
-resumedStart b = buffered (givenUpLeft b .tape) (givenUpLeft b .at) [] []
+resumedStart b = startingOn (givenUpLeft b)
 
 -- the filemark goes to 2,815, EOD behind it
 module _ (b : List ℕ) where

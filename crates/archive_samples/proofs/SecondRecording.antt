@@ -40,7 +40,7 @@ use Rattle.archive_lists.specs.Openings.{NoneBears, newPass, on-header}
 use Rattle.archive.specs.Demand.{Promised, Readable, Demand3}
 use Rattle.archive_samples.specs.Sample.{geometry, depth, blocks, good, stopped, firstOpening, window, firstBlock, firstFilemark, firstEod, firstClosing, secondOpening, secondElements, secondError, secondFilemark, secondEod, secondClosing, secondCalls}
 use Rattle.archive_samples.proofs.Exchange.{Step, reported, close-accepted}
-use Rattle.archive_samples.proofs.Flush.{buffered}
+use Rattle.archive_samples.proofs.Flush.{buffered, startingOn}
 use Rattle.archive_samples.proofs.Headers.{writing, ending, closing, finished, headersWritten, opening-written, closing-written}
 use Rattle.archive_lists.proofs.tape.WrittenFrames.{block-fits}
 use Rattle.archive_samples.proofs.Tapes.{frame-cartridge, frame-bears-none, same-cartridge, same-bears-none, headers-newest, headers-cartridge, headers-bear-none}
@@ -107,7 +107,7 @@ afterEnd t = put (afterError t) 45 (some (elementFrame secondEod blank))
 
 -- the drive as the first recording left it, for which nothing is written yet; after the opening headers, after EOD, and at the end
 abbrev pub secondStart : List ℕ → Drive
-secondStart b = buffered (firstLeft b .tape) (firstLeft b .at) [] []
+secondStart b = startingOn (firstLeft b)
 
 abbrev pub secondOpened : List ℕ → Drive
 secondOpened b = headersWritten secondOpening (secondStart b)

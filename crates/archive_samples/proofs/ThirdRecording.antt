@@ -27,7 +27,7 @@ use Rattle.archive.specs.Chain as chain
 use Rattle.archive.specs.Chain.{Chain, acceptedIn, NoneGiven}
 use Rattle.archive_samples.specs.Sample.{geometry, depth, blocks, window, firstElements, addedElements, addedClosing, addedReading, thirdOpening, thirdElements, thirdFilemark, thirdEod, thirdClosing, filemarkCalls}
 use Rattle.archive_samples.proofs.Exchange.{reported}
-use Rattle.archive_samples.proofs.Flush.{buffered}
+use Rattle.archive_samples.proofs.Flush.{startingOn}
 use Rattle.archive_samples.proofs.Headers.{writing, ending, finished, headersWritten}
 use Rattle.archive_samples.proofs.Tapes.{headers-newest}
 use Rattle.archive_samples.proofs.Filemark.{reaches, located, eodDue}
@@ -52,7 +52,7 @@ marks = located 11999 81 3 addedTrail .marks
 
 -- the drive as the two left it, for which nothing is written yet
 abbrev pub thirdStart : List ℕ → Drive
-thirdStart b = buffered (addedLeft b .tape) (addedLeft b .at) [] []
+thirdStart b = startingOn (addedLeft b)
 
 -- the filemark goes to 81, EOD behind it
 module _ (b : List ℕ) where

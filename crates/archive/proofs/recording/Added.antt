@@ -8,7 +8,7 @@ use mathlib.Core.Option.{some}
 use native.Mathlib.Decide.{decLe}
 use native.Mathlib.Nat.{le-refl, le-trans, eq-or-lt-of-le, mod-eq-of-lt}
 use native.Mathlib.Omega.{arith}
-use borrow.Author.Tests.{ltb-false, lt-ltb, eqb-true, eqb-false}
+use borrow.Author.Tests.{ltb-false, eqb-true, eqb-false}
 use lib.Dec.{eqb}
 use lib.ListN.{length, drop}
 use lib.Seq.{take-length}

@@ -52,7 +52,7 @@ use Rattle.archive_lists.proofs.recording.ElementsLink.{Asks, Answered,
 use Rattle.archive_lists.proofs.recording.ElementsMoves.{link-safe}
 use Rattle.archive_lists.proofs.recording.ElementSteps as steps
 use Rattle.archive_lists.proofs.recording.ElementSteps.{Step, Reached, taken-step, filled-step, moved-step, counted-step, failed-step}
-use Rattle.archive_lists.proofs.recording.GivesUp.{Spending, spending-so, settled-writing, gives-up}
+use Rattle.archive_lists.proofs.recording.GivesUp.{spending-so, settled-writing, gives-up}
 use Rattle.archive_lists.proofs.recording.InvariantLaws.{unreported}
 use Rattle.archive_lists.proofs.recording.Accepts.{settled-cases}
 use Rattle.archive_lists.proofs.recording.Closes.{eod-live}

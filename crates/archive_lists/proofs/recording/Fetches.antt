@@ -9,7 +9,6 @@ use native.Mathlib.Omega.{arith}
 use lib.ListN.{length}
 use Rattle.geometry.specs.Place.{asAddress}
 use Rattle.geometry.specs.declared.address.Address.{Address}
-use Rattle.geometry.specs.declared.address.Seq.{Seq}
 use Rattle.geometry.proofs.TestLaws.{and-true, either-left, either-right}
 use Rattle.geometry.proofs.Impossible.{never, clash}
 use Rattle.geometry.proofs.PickLaws.{pick-t, pick-f, pick-by}
@@ -39,7 +38,7 @@ use Rattle.recording_state.specs.declared.state.Stage.the-variants as S
 use Rattle.recording_state.proofs.FetchView as view
 use Rattle.recording_state.proofs.FetchView.{FetchView, fetch-view}
 use Rattle.recording_state.proofs.Stages.{HeaderStage, ElementStage, header-not-element, header-not-done, element-not-done}
-use Rattle.recording_state.proofs.Kept.{Held, heldOf}
+use Rattle.recording_state.proofs.Kept.{heldOf}
 use Rattle.archive_lists.specs.Recordings as recordings
 use Rattle.archive_lists.specs.Recordings.{World, Flight, TakesEffect, fetchNumber, flightAfter, reportedAfter, afterFetch}
 use Rattle.archive_lists.specs.Filemarks.{itemAt, kindFor}
@@ -52,7 +51,7 @@ use Rattle.archive_lists.proofs.recording.CopiesLink as copies
 use Rattle.archive_lists.proofs.recording.CopiesLink.{CopyAsks, HeaderSent, Copying, CopiesAgree}
 use Rattle.archive_lists.proofs.recording.CopiesMoves.{rests-safe}
 use Rattle.archive_lists.proofs.recording.ElementsLink as elements
-use Rattle.archive_lists.proofs.recording.ElementsLink.{edgeOf, Linked, Moving, Asks, Writing}
+use Rattle.archive_lists.proofs.recording.ElementsLink.{edgeOf, Linked, Asks, Writing}
 use Rattle.archive_lists.proofs.recording.ElementsMoves.{link-safe}
 use Rattle.archive_lists.proofs.recording.KeptAgreement.{Numbers, writing-numbers, reask}
 use Rattle.archive_lists.proofs.recording.SentFrames.{sent-element, sent-eod, kind-element, kind-eod, sent-says}
@@ -60,7 +59,7 @@ use Rattle.archive_lists.proofs.recording.Invariant as inv
 use Rattle.archive_lists.proofs.recording.Invariant.{EodDue, totalOf, Course, Known, Content, Live, Safe, Inv, live, rejecting, spent, over}
 use Rattle.archive_lists.proofs.recording.InvariantLaws.{unreported}
 use Rattle.archive_lists.proofs.recording.Setting.{Setting}
-use Rattle.archive_lists.proofs.recording.GivesUp.{Spending, spending-so, settled-writing, gives-up}
+use Rattle.archive_lists.proofs.recording.GivesUp.{spending-so, settled-writing, gives-up}
 
 -- ---- the world after a fetch
 

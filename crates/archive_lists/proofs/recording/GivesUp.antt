@@ -1,10 +1,9 @@
 -- 02, Card 6: where elements that are not on tape are given up, the recording goes on with EOD. Assumes nothing.
-use Prim.Native.Nat.{ℕ, _+_, _-_, _%_, _^_, _≤_, _<_}
+use Prim.Native.Nat.{ℕ, _+_, _-_, _%_, _<_}
 use mathlib.Core.Path.{_≡_, refl, sym, ap, subst, _∙_}
 use mathlib.Core.Bool.{Bool, true, false, _&&_, not, true≢false}
 use mathlib.Core.List.{List}
-use mathlib.Core.Logic.{_⊎_, inl, inr, ⊎-elim}
-use native.Mathlib.Nat.{le-refl}
+use mathlib.Core.Logic.{_⊎_, ⊎-elim}
 use native.Mathlib.Omega.{arith}
 use borrow.Author.Tests.{eqb-true, ltb-true}
 use lib.Dec.{eqb, ltb}
@@ -16,12 +15,11 @@ use Rattle.elements.specs.Elements.{droppedOf}
 use Rattle.elements.proofs.AcceptLaws.{accepted-new}
 use Rattle.recording_state.specs.State.{blocksOf, isSpending, givenUpOf}
 use Rattle.recording_state.specs.declared.state.State.{State}
-use Rattle.recording_state.specs.declared.state.Stage.the-variants as S
 use Rattle.recording_state.proofs.Stages.{ElementStage}
 use Rattle.recording_state.proofs.Kept.{heldOf}
 use Rattle.archive_lists.specs.Conduct.{Drive, AtRest, empty, stopped}
 use Rattle.archive_lists.specs.Recordings as recordings
-use Rattle.archive_lists.specs.Recordings.{World, Element, promised}
+use Rattle.archive_lists.specs.Recordings.{World, Element}
 use Rattle.archive_lists.proofs.tape.Basics.{no-frames, none-sent, promised-all}
 use Rattle.archive_lists.proofs.tape.SeenLaws.{seen-gives}
 use Rattle.archive_lists.specs.Filemarks.{Item, itemAt}

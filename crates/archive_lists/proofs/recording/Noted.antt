@@ -1,7 +1,7 @@
 -- A list of calls goes on alike whatever is noted: so what is shown of lists that start behind elements accepted earlier, or of which it is not
 -- noted that the window was unaltered, holds of those that start with none. Assumes nothing.
 use Prim.Native.Nat.{ℕ}
-use mathlib.Core.Path.{_≡_, refl, sym, subst, _∙_}
+use mathlib.Core.Path.{_≡_, refl, subst}
 use mathlib.Core.Bool.{Bool, true, false, _&&_}
 use mathlib.Core.List.{List, [], _∷_, _++_, append-assoc}
 use lib.Dec.{eqb}
@@ -9,9 +9,7 @@ use Prim.Native.Nat.{_≤_}
 use Rattle.geometry.specs.Pick.{pick}
 use Rattle.buffer.specs.Bytes.{agree}
 use Rattle.recording_state.specs.Accept.{filemarkOf, blockOf}
-use Rattle.recording_state.specs.declared.state.State.{State}
-use Rattle.archive_lists.specs.Conduct.{Drive}
-use Rattle.archive_lists.specs.Recordings.{Element, block, filemark, World, Call, accept-block, accept-filemark, close, fetch, reply, refusal, acceptedAfter, afterRefusal, afterBlock, afterFilemark, afterFetch, Calls, refuses, accepts-block, accepts-filemark, closes, fetches, replies, Moves, acts, answers, Runs, stop, call, drive, started}
+use Rattle.archive_lists.specs.Recordings.{Element, block, filemark, World, Call, accept-block, accept-filemark, close, fetch, reply, refusal, acceptedAfter, afterRefusal, afterBlock, afterFilemark, afterFetch, Calls, refuses, accepts-block, accepts-filemark, closes, fetches, replies, Moves, acts, answers, Runs, stop, call, drive}
 
 -- the world with more accepted before, and with its window noted as unaltered or not
 abbrev pub noted : List Element → Bool → World → World

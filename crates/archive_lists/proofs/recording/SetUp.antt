@@ -1,10 +1,9 @@
 -- What a session was opened with stays: its sizes, and that it is not spent where it keeps no tail. So then nothing is given up. Assumes nothing.
-use Prim.Native.Nat.{ℕ, zero}
-use mathlib.Core.Path.{_≡_, refl, sym, ap, _∙_}
-use mathlib.Core.Bool.{Bool, true, false, _&&_, not, true≢false}
+use Prim.Native.Nat.{ℕ}
+use mathlib.Core.Path.{_≡_, refl, ap, _∙_}
+use mathlib.Core.Bool.{Bool, true, false, _&&_, not}
 use mathlib.Core.List.{List}
 use lib.Dec.{eqb, ltb}
-use Rattle.geometry.specs.Pick.{pick}
 use Rattle.geometry.proofs.PickLaws.{pick-f, pick-by}
 use Rattle.copies.specs.Copies as copies
 use Rattle.drive.specs.declared.command.Command.{Command}
@@ -12,8 +11,8 @@ use Rattle.drive.specs.declared.reply.Reply.{Reply}
 use Rattle.elements.specs.Reply as reply
 use Rattle.recording_state.specs.State.{OutcomeSaid, isSpending, endedOf, closedOf, settledOf, withElements}
 use Rattle.recording_state.specs.Accept.{acceptsNone, unspentClose, isSpent, closeOf}
-use Rattle.recording_state.specs.Fetch.{FetchedSaid, sending, fetchOf}
-use Rattle.recording_state.specs.Reply.{repliedOf, completedOf, headerReplyBy, elementReplyBy, stageReply, replyOf}
+use Rattle.recording_state.specs.Fetch.{FetchedSaid, sending}
+use Rattle.recording_state.specs.Reply.{repliedOf, completedOf, headerReplyBy, elementReplyBy, stageReply}
 use Rattle.recording_state.specs.declared.state.Setup.{Setup}
 use Rattle.recording_state.specs.declared.state.State.{State}
 use Rattle.recording_state.proofs.Kept.{Held, heldOf, filemark-keeps, block-keeps, settled-held}

@@ -21,7 +21,7 @@ use Rattle.judgement.specs.Judgement.{endsFrom, judgeFrame}
 use Rattle.judgement.specs.declared.told.Told.{Told}
 use Rattle.archive_lists.specs.Tape.{Tape}
 use Rattle.archive_lists.specs.Recordings.{Element}
-use Rattle.archive_lists.specs.Fold.{Reader, going, finished, stopped, advance, look, foldOf, wholeOf}
+use Rattle.archive_lists.specs.Fold.{Reader, going, finished, stopped, advance, look, foldOf}
 use Rattle.archive_lists.specs.Filemarks.{eod}
 use Rattle.archive_lists.proofs.tape.Seen.{Has, has, Seen, Recorded}
 use Rattle.archive_lists.proofs.tape.Stands.{unending, Stands}
