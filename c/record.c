@@ -8,7 +8,8 @@
    the rest on one more cartridge and reads back both. The commands are printed,
    each LOCATE on a line of its own with what follows it: W a WRITE, R a READ, C
    a READ with a correction, P a READ POSITION with the frames still buffered, B
-   a busy reply, ! a write error with the address that failed. */
+   a busy reply, ! a write error with the address that failed. Behind each
+   recording stand the frames that the drive took, and the most that it could. */
 #include "adr.h"
 
 #include <stdio.h>
@@ -181,6 +182,58 @@ struct source {
     int closed;
 };
 
+static int is_sense(struct adr_reply reply, uint8_t key, uint8_t asc, uint8_t ascq)
+{
+    return reply.key == key && reply.asc == asc && reply.ascq == ascq;
+}
+
+/* Frames that the drive took, and the write errors that they met. */
+struct tally {
+    uint32_t frames, errors;
+};
+
+/* What a session sent. */
+struct sent {
+    struct tally elements; /* and EOD */
+    struct tally headers;
+};
+
+static int is_header(uint32_t address)
+{
+    for (uint32_t copy = 0; copy < 10; copy++)
+        if (adr_header_address(copy / 5, copy % 5) == address)
+            return 1;
+    return 0;
+}
+
+/* A READ POSITION has no address, and a WRITE may tell that an earlier frame
+   failed: an error is of the frame at its position. */
+static void count(struct sent *sent, struct adr_command command, struct adr_reply reply)
+{
+    int failed = is_sense(reply, 0x03, 0x0C, 0x00);
+    int taken = command.code == ADR_WRITE && is_sense(reply, 0x00, 0x00, 0x00);
+    uint32_t address = failed ? reply.position : command.address;
+    struct tally *tally = is_header(address) ? &sent->headers : &sent->elements;
+    tally->frames += (uint32_t)taken;
+    tally->errors += (uint32_t)failed;
+}
+
+static void tell(const char *what, struct tally tally, uint64_t most)
+{
+    printf("\nframes of %s: %u of at most %llu, write errors: %u", what, (unsigned)tally.frames,
+           (unsigned long long)most, (unsigned)tally.errors);
+}
+
+/* Whether a session of so many elements sent no more than it could. */
+static int is_as_planned(struct sent sent, uint32_t elements)
+{
+    uint64_t most = adr_frames_sent_at_most(elements, sent.elements.errors, DEPTH, WINDOW);
+    uint64_t most_of_headers = adr_header_frames_sent_at_most(sent.headers.errors, DEPTH);
+    tell("elements and EOD", sent.elements, most);
+    tell("headers", sent.headers, most_of_headers);
+    return sent.elements.frames <= most && sent.headers.frames <= most_of_headers;
+}
+
 /* Accepts elements until the window is full or all are accepted, then closes. */
 static struct adr_record_outcome accept(struct adr_recording session, uint8_t *window,
                                         struct source *source)
@@ -206,7 +259,7 @@ static struct adr_record_outcome accept(struct adr_recording session, uint8_t *w
 
 /* Brings a session to ADR_DONE; or the refusal, and the session that it left. */
 static struct adr_record_outcome carry_through(struct drive *drive, struct adr_recording session,
-                                               struct source *source)
+                                               struct source *source, struct sent *sent)
 {
     static uint8_t window[ADR_WINDOW_LENGTH(WINDOW)], frame[ADR_FRAME_LENGTH];
     for (;;) {
@@ -225,6 +278,7 @@ static struct adr_record_outcome carry_through(struct drive *drive, struct adr_r
             return outcome;
         if (fetched.answer == ADR_COMMAND) {
             struct adr_reply reply = send(drive, fetched.command, frame);
+            count(sent, fetched.command, reply);
             outcome = adr_record_reply(session, reply);
             session = outcome.session;
             if (outcome.number) {
@@ -240,7 +294,10 @@ static int record(struct drive *drive, struct adr_record_outcome outcome, struct
 {
     if (outcome.number)
         return failed("opening", outcome.number);
-    return carry_through(drive, outcome.session, &source).number == 0;
+    struct sent sent = { { 0, 0 }, { 0, 0 } };
+    unsigned before = source.accepted;
+    return carry_through(drive, outcome.session, &source, &sent).number == 0 &&
+           is_as_planned(sent, source.accepted - before);
 }
 
 /* Records up to the tail, gives the rest up and closes. Returns how many
@@ -250,7 +307,8 @@ static unsigned record_what_fits(struct drive *drive, struct adr_record_outcome 
 {
     if (outcome.number)
         return failed("opening", outcome.number);
-    outcome = carry_through(drive, outcome.session, &source);
+    struct sent sent = { { 0, 0 }, { 0, 0 } };
+    outcome = carry_through(drive, outcome.session, &source, &sent);
     if (outcome.number != ADR_TAPE_FULL)
         return 0;
     outcome = adr_record_close(outcome.session);
@@ -260,12 +318,10 @@ static unsigned record_what_fits(struct drive *drive, struct adr_record_outcome 
     printf("closing with %u elements on tape", on_tape);
     source.count = source.accepted;
     source.closed = 1;
-    return carry_through(drive, outcome.session, &source).number == 0 ? on_tape : 0;
-}
-
-static int is_sense(struct adr_reply reply, uint8_t key, uint8_t asc, uint8_t ascq)
-{
-    return reply.key == key && reply.asc == asc && reply.ascq == ascq;
+    return carry_through(drive, outcome.session, &source, &sent).number == 0 &&
+                   is_as_planned(sent, source.accepted)
+               ? on_tape
+               : 0;
 }
 
 /* Sends a command, again while the drive is busy. */

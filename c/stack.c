@@ -75,7 +75,9 @@ static int ask(void)
     struct adr_choice choice =
         adr_choose(geometry, tape[HEADER], sizeof tape[HEADER], tape[HEADER], sizeof tape[HEADER]);
     return !choice.number && adr_frames(geometry) == FRAMES && !adr_last(geometry).number
-           && adr_is_user(FRAMES - 1, FIRST) && adr_header_address(0, 0) == HEADER;
+           && adr_is_user(FRAMES - 1, FIRST) && adr_header_address(0, 0) == HEADER
+           && adr_frames_sent_at_most(2, 1, DEPTH, BLOCKS) == 5
+           && adr_header_frames_sent_at_most(1, DEPTH) == 21;
 }
 
 static void make_calls(void)

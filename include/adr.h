@@ -593,6 +593,35 @@ struct adr_record_fetched adr_record_fetch(struct adr_recording s,
    awaited), 8, 9 or 12. */
 struct adr_record_outcome adr_record_reply(struct adr_recording s, struct adr_reply reply);
 
+/* FRAMES SENT
+
+   For planning: the most frames that the drive takes in one session, however
+   bad the cartridge is. A frame is taken where its WRITE is answered good, so
+   this is what is sent, and it exceeds what ends on tape by what write errors
+   make the layer send again. An error is each 03/0C/00, the answer to a WRITE or
+   a READ POSITION; it is met by whatever was to go to its 'position'. Frames and
+   errors of headers (adr_header_address gives their addresses) are counted apart
+   from those of elements and EOD.
+
+   Before a session the two calls tell what to reckon with, for as many errors as
+   are feared. In a session, and behind it, the host's counts, of elements accepted
+   and of errors met in it so far, give the bound of the frames sent so far.
+   Elements that were given up (see THE TAIL) stay counted. An addition is a
+   session of its own: what was there before does not count. 'depth' is D and
+   'blocks' is W, as at the opening; T changes nothing. Any numbers may be given:
+   no sum is too large for what is returned. c/record.c counts its frames so. */
+
+/* Elements and EOD: elements + 1 + errors * m, m the smaller of D and W. With m
+   or more elements, and enough tape, there are replies that make it just so
+   many; an addition less than m addresses before 2,990 may not come to it. */
+uint64_t adr_frames_sent_at_most(uint32_t elements, uint32_t errors, uint32_t depth,
+                                 uint32_t blocks);
+
+/* Headers: 20, ten copies at the opening and ten at the close, and errors *
+   (k - 1), k the smaller of D and 5. A copy that failed is not sent again, and
+   those behind it that the drive held are. With D 0 it is 20. */
+uint64_t adr_header_frames_sent_at_most(uint32_t errors, uint32_t depth);
+
 /* A READING */
 
 /* Opens a reading of a cartridge whose newest header is 'header',

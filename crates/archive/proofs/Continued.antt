@@ -46,6 +46,7 @@ use Rattle.archive_lists.specs.Openings.{Opening, opened, newPass, OnNewest, No
 use Rattle.archive_lists.specs.Faithful.{Faithful}
 use Rattle.archive.specs.Demand.{Readable}
 use Rattle.archive.specs.Chain.{HasRead, HasRecorded, Start, fresh, added, earlierOf, OnItsNewest, AsItStands, NoneAbove, NoneInTheWay, Read, ReadsBack, Continued}
+use Rattle.archive.specs.WorstCase.{startOf}
 use Rattle.archive.specs.EndNamed.{EndsAt}
 use Rattle.archive_lists.proofs.tape.Basics.{promised-all}
 use Rattle.archive_lists.proofs.tape.Seen.{Seen, Clean}
@@ -204,11 +205,6 @@ pub record Kept (last pass : ℕ) (on-newest as-it-stands none-in-the-way : Type
   pub whole : Inv last pass on-newest (as-it-stands × none-in-the-way) prior (noted earlier true w)
   pub frames : Inv last pass on-newest none-in-the-way prior (noted earlier false w)
 
--- where its elements start
-abbrev pub startOf : {g : Geometry} {last : ℕ} {s : State} → Start g last s → ℕ
-startOf (fresh depth blocks tail o q) = 10
-startOf (added depth blocks tail u h r read q) = endOf (r .session) .0
-
 module _ (g : Geometry) (last : ℕ) (seg : g .segtrk < 2 ^ 16) (trk : g .trks < 2 ^ 16) (e : lastOf g ≡ address last) (d : Drive) (window : List ℕ) (calls : List recordings.Call) (w : recordings.World)
     (cart : Cartridge last (d .tape)) (unwritten : d .written ≡ []) (rest : AtRest d) where
   -- from the start of its elements, and what the cartridge was then
@@ -266,6 +262,9 @@ module _ (g : Geometry) (last : ℕ) (seg : g .segtrk < 2 ^ 16) (trk : g .trks <
         whole = sym (fold-users (toldOf (headerOf h)) u t users (headerOf h .last .0 + 1)) ∙ x .whole;
       }
 
+  pub added-so : Started last (r .notes .deliveries) (endOf (r .session) .0) s
+  added-so = added-started (toldOf (headerOf h)) last u (r .session) (r .notes .deliveries) large (opened-is .last-is) (added-ended .ended) depth blocks tail s view (valid-pass last h (opened-is .valid))
+
   pub pass-kept : headerOf h .pass ≡ s .copies .header .pass
   pass-kept = sym (added-pass (toldOf (headerOf h)) last u (r .session) (r .notes .deliveries) large (opened-is .last-is) (added-ended .ended) depth blocks tail s view)
 
@@ -282,7 +281,7 @@ module _ (g : Geometry) (last : ℕ) (seg : g .segtrk < 2 ^ 16) (trk : g .trks <
         (priorOf last (s .copies .header .pass) (r .notes .deliveries) (endOf (r .session) .0) (d .tape) (SameFrames last u (d .tape))) (r .notes .deliveries) w
     added-kept runs =
         begun-kept g last seg trk e d window calls w cart unwritten rest s (r .notes .deliveries) (endOf (r .session) .0)
-        (added-started (toldOf (headerOf h)) last u (r .session) (r .notes .deliveries) large (opened-is .last-is) (added-ended .ended) depth blocks tail s view (valid-pass last h (opened-is .valid)))
+        added-so
         (Newest last (d .tape) h) (SameFrames last u (d .tape)) None runs
         (added-below (toldOf (headerOf h)) last u (r .session) (r .notes .deliveries) large (opened-is .last-is) (added-ended .ended) depth blocks tail s view h refl (d .tape))
         (λ same none.
@@ -292,6 +291,10 @@ module _ (g : Geometry) (last : ℕ) (seg : g .segtrk < 2 ^ 16) (trk : g .trks <
         (added-traced (toldOf (headerOf h)) last u (r .session) (r .notes .deliveries) large (opened-is .last-is) (added-ended .ended) depth blocks tail s view (last-small g last seg trk (frames-of g last e)) (d .tape))
 
 -- ---- however it was opened
+
+pub start-started : (g : Geometry) (last : ℕ) → g .segtrk < 2 ^ 16 → g .trks < 2 ^ 16 → lastOf g ≡ address last → (s : State) (b : Start g last s) → Started last (earlierOf b) (startOf b) s
+start-started g last seg trk e s (fresh depth blocks tail o q) = started-as g last depth blocks tail s e (frames-of g last e .large) o q
+start-started g last seg trk e s (added depth blocks tail u h r read q) = added-so g last seg trk e s depth blocks tail u h r read q
 
 start-unspent : (g : Geometry) (last : ℕ) → lastOf g ≡ address last → (s : State) (b : Start g last s) → s .spent ≡ false
 start-unspent g last e s (fresh depth blocks tail o q) = opened-unspent g last depth blocks tail s e o q

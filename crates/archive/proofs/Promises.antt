@@ -8,6 +8,8 @@ use Rattle.archive.proofs.EndNamed.{end-named}
 use Rattle.archive_lists.proofs.Fold.{reading-is-fold, fold-of-user-frames}
 use Rattle.archive.proofs.Chain.{adds, chains}
 use Rattle.archive.proofs.Trails.{writes-name-markers, chains-name-markers}
+use Rattle.archive.proofs.WorstCase.{worst-case}
+use Rattle.archive.proofs.WorstReached.{worst-reached, worst-on-blank}
 use Rattle.archive.proofs.SentCommands.{commands-sent}
 use Rattle.archive.proofs.RepliesRefused.{replies-refused}
 use Rattle.archive_lists.proofs.Refusals.{refused-calls}
@@ -28,4 +30,7 @@ promises = record {
   as-formerly = as-formerly;
   writes-name-markers = writes-name-markers;
   chains-name-markers = chains-name-markers;
+  worst-case = worst-case;
+  worst-reached = worst-reached;
+  worst-on-blank = worst-on-blank;
 }

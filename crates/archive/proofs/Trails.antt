@@ -49,7 +49,8 @@ use Rattle.archive_lists.proofs.recording.Start.{pass-is}
 use Rattle.archive_lists.proofs.recording.Noted.{noted}
 use Rattle.archive_lists.proofs.recording.Trailing as trailing
 use Rattle.archive_lists.proofs.recording.Trailing.{Prior, MarkerBelow, TapeTrails}
-use Rattle.archive.proofs.Continued.{startOf, kept-after, pass-kept, markers-low, start-kept, headers, left-whole, promised-behind, read-behind}
+use Rattle.archive.specs.WorstCase.{startOf}
+use Rattle.archive.proofs.Continued.{kept-after, pass-kept, markers-low, start-kept, headers, left-whole, promised-behind, read-behind}
 use Rattle.archive.proofs.Chain.{nothing-whole, Left, Held, held-behind, closed-leaves, closed-count, closed-left, earlier-is}
 use Rattle.archive.proofs.recording.InFlight.{marker-on, goes-out}
 

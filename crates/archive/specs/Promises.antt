@@ -7,6 +7,7 @@ use Rattle.archive.specs.EndNamed.{EndNamed}
 use Rattle.archive_lists.specs.Fold.{ReadingIsFold, FoldOfUserFrames}
 use Rattle.archive.specs.Chain.{Adds, Chains}
 use Rattle.archive.specs.Trails.{WritesNameMarkers, ChainsNameMarkers}
+use Rattle.archive.specs.WorstCase.{WorstCase, WorstReached, WorstOnBlank}
 use Rattle.archive.specs.Exchanges.{CommandsSent, RepliesRefused}
 use Rattle.archive_lists.specs.Refusals.{RefusedCalls}
 
@@ -31,3 +32,7 @@ pub record Promises : Type 0 where
   -- 01, "AUX bytes": where frames go, and which filemarks they name
   pub writes-name-markers : WritesNameMarkers
   pub chains-name-markers : ChainsNameMarkers
+  -- 02, Card 12: the most frames that the drive takes, and that there are replies which make it so many
+  pub worst-case : WorstCase
+  pub worst-reached : WorstReached
+  pub worst-on-blank : WorstOnBlank

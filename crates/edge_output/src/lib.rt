@@ -6,6 +6,7 @@ mod replies;
 pub use frames::print_sent;
 pub use printing::print;
 pub use printing::print_command;
+pub use printing::print_long;
 pub use printing::print_number;
 pub use printing::print_refusal;
 pub use printing::print_refused;

@@ -10,9 +10,13 @@ pub fn print(text: &[u8]) {
     io::write_all(STDOUT_FILENO, text);
 }
 
-pub fn print_number(text: &[u8], n: u32) {
+pub fn print_long(text: &[u8], n: u64) {
     io::write_all(STDOUT_FILENO, text);
-    io::print_decimal(STDOUT_FILENO, n as u64);
+    io::print_decimal(STDOUT_FILENO, n);
+}
+
+pub fn print_number(text: &[u8], n: u32) {
+    print_long(text, n as u64);
 }
 
 pub fn print_refusal(r: Refusal) {

@@ -5,6 +5,7 @@ pub use plays::accept_block;
 pub use plays::accept_blocks;
 pub use plays::accept_filemark;
 pub use plays::close;
+pub use plays::fetch;
 pub use plays::finish;
 pub use plays::look;
 pub use plays::open;

@@ -66,7 +66,7 @@ fn print_answer(answer: Answer, frame: &[u8]) {
 }
 
 // Fetches, and prints what is to be shown.
-fn fetch(session: Recording, window: &[u8], shown: bool) -> Recording {
+pub fn fetch(session: Recording, window: &[u8], shown: bool) -> Recording {
     let mut frame = [0u8; FRAME_LENGTH];
     let fetched = session.fetch(window, &mut frame);
     let answer = fetched.answer;

@@ -11,4 +11,5 @@ fn main() {
     edge_additions::additions();
     edge_tails::play_all();
     edge_given_up::play_all();
+    edge_frames::play_all();
 }

@@ -78,7 +78,7 @@ isFailed n = eqb n writeFailed || eqb n positionFailed
 pub failed-true : (n : ℕ) → Failed n → isFailed n ≡ true
 failed-true n f = ⊎-elim (ap isFailed) (ap isFailed) f
 
-failed-of : (n : ℕ) → isFailed n ≡ true → Failed n
+pub failed-of : (n : ℕ) → isFailed n ≡ true → Failed n
 failed-of n t = ⊎-elim (λ e. inl (eqb-true _ _ e)) (λ e. inr (eqb-true _ _ e)) (or-true _ _ t)
 
 -- the cases of the list

@@ -1,4 +1,4 @@
--- What is not refused with 4: a window of 1 to 64 blocks. Assumes nothing.
+-- What is not refused with 4: a depth from 1 on and a window of 1 to 64 blocks. Assumes nothing.
 use Prim.Native.Nat.{ℕ, _≤_}
 use mathlib.Core.Bool.{false, _||_}
 use mathlib.Core.Path.{_≡_}
@@ -8,8 +8,13 @@ use lib.Dec.{eqb, ltb}
 use Rattle.geometry.proofs.TestLaws.{or-false}
 use Rattle.recording_state.specs.Open.{isMisfit}
 
-pub sizes-fit : (depth blocks : ℕ) → isMisfit depth blocks ≡ false → (1 ≤ blocks) × (blocks ≤ 64)
+pub record Fitting (depth blocks : ℕ) : Type 0 where
+  pub deep : 1 ≤ depth
+  pub some : 1 ≤ blocks
+  pub few : blocks ≤ 64
+
+pub sizes-fit : (depth blocks : ℕ) → isMisfit depth blocks ≡ false → Fitting depth blocks
 sizes-fit depth blocks h =
-    let window = or-false (eqb blocks 0) (ltb 64 blocks) (or-false (eqb depth 0) (eqb blocks 0 || ltb 64 blocks) h .1) in
-    let some = eqb-false blocks 0 (window .0) in
-    (omega (arith, some), ltb-false 64 blocks (window .1))
+    let sizes = or-false (eqb depth 0) (eqb blocks 0 || ltb 64 blocks) h in
+    let window = or-false (eqb blocks 0) (ltb 64 blocks) (sizes .1) in
+    record { deep = omega (arith, eqb-false depth 0 (sizes .0)); some = omega (arith, eqb-false blocks 0 (window .0)); few = ltb-false 64 blocks (window .1) }

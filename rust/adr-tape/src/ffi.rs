@@ -104,6 +104,13 @@ mod calls {
             frame_length: usize,
         ) -> RecordFetched;
         pub(super) fn adr_record_reply(session: Recording, reply: Reply) -> RecordOutcome;
+        pub(super) fn adr_frames_sent_at_most(
+            elements: u32,
+            errors: u32,
+            depth: u32,
+            blocks: u32,
+        ) -> u64;
+        pub(super) fn adr_header_frames_sent_at_most(errors: u32, depth: u32) -> u64;
         pub(super) fn adr_read_open(
             geometry: Geometry,
             header: *const u8,
@@ -240,6 +247,20 @@ pub fn record_fetch(session: Recording, window: &[u8], frame: &mut [u8]) -> Reco
 pub fn record_reply(session: Recording, reply: Reply) -> RecordOutcome {
     // SAFETY: only numbers go over.
     unsafe { calls::adr_record_reply(session, reply) }
+}
+
+/// `adr_frames_sent_at_most`: the most frames of elements and EOD.
+#[must_use]
+pub fn frames_sent_at_most(elements: u32, errors: u32, depth: u32, blocks: u32) -> u64 {
+    // SAFETY: only numbers go over.
+    unsafe { calls::adr_frames_sent_at_most(elements, errors, depth, blocks) }
+}
+
+/// `adr_header_frames_sent_at_most`: the most frames of headers.
+#[must_use]
+pub fn header_frames_sent_at_most(errors: u32, depth: u32) -> u64 {
+    // SAFETY: only numbers go over.
+    unsafe { calls::adr_header_frames_sent_at_most(errors, depth) }
 }
 
 /// `adr_read_open`: opens a reading on the newest header.

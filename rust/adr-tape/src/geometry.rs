@@ -27,6 +27,19 @@ impl Address {
     pub fn is_user_frame(self, last: Address) -> bool {
         ffi::is_user(last.0, self.0) == 1
     }
+
+    /// Whether this is the address of a header copy, on any cartridge: 5 to 9,
+    /// or 2,990 to 2,994.
+    ///
+    /// ```
+    /// use adr_tape::Address;
+    /// assert!(Address(2_994).is_header());
+    /// assert!(!Address(2_995).is_header());
+    /// ```
+    #[must_use]
+    pub fn is_header(self) -> bool {
+        header_addresses().contains(&self)
+    }
 }
 
 impl fmt::Display for Address {

@@ -9,6 +9,8 @@
 //!   [`read_all`]: whole recordings, additions and readings over the host's own
 //!   transport.
 //! * [`Full`]: what to do when a tape is full.
+//! * [`frames_sent_at_most`] and [`FramesSent`]: the most frames that a recording
+//!   can send, and those that one sent.
 //! * [`ffi`]: the calls as C sees them, for hosts with buffers of their own.
 //!
 //! A drive in memory, recorded and read back:
@@ -85,6 +87,7 @@ mod drive;
 mod element;
 mod error;
 pub mod ffi;
+mod frames_sent;
 mod geometry;
 mod header;
 mod read_all;
@@ -104,6 +107,7 @@ pub use command::Command;
 pub use drive::Drive;
 pub use element::Element;
 pub use error::{AppendError, Full, HeaderError, ReadError, RecordError};
+pub use frames_sent::{frames_sent_at_most, header_frames_sent_at_most, FramesSent};
 pub use geometry::{header_addresses, Address, Geometry, LoadPoint, BLOCK_LENGTH, FRAME_LENGTH};
 pub use header::{newer, newest_header};
 pub use read_all::{read_all, read_with};

@@ -42,6 +42,14 @@ fn end_of_data(header: &[u8]) -> Address {
     Address(u32::from_be_bytes(end.unwrap_or([0; 4])))
 }
 
+/// Refuses sizes that no recording takes, before there is one.
+pub fn require_sizes(geometry: Geometry, setup: Setup) -> Result<(), Failure> {
+    match Recorder::open(geometry, setup, None) {
+        Err(Refusal::Capacity) => Err(Failure::usage(Refusal::Capacity)),
+        _ => Ok(()),
+    }
+}
+
 /// A write error that the drive reported.
 #[derive(Clone, Copy, Debug, PartialEq, Eq)]
 pub struct WriteError {
@@ -223,14 +231,6 @@ impl Cartridge {
         Ok(header)
     }
 
-    /// Refuses sizes that no recording takes, before a tape is read for one.
-    pub fn require_sizes(&self, setup: Setup) -> Result<(), Failure> {
-        match Recorder::open(self.geometry, setup, None) {
-            Err(Refusal::Capacity) => Err(Failure::usage(Refusal::Capacity)),
-            _ => Ok(()),
-        }
-    }
-
     /// How much the cartridge holds, and how much of that is free, with so many
     /// frames kept for the end of data.
     pub fn room(&mut self, tail: u32) -> Result<Room, Failure> {
@@ -375,9 +375,8 @@ impl Cartridge {
                 given_up: false,
             }),
             Ok(summary) => {
-                let delivered = summary.blocks.saturating_add(summary.filemarks);
                 // Only then can the end of data have a number that was read before.
-                let given_up = delivered > u64::from(self.latest_number);
+                let given_up = summary.elements() > u64::from(self.latest_number);
                 Ok(End {
                     reader,
                     ending: jobs.end()?,

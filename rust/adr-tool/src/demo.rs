@@ -5,7 +5,7 @@ use std::ops::ControlFlow;
 use std::path::{Path, PathBuf};
 
 use adr_model::random::Random;
-use adr_tape::{header_addresses, Geometry, LoadPoint, Setup, Summary};
+use adr_tape::{Geometry, LoadPoint, Setup, Summary};
 
 use crate::arguments::{Arguments, Options};
 use crate::cartridge::Cartridge;
@@ -117,7 +117,7 @@ fn record(path: &Path, files: &[Made], seed: Option<u64>) -> Result<(), Failure>
     cartridge.put_in_force()?;
     for error in cartridge.write_errors() {
         let address = grouped(u64::from(error.position.0));
-        output::line(if header_addresses().contains(&error.position) {
+        output::line(if error.position.is_header() {
             format!("  write error at {address}: that header copy is given up")
         } else {
             let skip = error.skip;

@@ -22,6 +22,7 @@ mod lone_frame;
 mod map;
 mod output;
 mod part;
+mod plan;
 mod progress;
 mod record;
 mod restore;
@@ -50,7 +51,7 @@ struct Command {
     run: fn(&Arguments) -> Result<(), Failure>,
 }
 
-static COMMANDS: [Command; 8] = [
+static COMMANDS: [Command; 9] = [
     Command {
         name: "format",
         help: usage::FORMAT,
@@ -92,6 +93,12 @@ static COMMANDS: [Command; 8] = [
         help: usage::MAP,
         options: map::OPTIONS,
         run: map::run,
+    },
+    Command {
+        name: "plan",
+        help: usage::PLAN,
+        options: plan::OPTIONS,
+        run: plan::run,
     },
     Command {
         name: "demo",

@@ -1,5 +1,6 @@
 //! `adr record`: files to a cartridge.
 
+mod frames;
 mod full;
 
 use std::collections::BTreeMap;
@@ -10,7 +11,7 @@ use std::path::Path;
 use adr_tape::{Setup, Summary};
 
 use crate::arguments::{Arguments, Options};
-use crate::cartridge::Cartridge;
+use crate::cartridge::{require_sizes, Cartridge};
 use crate::earlier_jobs::EarlierJobs;
 use crate::failure::Failure;
 use crate::image::Access;
@@ -72,11 +73,7 @@ impl Command<'_> {
             arguments,
             path,
             files,
-            setup: Setup {
-                depth: arguments.number("--depth")?.unwrap_or(DEPTH),
-                blocks: arguments.number("--window")?.unwrap_or(WINDOW),
-                tail: tail(arguments)?,
-            },
+            setup: setup(arguments)?,
             quiet: arguments.has("--quiet"),
         })
     }
@@ -85,7 +82,7 @@ impl Command<'_> {
     fn look(&self, cartridge: &mut Cartridge, inputs: &[Input]) -> Result<EarlierJobs, Failure> {
         let tail = self.setup.tail;
         if self.arguments.has("--append") {
-            cartridge.require_sizes(self.setup)?;
+            require_sizes(cartridge.image().geometry(), self.setup)?;
             return read_earlier_jobs(cartridge, self.path, inputs, tail, self.quiet);
         }
         if !self.arguments.has("--overwrite") {
@@ -129,6 +126,7 @@ impl Command<'_> {
                 output::message(told(jobs, &recorded.summary));
             }
             self.tell_room(cartridge)?;
+            self.tell_frames(&recorded.summary);
             return tell_changed(self.path, elements.changed());
         };
         let full = FullTape {
@@ -142,18 +140,33 @@ impl Command<'_> {
             in_force,
             changed: elements.changed(),
         };
-        Err(self.tell_full(cartridge, &full))
+        Err(self.tell_full(cartridge, &full, &recorded.summary))
     }
 
-    /// Tells what is on a full tape, and then its room; it failed.
-    fn tell_full(&self, cartridge: &mut Cartridge, full: &FullTape<'_>) -> Failure {
+    /// Tells what is on a full tape, and then its room and its frames; it failed.
+    fn tell_full(
+        &self,
+        cartridge: &mut Cartridge,
+        full: &FullTape<'_>,
+        summary: &Summary,
+    ) -> Failure {
         let failure = full.tell();
         if full.in_force {
             if let Err(Failure::Failed(message)) = self.tell_room(cartridge) {
                 output::message(message);
             }
         }
+        self.tell_frames(summary);
         failure
+    }
+
+    /// Tells the frames that were sent, and the most that could have been.
+    fn tell_frames(&self, summary: &Summary) {
+        if !self.quiet {
+            for told in frames::told(summary, self.setup) {
+                output::message(format!("{}: {told}", self.path.display()));
+            }
+        }
     }
 
     fn tell_room(&self, cartridge: &mut Cartridge) -> Result<(), Failure> {
@@ -163,6 +176,15 @@ impl Command<'_> {
         }
         Ok(())
     }
+}
+
+/// The sizes that are asked for.
+pub fn setup(arguments: &Arguments) -> Result<Setup, Failure> {
+    Ok(Setup {
+        depth: arguments.number("--depth")?.unwrap_or(DEPTH),
+        blocks: arguments.number("--window")?.unwrap_or(WINDOW),
+        tail: tail(arguments)?,
+    })
 }
 
 /// The frames that are kept for the end of data.

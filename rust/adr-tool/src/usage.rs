@@ -16,6 +16,7 @@ commands:
   check    read everything and verify it
   salvage  restore what can still be had of a damaged cartridge
   map      show the cartridge as a picture
+  plan     tell the most frames that a recording sends, and the time for them
   demo     record on a faulty drive, read back, compare and show the map
 
   adr COMMAND --help tells more about a command, adr --version the version.
@@ -74,6 +75,11 @@ rest: it needs a larger cartridge. The exit status is then 1. With --tail 0,
 where the end of data finds no place either, and with --overwrite where no new
 job is whole, nothing is recorded instead.
 
+At the end standard error tells the frames that were sent and the write errors
+that they met, with the most frames that so many elements and errors can take;
+those of headers apart. What was given up on a full tape counts. 'adr plan'
+tells the most beforehand.
+
 Files that cannot fit are told before anything is written. A file that changes
 while it is recorded is told, and the exit status is then 1: the recording is
 in force, its other jobs are whole. Names that come again are told.
@@ -90,7 +96,7 @@ in force, its other jobs are whole. Names that come again are told.
   --tail N        frames at the end of the tape that are kept for the end of
                   data, 0 to 255 (8)
   --quiet         no progress and no summary on a terminal, and nothing about
-                  capacity
+                  capacity and frames sent
 ";
 
 /// The help of `list`.
@@ -187,6 +193,33 @@ damaged or a reading would stop, the exit status is 1 after the map was shown.
                 it is whole; '-' is standard output
   --overwrite   replace a file that exists, never an image or a link
   --quiet       no progress on a terminal
+";
+
+/// The help of `plan`.
+pub const PLAN: &str = "\
+usage: adr plan --blocks N --errors N [OPTION...]
+
+Tells the most frames that one recording sends to the drive, fresh or with
+--append, however bad the cartridge is, and the time to write them. Each block,
+each filemark and the end of data is sent once, and at each write error up to
+as many frames again as the smaller of the drive's buffer and the window holds.
+Frames of headers are told apart, as if none of them failed; an error there
+takes at most 4 more.
+'adr record' tells at its end what was sent, and the errors.
+
+The time is that of writing alone, a minute begun counted as one: busy times,
+LOCATEs and what --append reads first come on top. 2,097,000 bytes a second is
+the most that the drives sustain; a frame is 33,280 bytes.
+
+A job takes a block for each 32 KiB begun, two blocks more, and a filemark.
+
+  --blocks N      blocks to be recorded
+  --errors N      write errors to allow for, of blocks, filemarks and the end of
+                  data
+  --filemarks N   filemarks to be recorded, one for each job (1)
+  --depth N       frames that the drive buffers, 1 to 255 (32)
+  --window N      blocks that may wait for the drive, 1 to 64 (64)
+  --rate N        the drive's rate, in units of 1,000 bytes a second (2097)
 ";
 
 /// The help of `demo`.

@@ -24,6 +24,7 @@ fn what_nobody_gets() {
         "map a.adr",
         "map a.adr --svg -",
         "salvage a.adr --into out --overwrite",
+        "plan --blocks 1 --errors 1",
         "--version",
     ] {
         for closed in [">&-", "1</dev/null", "1<file"] {
@@ -48,7 +49,8 @@ fn what_nobody_needs() {
         "format b.adr",
     ] {
         let ran = place.shell(&format!("$ADR {line} >&-")).succeeded();
-        let error = ran.error.lines().find(|line| !line.contains("capacity"));
+        let usual = |line: &str| line.contains("capacity") || line.contains("sent of at most");
+        let error = ran.error.lines().find(|line| !usual(line));
         assert_eq!(error, None, "{line}");
     }
     assert_eq!(place.read("again"), b"x");

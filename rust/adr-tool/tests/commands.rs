@@ -123,7 +123,10 @@ fn every_command_on_a_cartridge() {
     let names = files.map(|(name, _)| name);
     let words = [&["record", "a.adr"][..], &names].concat();
     let recorded = place.adr(&words).succeeded();
-    let told = "adr: a.adr: capacity at most 15.1 GB: 1.6 MB used, at most 15.1 GB free\n";
+    let told = "adr: a.adr: capacity at most 15.1 GB: 1.6 MB used, at most 15.1 GB free\n\
+                adr: a.adr: 51 frames sent of at most 51, \
+                for 50 elements and the end of data with 0 write errors\n\
+                adr: a.adr: 20 header frames sent of at most 20, with 0 write errors\n";
     assert_eq!(
         (recorded.output_text(), recorded.error.as_str()),
         ("", told)

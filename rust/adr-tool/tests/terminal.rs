@@ -79,6 +79,8 @@ fn both_parts_of_an_addition() {
     let starts = [
         "adr: recorded 1 job in 9 blocks ",
         "adr: a.adr: capacity ",
+        "adr: a.adr: 11 frames sent of at most 11, ",
+        "adr: a.adr: 20 header frames sent of at most 20, ",
         "",
     ];
     assert_eq!(screen.len(), starts.len(), "{sent:?}");

@@ -29,7 +29,7 @@ use Rattle.carried_headers.specs.Carried.{isCountedOut, addedTo}
 use Rattle.recording_state.specs.State.{OutcomeSaid, accepting}
 use Rattle.recording_state.specs.Open.{setupOf, isMisfit}
 use Rattle.recording_state.specs.declared.state.State.{State}
-use Rattle.recording_state.proofs.Sizes.{sizes-fit}
+use Rattle.recording_state.proofs.Sizes.{Fitting, sizes-fit}
 use Rattle.reading_state.specs.State.{isAtEnd, endOf}
 use Rattle.reading_state.specs.Open.{toldOf}
 use Rattle.reading_state.specs.declared.state.State.{State as Reading}
@@ -51,14 +51,14 @@ use Rattle.archive_lists.proofs.reading.Invariant.{Ended}
 use Rattle.archive_lists.proofs.recording.Trailing.{MarkerBelow, Marked, Traces, priorOf}
 use Rattle.archive_lists.proofs.tape.Marks.{latest-map}
 use Rattle.archive_lists.proofs.recording.HeaderCopies.{Below}
-use Rattle.archive_lists.proofs.recording.Start.{Started, refused-accepting}
+use Rattle.archive_lists.proofs.recording.Start.{Started, Starts, refused-accepting}
 
 -- ---- an opening that was accepted
 
 pub record AddedView (r : Reading) (depth blocks tail : ℕ) (s : State) : Type 0 where
   pub finished-is : r .finished ≡ true
   pub going-on : r .ended ≡ false
-  pub few : blocks ≤ 64
+  pub sizes : Fitting depth blocks
   pub counts : r .told .update ≤ 4294967293
   pub some-end : r .told .eod .0 ≡ 0 → ⊥
   pub named : r .told .eod .0 ≡ endOf r .0
@@ -91,7 +91,7 @@ added-view r depth blocks tail s =
     record {
       finished-is = ends .0;
       going-on = ends .1;
-      few = sizes-fit depth blocks fit .1;
+      sizes = sizes-fit depth blocks fit;
       counts = ltb-false 4294967293 (r .told .update) count;
       some-end = eqb-false (r .told .eod .0) 0 (place .0);
       named = eqb-true (r .told .eod .0) (endOf r .0) (not-untrue _ (place .1));
@@ -101,6 +101,9 @@ added-view r depth blocks tail s =
   where
     View : OutcomeSaid → Type 0
     View x = x ≡ accepting s → AddedView r depth blocks tail s
+
+pub added-starts : (r : Reading) (depth blocks tail : ℕ) (s : State) → AddedView r depth blocks tail s → Starts depth blocks tail s
+added-starts r depth blocks tail s y = record { header = addedTo (r .told .last) (r .told .pass) (r .told .update) (endOf r); at = endOf r; number = r .expected; trail = r .trail; is = y .is; sizes = y .sizes }
 
 -- ---- what bears the pass at the start
 
@@ -148,7 +151,7 @@ module _ (told : Told) (last : ℕ) (t : Tape) (r : Reading) (earlier : List Ele
       number = r .expected;
       trail = r .trail;
       is = v .is;
-      narrow = let y = v .few in omega arith;
+      narrow = let y = v .sizes .few in omega arith;
       last-is = ap (λ (x : Told). x .last .0) (ended .told-is) ∙ last-is;
       pass-low = subst (λ (n : ℕ). n ≤ 65534) (sym (ap (λ (x : Told). x .pass) (ended .told-is))) low;
       eod-zero = refl;

@@ -10,6 +10,7 @@ use borrow.Author.Tests.{ltb-false, leb-false}
 use lib.Dec.{eqb, ltb, leb}
 use lib.ListN.{length, length-replicate}
 use Rattle.geometry.specs.Place.{asAddress, asSeq, PlaceSaid, address}
+use Rattle.geometry.specs.declared.address.Address.{Address}
 use Rattle.geometry.specs.declared.address.Seq.{Seq}
 use Rattle.frame.specs.Trail.{noTrail}
 use Rattle.frame.specs.declared.trail.Trail.{Trail}
@@ -36,7 +37,7 @@ use Rattle.carried_headers.specs.Carried.{isExhausted, renewed, openingHeader}
 use Rattle.recording_state.specs.Open.{setupOf, startedAt, fresh, openRefused, isMisfit, openWith, openFor, openOf, openBlankFor, openBlankOf}
 use Rattle.recording_state.specs.declared.state.Setup.{Setup}
 use Rattle.recording_state.specs.declared.state.State.{State}
-use Rattle.recording_state.proofs.Sizes.{sizes-fit}
+use Rattle.recording_state.proofs.Sizes.{Fitting, sizes-fit}
 use Rattle.recording_state.specs.declared.state.Stage.the-variants as S
 use Rattle.archive_lists.specs.Recordings as recordings
 use Rattle.archive_lists.specs.Recordings.{Element}
@@ -74,27 +75,36 @@ pub record Started (last : ℕ) (earlier : List Element) (at : ℕ) (s : State) 
   pub zone : (at ≤ 2990) ⊎ (3000 ≤ at)
   pub spread : length earlier + 10 ≤ at
 
+-- and of the opening alone: the sizes that it was given
+pub record Starts (depth blocks tail : ℕ) (s : State) : Type 0 where
+  pub header : Header
+  pub at : Address
+  pub number : Seq
+  pub trail : Trail
+  pub is : startedAt (setupOf depth blocks tail) header at number trail ≡ s
+  pub sizes : Fitting depth blocks
+
 pub refused-accepting : {X : Type 0} {s : State} (n : ℕ) → 1 ≤ n → openRefused n ≡ accepting s → X
 refused-accepting n l e = let z : n ≡ 0 = ap (λ (r : OutcomeSaid). r .number) e in absurd (omega arith)
 
-opened-with : (depth blocks tail : ℕ) (exhausted : Bool) (h : Header) (s : State) → openWith depth blocks tail exhausted h ≡ accepting s → (fresh (setupOf depth blocks tail) h ≡ s) × (blocks ≤ 64) × (exhausted ≡ false)
+opened-with : (depth blocks tail : ℕ) (exhausted : Bool) (h : Header) (s : State) → openWith depth blocks tail exhausted h ≡ accepting s → (fresh (setupOf depth blocks tail) h ≡ s) × Fitting depth blocks × (exhausted ≡ false)
 unfolding openWith
 opened-with depth blocks tail exhausted h s =
-    pick-by (λ (r : OutcomeSaid). r ≡ accepting s → (fresh (setupOf depth blocks tail) h ≡ s) × (blocks ≤ 64) × (exhausted ≡ false)) (isMisfit depth blocks) (λ _ e. refused-accepting 4 (omega arith) e)
-    (λ sizes. pick-by (λ (r : OutcomeSaid). r ≡ accepting s → (fresh (setupOf depth blocks tail) h ≡ s) × (blocks ≤ 64) × (exhausted ≡ false)) exhausted (λ _ e. refused-accepting 5 (omega arith) e)
-    (λ x e. (ap (λ (r : OutcomeSaid). r .session) e, sizes-fit depth blocks sizes .1, x)))
+    pick-by (λ (r : OutcomeSaid). r ≡ accepting s → (fresh (setupOf depth blocks tail) h ≡ s) × Fitting depth blocks × (exhausted ≡ false)) (isMisfit depth blocks) (λ _ e. refused-accepting 4 (omega arith) e)
+    (λ sizes. pick-by (λ (r : OutcomeSaid). r ≡ accepting s → (fresh (setupOf depth blocks tail) h ≡ s) × Fitting depth blocks × (exhausted ≡ false)) exhausted (λ _ e. refused-accepting 5 (omega arith) e)
+    (λ x e. (ap (λ (r : OutcomeSaid). r .session) e, sizes-fit depth blocks sizes, x)))
 
 module _ (g : Geometry) (last depth blocks tail : ℕ) (s : State) (e : lastOf g ≡ address last) where
   pub record OnHeader (h : List ℕ) : Type 0 where
     pub valid : validHeader (asAddress last) h ≡ true
-    pub with : (fresh (setupOf depth blocks tail) (renewed (headerOf h)) ≡ s) × (blocks ≤ 64) × (isExhausted (headerOf h) ≡ false)
+    pub with : (fresh (setupOf depth blocks tail) (renewed (headerOf h)) ≡ s) × Fitting depth blocks × (isExhausted (headerOf h) ≡ false)
 
   on-header-view : (h : List ℕ) → openOf g depth blocks tail h ≡ accepting s → OnHeader h
   unfolding openOf
   on-header-view h = go (readHeader g h) refl
     where
       With : Header → Type 0
-      With x = (fresh (setupOf depth blocks tail) (renewed x) ≡ s) × (blocks ≤ 64) × (isExhausted x ≡ false)
+      With x = (fresh (setupOf depth blocks tail) (renewed x) ≡ s) × Fitting depth blocks × (isExhausted x ≡ false)
 
       go : (c : CheckedSaid) → readHeader g h ≡ c → openFor c depth blocks tail ≡ accepting s → OnHeader h
       go (checked.valid fields) r q =
@@ -118,7 +128,7 @@ module _ (g : Geometry) (last depth blocks tail : ℕ) (s : State) (e : lastOf g
         number = asSeq 0;
         trail = noTrail;
         is = o .with .0;
-        narrow = let y = o .with .1 in omega arith;
+        narrow = let y = o .with .1 .few in omega arith;
         last-is = valid-last last h (o .valid);
         pass-low = let y = x .0 in omega (arith, small);
         eod-zero = refl;
@@ -130,7 +140,7 @@ module _ (g : Geometry) (last depth blocks tail : ℕ) (s : State) (e : lastOf g
         count-fits = let y = x .1 in omega (arith, few);
       }
 
-  blank-with : openBlankOf g depth blocks tail ≡ accepting s → (fresh (setupOf depth blocks tail) (openingHeader (asAddress last) 1 0) ≡ s) × (blocks ≤ 64) × (false ≡ false)
+  blank-with : openBlankOf g depth blocks tail ≡ accepting s → (fresh (setupOf depth blocks tail) (openingHeader (asAddress last) 1 0) ≡ s) × Fitting depth blocks × (false ≡ false)
   unfolding openBlankOf
   blank-with q = opened-with depth blocks tail false (openingHeader (asAddress last) 1 0) s (sym (ap (λ (y : PlaceSaid). openBlankFor y depth blocks tail) e) ∙ q)
 
@@ -143,7 +153,7 @@ module _ (g : Geometry) (last depth blocks tail : ℕ) (s : State) (e : lastOf g
         number = asSeq 0;
         trail = noTrail;
         is = o .0;
-        narrow = let y = o .1 in omega arith;
+        narrow = let y = o .1 .few in omega arith;
         last-is = refl;
         pass-low = omega arith;
         eod-zero = refl;
@@ -179,6 +189,13 @@ module _ (g : Geometry) (last depth blocks tail : ℕ) (s : State) (e : lastOf g
   pub opened-unspent : (o : Opening) → opened g depth blocks tail o ≡ accepting s → s .spent ≡ false
   opened-unspent (on-header h) q = sym (ap (λ (r : State). r .spent) (on-header-view h q .with .0))
   opened-unspent on-none q = sym (ap (λ (r : State). r .spent) (blank-with q .0))
+
+  fresh-starts : (h : Header) {exhausted : Bool} → (fresh (setupOf depth blocks tail) h ≡ s) × Fitting depth blocks × (exhausted ≡ false) → Starts depth blocks tail s
+  fresh-starts h x = record { header = h; at = asAddress 10; number = asSeq 0; trail = noTrail; is = x .0; sizes = x .1 }
+
+  pub opened-starts : (o : Opening) → opened g depth blocks tail o ≡ accepting s → Starts depth blocks tail s
+  opened-starts (on-header h) q = fresh-starts (renewed (headerOf h)) (on-header-view h q .with)
+  opened-starts on-none q = fresh-starts (openingHeader (asAddress last) 1 0) (blank-with q)
 
   -- every valid header that the cartridge holds counts less
   pub starts-below : (t : Tape) (o : Opening) → opened g depth blocks tail o ≡ accepting s → OnNewest last t o → Below last (s .copies .header) t

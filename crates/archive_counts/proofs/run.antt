@@ -1,0 +1,15 @@
+pub mod Goes
+pub mod Calm
+pub mod Holding
+pub mod Exchanges
+pub mod Copying
+pub mod HeaderExchanges
+pub mod HeaderStages
+pub mod Standing
+pub mod Parts
+pub mod Accepting
+pub mod ElementExchanges
+pub mod Places
+pub mod Rounds
+pub mod Closing
+pub mod Whole
