@@ -3,6 +3,7 @@
 pub mod case;
 pub mod chain;
 pub mod content;
+pub mod counts;
 pub mod ending;
 pub mod guarded;
 pub mod layer;
@@ -24,6 +25,7 @@ use crate::frame::{aux_of, number_at};
 use crate::geometry::Address;
 use crate::tape::Tape;
 use content::Element;
+use counts::Counts;
 use ending::{Ending, Endings};
 use layer::RecordingCalls;
 use opening::{Opened, Opening};
@@ -51,6 +53,9 @@ pub struct Tally {
     pub refused: [u64; 3],
     /// Recordings that wrote at 3,000 or behind.
     pub crossed: u64,
+    /// Recordings that met write errors and had the drive take as many frames
+    /// as it then may: of elements and EOD, and of headers.
+    pub reached: [u64; 2],
     /// How those that keep a tail came to their end.
     pub endings: Endings,
     /// How often the drive did each [`crate::drive::Deed`].
@@ -67,6 +72,7 @@ impl Tally {
         self.crossed += other.crossed;
         add_each(&mut self.added, &other.added);
         add_each(&mut self.refused, &other.refused);
+        add_each(&mut self.reached, &other.reached);
         add_each(&mut self.endings.0, &other.endings.0);
         add_each(&mut self.deeds, &other.deeds);
     }
@@ -219,7 +225,9 @@ fn run_to_end<L: Layer>(
 }
 
 fn drive_with(tape: Tape, case: &Case, seed: u64) -> Drive {
-    let depth = usize::try_from(case.depth).unwrap_or(usize::MAX);
+    // It has room for one more than it tells, which no sound session sends.
+    let depth = case.depth.saturating_add(1);
+    let depth = usize::try_from(depth).unwrap_or(usize::MAX);
     Drive::new(tape, depth, case.hostility, seed)
 }
 
@@ -319,7 +327,8 @@ fn recorded_on<L: Layer>(
         return Err(format!("opening answered {outcome:?}"));
     }
     session.plant(before.case.fault);
-    let mut recorder = Recorder::of(drive, session, before.setup, opened);
+    let counts = Counts::of(before.case.depth, before.setup.window_blocks);
+    let mut recorder = Recorder::of(drive, session, before.setup, opened, counts);
     recorder.run(before.calls, before.case.gives_up)?;
     Ok(recorder)
 }
@@ -339,6 +348,10 @@ fn record<L: Layer>(
         _ => {}
     }
     add_each(&mut tally.endings.0, &recorder.endings.0);
+    add_each(
+        &mut tally.reached,
+        &recorder.counts.reached().map(u64::from),
+    );
     let recorded = Recorded {
         accepted: recorder.accepted,
         done: recorder.done,

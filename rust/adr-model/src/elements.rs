@@ -100,6 +100,9 @@ impl Elements {
         if fault == Fault::NumberRestarted {
             self.confirmed = 0;
         }
+        if fault == Fault::ElementAboveDepth {
+            self.depth += 1;
+        }
         if fault == Fault::TrailRestarted {
             (self.filemarks, self.latest_marker) = (0, None);
         }

@@ -32,6 +32,10 @@ pub enum Fault {
     UpdateCountKept,
     /// A window block serves again as soon as the drive took it.
     WindowReusedEarly,
+    /// One more element than D is outstanding.
+    ElementAboveDepth,
+    /// One more header copy than D is outstanding.
+    HeaderAboveDepth,
     /// What is added is numbered from 0 again.
     NumberRestarted,
     /// What is added counts filemarks and names markers from none on.
@@ -63,7 +67,7 @@ pub enum Fault {
 }
 
 /// The faults that recordings of their own show.
-pub const PLANTED: [Fault; 13] = [
+pub const PLANTED: [Fault; 15] = [
     Fault::OldMarkerAddress,
     Fault::FilemarkCountStuck,
     Fault::LocateWhileBuffered,
@@ -77,6 +81,8 @@ pub const PLANTED: [Fault; 13] = [
     Fault::FirstResentOnly,
     Fault::UpdateCountKept,
     Fault::WindowReusedEarly,
+    Fault::ElementAboveDepth,
+    Fault::HeaderAboveDepth,
 ];
 
 /// The faults in adding to a cartridge and in reading one that was added to.

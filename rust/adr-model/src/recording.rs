@@ -185,6 +185,13 @@ impl Recording {
         if fault == Fault::OldEndNotNamed {
             self.opening.old_end = Address(0);
         }
+        self.stage = Stage::OpeningHeaders(self.copies());
+    }
+
+    /// A walk over the header copies, not begun.
+    fn copies(&self) -> HeaderCopies {
+        let above = self.fault == Fault::HeaderAboveDepth;
+        HeaderCopies::new(self.sizes.depth + usize::from(above))
     }
 
     /// The write pass of this recording.
@@ -327,6 +334,17 @@ impl Recording {
         }
     }
 
+    /// The stage that the session is in, or was when it ended.
+    #[must_use]
+    pub fn stage(&self) -> StageName {
+        match self.stage {
+            Stage::OpeningHeaders(_) => StageName::OpeningHeaders,
+            Stage::LocateFirst | Stage::Elements => StageName::Elements,
+            Stage::ClosingHeaders(_) => StageName::ClosingHeaders,
+            Stage::Done => StageName::Done,
+        }
+    }
+
     /// Where the session stands; none once a refusal has ended it for good.
     #[must_use]
     pub fn state(&self) -> Option<RecordingState> {
@@ -334,12 +352,7 @@ impl Recording {
             depth: count(self.sizes.depth),
             window_blocks: count(self.sizes.window_blocks),
             tail: self.sizes.tail,
-            stage: match self.stage {
-                Stage::OpeningHeaders(_) => StageName::OpeningHeaders,
-                Stage::LocateFirst | Stage::Elements => StageName::Elements,
-                Stage::ClosingHeaders(_) => StageName::ClosingHeaders,
-                Stage::Done => StageName::Done,
-            },
+            stage: self.stage(),
             closed: self.closed,
             spent: self.spent,
             exchange: ExchangeState {
@@ -403,7 +416,7 @@ impl Recording {
             Stage::LocateFirst | Stage::Elements => {
                 self.elements.reply(command, reply)?;
                 self.stage = if self.elements.eod().is_some() {
-                    Stage::ClosingHeaders(HeaderCopies::new(self.sizes.depth))
+                    Stage::ClosingHeaders(self.copies())
                 } else {
                     Stage::Elements
                 };

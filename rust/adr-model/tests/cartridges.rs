@@ -23,6 +23,7 @@ fn cartridges_read_back_as_recorded() {
     assert!(tally.undelivered > CARTRIDGES);
     assert!(tally.crossed > CARTRIDGES / 20);
     assert!(tally.refused.iter().all(|count| *count > 0));
+    assert!(tally.reached.iter().all(|count| *count > CARTRIDGES / 100));
     assert!(tally.deeds.iter().all(|count| *count > CARTRIDGES / 100));
 }
 

@@ -24,6 +24,7 @@ fn chains_read_back_as_accepted() {
     assert!(tally.delivered > CHAINS * 10);
     assert!(tally.undelivered > CHAINS);
     assert!(tally.crossed > CHAINS / 20);
+    assert!(tally.reached.iter().all(|count| *count > CHAINS / 20));
     assert!(tally.deeds.iter().all(|count| *count > CHAINS / 100));
 }
 

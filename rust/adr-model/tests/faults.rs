@@ -4,7 +4,7 @@ use adr_model::check::chain::{
     run_chain, run_chain_demand_and_frames, run_chain_demand_and_tape, run_chain_demand_only,
 };
 use adr_model::check::shrink::{shrink, shrink_chain_on};
-use adr_model::check::{run, run_demand_only, Case, Chain, Model};
+use adr_model::check::{run, run_demand_only, Case, Chain, Model, Tally};
 use adr_model::fault::{PLANTED, PLANTED_IN_ADDING, PLANTED_IN_TAIL};
 use adr_model::Fault;
 
@@ -12,7 +12,7 @@ use adr_model::Fault;
 const SEEDS: u64 = 100;
 /// The same of chains, which take longer.
 const CHAINS: u64 = 40;
-/// The chains among these that must show a fault in what frames name.
+/// Those among these that must show a fault that one look alone finds.
 const SEVERAL: usize = 4;
 
 #[test]
@@ -25,19 +25,50 @@ fn planted_faults_are_found() {
     }
 }
 
-/// The demand alone finds all but two: no reading looks at what a frame names
-/// of filemarks.
+/// The demand alone finds all but four: no reading looks at what a frame names
+/// of filemarks, or at how often it was sent.
 #[test]
 fn the_demand_alone_finds_them() {
     for fault in PLANTED {
         let found = (0..SEEDS).find(|seed| run_demand_only(&Case::of_seed(*seed, fault)).is_err());
-        let unseen = matches!(fault, Fault::OldMarkerAddress | Fault::FilemarkCountStuck);
+        let unseen = matches!(
+            fault,
+            Fault::OldMarkerAddress
+                | Fault::FilemarkCountStuck
+                | Fault::ElementAboveDepth
+                | Fault::HeaderAboveDepth
+        );
         assert_eq!(found.is_none(), unseen, "{fault:?}");
     }
     for seed in 0..SEEDS {
         let run = run_demand_only(&Case::of_seed(seed, Fault::None));
         assert!(run.is_ok(), "seed {seed}: {run:?}");
     }
+}
+
+/// The count of frames shows in several cartridges and chains that more than D
+/// are outstanding, and nothing else shows it.
+#[test]
+fn the_counts_show_one_too_many_outstanding() {
+    for (fault, frames) in [
+        (Fault::ElementAboveDepth, "of elements and EOD, but at most"),
+        (Fault::HeaderAboveDepth, "of headers, but at most"),
+    ] {
+        let cases = (0..SEEDS).map(|seed| run(&Case::of_seed(seed, fault)));
+        let chains = (0..CHAINS).map(|seed| run_chain(&Chain::of_seed(seed, fault)));
+        for found in [wrongs(cases), wrongs(chains)] {
+            println!("{fault:?}: {} found", found.len());
+            assert!(found.len() >= SEVERAL, "{fault:?}: {found:?}");
+            assert!(
+                found.iter().all(|wrong| wrong.contains(frames)),
+                "{found:?}"
+            );
+        }
+    }
+}
+
+fn wrongs(runs: impl Iterator<Item = Result<Tally, String>>) -> Vec<String> {
+    runs.filter_map(Result::err).collect()
 }
 
 #[test]

@@ -6,7 +6,7 @@ use adr_model::fault::PLANTED_IN_ENDING;
 use adr_model::frame::{fill_frame, number_at, Frame, HeaderFields, Kind, Label};
 use adr_model::geometry::{BLOCK_LENGTH, FRAME_LENGTH};
 use adr_model::reply::EARLY_END;
-use adr_model::state::{ExchangeState, ReadingState};
+use adr_model::state::ReadingState;
 use adr_model::{
     Address, Answer, Fault, Geometry, Outcome, Reading, Recording, Reply, SequenceNumber,
 };
@@ -308,35 +308,11 @@ fn a_stale_target() {
     assert_eq!(ends_at(&mut host, 2_746), (6, 0, NONE));
 }
 
-/// What a reading says that ended at `end` behind three elements, the first of
-/// them a filemark at 10.
-fn ended_at(end: u32) -> ReadingState {
-    ReadingState {
-        header: HeaderFields {
-            pass: 7,
-            update_count: 3,
-            last: Address(3_000),
-            eod: Address(end),
-            old_end: Address(0),
-        },
-        next: Address(end + 1),
-        locate: false,
-        expected: SequenceNumber(3),
-        filemarks: 1,
-        latest_marker: Some(Address(10)),
-        finished: true,
-        exchange: ExchangeState {
-            awaited: None,
-            again: None,
-        },
-    }
-}
-
 /// The old end lies in the tail: it is LOCATEd, and EOD goes there again.
 #[test]
 fn added_in_the_tail() {
     for (end, tail) in [(2_989, 255), (2_989, 12), (3_000, 1), (2_746, 255)] {
-        let reading = Reading::of_state(&ended_at(end));
+        let reading = Reading::of_state(&ended_at(end, 3_000));
         let mut host = Host::of(Recording::open_at_end(&reading, 4, 2, tail), 2);
         host.write_headers();
         host.step(locate(end), good());
@@ -348,7 +324,7 @@ fn added_in_the_tail() {
         assert_eq!(ends_at(&mut host, end), (3, 1, 10));
     }
     // One below, the first element fits, fails, and is given up.
-    let reading = Reading::of_state(&ended_at(2_745));
+    let reading = Reading::of_state(&ended_at(2_745, 3_000));
     let mut host = Host::of(Recording::open_at_end(&reading, 4, 2, 255), 2);
     host.write_headers();
     host.step(locate(2_745), good());
@@ -378,7 +354,7 @@ fn openings() {
         assert_eq!(open(&exhausted, tail), REFUSED(4));
         assert_eq!(open(&invalid, tail), REFUSED(3));
         assert_eq!(Recording::open(&smallest(), 1, 1, tail, None).1, REFUSED(4));
-        let mut state = ended_at(20);
+        let mut state = ended_at(20, 3_000);
         let add =
             |state: &ReadingState| Recording::open_at_end(&Reading::of_state(state), 1, 1, tail).1;
         assert_eq!(add(&state), REFUSED(4));

@@ -33,6 +33,7 @@ fn read_back_as_recorded(seeds: impl Iterator<Item = u64>) {
     assert!(tally.undelivered > half);
     assert!(tally.crossed > half / 20);
     assert!(tally.refused.iter().all(|count| *count > 0));
+    assert!(tally.reached.iter().all(|count| *count > half / 100));
     assert!(tally.deeds.iter().all(|count| *count > half / 100));
 }
 

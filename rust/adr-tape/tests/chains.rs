@@ -32,6 +32,7 @@ fn read_back_as_accepted(seeds: impl Iterator<Item = u64>) {
     assert!(tally.delivered > half * 5);
     assert!(tally.undelivered > half);
     assert!(tally.crossed > half / 20);
+    assert!(tally.reached.iter().all(|count| *count > half / 20));
     assert!(tally.deeds.iter().all(|count| *count > half / 100));
 }
 

@@ -9,6 +9,7 @@ use crate::header;
 use crate::reading::Reading;
 use crate::recording::Recording;
 use crate::reply::Reply;
+use crate::state::StageName;
 
 /// The calls that the checks are run on.
 pub trait Layer {
@@ -60,6 +61,9 @@ pub trait RecordingCalls: Clone + Debug + PartialEq {
 
     /// Brings the reply to the command awaited.
     fn reply(&mut self, reply: &Reply) -> Outcome;
+
+    /// The stage that it is in, or was when it ended.
+    fn stage(&self) -> StageName;
 
     /// What the session itself found wrong so far.
     fn wrong(&self) -> Option<String> {
@@ -142,6 +146,10 @@ impl RecordingCalls for Recording {
 
     fn reply(&mut self, reply: &Reply) -> Outcome {
         Recording::reply(self, reply)
+    }
+
+    fn stage(&self) -> StageName {
+        Recording::stage(self)
     }
 }
 

@@ -4,6 +4,7 @@ use std::collections::{BTreeMap, VecDeque};
 
 use super::case::{Call, Setup};
 use super::content::{block, Element};
+use super::counts::Counts;
 use super::ending::{Ending, Endings};
 use super::guarded::Guarded;
 use super::layer::RecordingCalls;
@@ -31,6 +32,8 @@ pub struct Recorder<R> {
     pub kept: Option<usize>,
     /// How it came to its end.
     pub endings: Endings,
+    /// What the drive answered, counted.
+    pub counts: Counts,
     pub(super) session: R,
     /// What the opening headers must say.
     pub(super) opening: HeaderFields,
@@ -78,7 +81,13 @@ pub(super) enum Sent {
 
 impl<R: RecordingCalls> Recorder<R> {
     /// The host of a session opened with this.
-    pub(super) fn of(drive: Drive, session: R, setup: Setup, opened: Opened) -> Recorder<R> {
+    pub(super) fn of(
+        drive: Drive,
+        session: R,
+        setup: Setup,
+        opened: Opened,
+        counts: Counts,
+    ) -> Recorder<R> {
         let blocks = usize::try_from(setup.window_blocks).unwrap_or(0);
         let refused = match opened.outcome {
             Outcome::Accepted => None,
@@ -95,6 +104,7 @@ impl<R: RecordingCalls> Recorder<R> {
             refused,
             kept: None,
             endings: Endings::default(),
+            counts,
             session,
             opening: opened.header,
             first: Some(opened.first),
@@ -308,6 +318,7 @@ impl<R: RecordingCalls> Recorder<R> {
         let refusals = self.phase_or_full();
         self.window_is_right()?;
         let outcome = self.session.accept_block(block(number), &mut self.window);
+        self.counts.accept(outcome);
         if outcome == Outcome::Accepted {
             let start = self.accepted.len() % self.window_blocks * BLOCK_LENGTH;
             if let Some(place) = self.shadow.get_mut(start..start + BLOCK_LENGTH) {
@@ -323,6 +334,7 @@ impl<R: RecordingCalls> Recorder<R> {
         let before = self.session.clone();
         let refusals = self.phase_or_full();
         let outcome = self.session.accept_filemark();
+        self.counts.accept(outcome);
         if outcome == Outcome::Accepted {
             self.accepted.push(Element::Filemark);
         }

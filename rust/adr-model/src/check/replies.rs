@@ -121,7 +121,8 @@ impl<R: RecordingCalls> Recorder<R> {
             self.frame.copy_from_slice(&UNTOUCHED);
         }
         self.awaited = Some((command, reply));
-        Ok(())
+        let stage = self.session.stage();
+        self.counts.answer(stage, command, reply.sense)
     }
 
     /// Whether 9 is due in place of this command.

@@ -6,7 +6,7 @@ pub mod cartridge;
 use adr_model::frame::{fill_header, Frame, HeaderFields};
 use adr_model::geometry::{BLOCK_LENGTH, FRAME_LENGTH};
 use adr_model::reply::GOOD;
-use adr_model::state::Going;
+use adr_model::state::{ExchangeState, Going, ReadingState};
 use adr_model::{Address, Answer, Command, Geometry, Outcome, Recording, Reply, SequenceNumber};
 
 pub const ACCEPTED: Outcome = Outcome::Accepted;
@@ -30,6 +30,30 @@ pub fn header_of(fields: &HeaderFields) -> Frame {
     let mut frame = [0; FRAME_LENGTH];
     fill_header(&mut frame, fields);
     frame
+}
+
+/// What a reading of pass 7 says that ended at `end` behind three elements, the
+/// first of them a filemark at 10, on a tape up to LAST.
+pub fn ended_at(end: u32, last: u32) -> ReadingState {
+    ReadingState {
+        header: HeaderFields {
+            pass: 7,
+            update_count: 3,
+            last: Address(last),
+            eod: Address(end),
+            old_end: Address(0),
+        },
+        next: Address(end + 1),
+        locate: false,
+        expected: SequenceNumber(3),
+        filemarks: 1,
+        latest_marker: Some(Address(10)),
+        finished: true,
+        exchange: ExchangeState {
+            awaited: None,
+            again: None,
+        },
+    }
 }
 
 pub fn locate(address: u32) -> Answer {

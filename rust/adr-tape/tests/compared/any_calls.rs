@@ -1,6 +1,7 @@
 //! Calls of any kind on a recording, with replies that no drive vouches for.
 
 use adr_model::check::content::block;
+use adr_model::check::counts::Counts;
 use adr_model::check::guarded::Guarded;
 use adr_model::check::layer::RecordingCalls;
 use adr_model::geometry::{BLOCK_LENGTH, FRAME_LENGTH};
@@ -128,11 +129,27 @@ impl Lent {
     }
 }
 
+/// Counts this reply to the command that is awaited, if one is.
+fn count_reply(counts: &mut Counts, session: &mut ComparedRecording, reply: &Reply) {
+    let state = session.model.state();
+    let Some(command) = state.and_then(|state| state.exchange.awaited) else {
+        return;
+    };
+    if let Err(wrong) = counts.answer(session.stage(), command, reply.sense) {
+        session.complain(wrong);
+    }
+}
+
 /// A call of any kind, now and then with a wrong length.
-pub fn any_call(random: &mut Random, session: &mut ComparedRecording, lent: &mut Lent) -> Outcome {
+fn any_call(
+    random: &mut Random,
+    session: &mut ComparedRecording,
+    lent: &mut Lent,
+    counts: &mut Counts,
+) -> Outcome {
     match random.below(12) {
-        0 | 1 => lent.accept(session, block(random.byte().into()), 0),
-        2 => session.accept_filemark(),
+        0 | 1 => counts.accept(lent.accept(session, block(random.byte().into()), 0)),
+        2 => counts.accept(session.accept_filemark()),
         3 if random.chance(30) => session.close(),
         4 if random.chance(30) => lent.accept(session, &[1; 7], 0),
         5 if random.chance(30) => lent.accept(session, block(1), 1),
@@ -141,6 +158,7 @@ pub fn any_call(random: &mut Random, session: &mut ComparedRecording, lent: &mut
         3..=7 => lent.fetch(session, 0, 0),
         _ => {
             let reply = any_reply(random, &session.layer);
+            count_reply(counts, session, &reply);
             session.reply(&reply)
         }
     }
@@ -153,8 +171,9 @@ fn number_of(answer: Answer) -> Outcome {
     }
 }
 
-/// Makes so many calls of any kind, with a window of so many blocks; a session
-/// that is spent is mostly closed. The refusal that ended it, 0 for none.
+/// Makes so many calls of any kind on a session just opened, with a window of so
+/// many blocks; one that is spent is mostly closed. The refusal that ended it, 0
+/// for none.
 pub fn make_any_calls(
     seed: u32,
     random: &mut Random,
@@ -163,9 +182,11 @@ pub fn make_any_calls(
     calls: u32,
 ) -> u8 {
     let mut lent = Lent::new(blocks);
+    let depth = session.layer.setup.depth.into();
+    let mut counts = Counts::of(depth, u32::try_from(blocks).unwrap_or(0));
     for _ in 0..calls {
         let before = session.clone();
-        let outcome = any_call(random, session, &mut lent);
+        let outcome = any_call(random, session, &mut lent, &mut counts);
         right(session.wrong(), seed);
         assert!(lent.is_as_held(), "seed {seed}: a buffer was altered");
         match outcome {

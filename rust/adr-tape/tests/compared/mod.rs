@@ -12,6 +12,7 @@ use std::cell::RefCell;
 
 use adr_model::check::guarded::Guarded;
 use adr_model::check::layer::{Layer, ReadingCalls, RecordingCalls};
+use adr_model::state::StageName;
 use adr_model::{
     Address, Answer, Command, Fault, Geometry, Outcome, ReadAnswer, ReadOutcome, Reading,
     Recording, Reply,
@@ -287,6 +288,11 @@ impl RecordingCalls for ComparedRecording {
         let outcome = self.model.reply(reply);
         let replied = ffi::record_reply(self.layer, reply_of(reply));
         self.note("a reply", true, outcome, replied)
+    }
+
+    /// The model's: a layer in another stage is complained of.
+    fn stage(&self) -> StageName {
+        self.model.stage()
     }
 
     fn wrong(&self) -> Option<String> {
