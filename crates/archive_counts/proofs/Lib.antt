@@ -1,3 +1,4 @@
+pub mod Between
 pub mod Tallies
 pub mod bound
 pub mod run

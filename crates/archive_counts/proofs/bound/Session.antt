@@ -23,6 +23,7 @@ use Rattle.recording_state.specs.declared.state.State.{State}
 use Rattle.recording_state.specs.declared.state.Stage.{Stage}
 use Rattle.recording_state.specs.declared.state.Stage.the-variants as S
 use Rattle.recording_state.proofs.Stages.{HeaderStage, ElementStage}
+use Rattle.archive_counts.proofs.Between.{Between}
 use Rattle.archive_counts.proofs.Tallies.{Tally}
 use Rattle.archive_counts.proofs.bound.ElementCounts as element
 use Rattle.archive_counts.proofs.bound.HeaderCounts as header
@@ -56,16 +57,11 @@ fit-bound s f = (element.counts-bound (s .elements) (f .elements), header.counts
 
 -- ---- no command is asked
 
-pub record Quiet (s : State) : Type 0 where
-  pub going : s .ended ≡ false
-  pub free : s .exchange .awaiting ≡ false
-  pub told : s .exchange .again ≡ false
-
 pub unspent : {X : Type 0} (s : State) → s .ended ≡ false → isSpent s ≡ true → X
 unspent s going is = clash (and-true (s .ended) (s .spent) is .0) going
 
 pub quiet-fit : {D W n : ℕ} {t : Tally} (s : State) → Sizes D W (s .setup) → element.Counts D W n (t .taken) (t .errors * smaller D W) (s .elements)
-    → header.Counts D (t .headers) (t .header-errors * copiesAgain D) (s .stage) (s .copies) → (s .elements .eod ≡ true → s .closed ≡ true) → Quiet s → Fit D W n t s
+    → header.Counts D (t .headers) (t .header-errors * copiesAgain D) (s .stage) (s .copies) → (s .elements .eod ≡ true → s .closed ≡ true) → Between (s .ended) (s .exchange) → Fit D W n t s
 quiet-fit s sizes e h closed q = record {
   sizes = sizes;
   elements = e;

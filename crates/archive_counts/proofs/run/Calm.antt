@@ -1,13 +1,12 @@
 -- A session between two exchanges, and what a stage leaves alone of it. Assumes nothing.
 use Prim.Native.Nat.{ℕ}
 use mathlib.Core.Path.{_≡_, refl, ap}
-use mathlib.Core.Bool.{Bool, true, false, _&&_}
+use mathlib.Core.Bool.{Bool, true, _&&_}
 use mathlib.Core.List.{List}
 use lib.ListN.{length}
 use Rattle.buffer.specs.Bytes.{agree}
 use Rattle.buffer.proofs.Agreement.{agree-same}
 use Rattle.drive.specs.declared.command.Command.{Command}
-use Rattle.drive.specs.declared.exchange.Exchange.{Exchange}
 use Rattle.copies.specs.declared.copies.Copies.{Copies}
 use Rattle.elements.specs.declared.elements.Elements.{Elements}
 use Rattle.recording_state.specs.State.{withStage, withCopies, withElements, windowLength}
@@ -20,12 +19,7 @@ use Rattle.recording_state.proofs.FetchView.{both}
 use Rattle.archive_lists.specs.Conduct.{Drive}
 use Rattle.archive_lists.specs.Recordings as recordings
 use Rattle.archive_lists.specs.Recordings.{Element, World, Notes}
-
--- it goes on, and no command is in flight or to be given again
-pub record Between (ended : Bool) (x : Exchange) : Type 0 where
-  pub going : ended ≡ false
-  pub free : x .awaiting ≡ false
-  pub told : x .again ≡ false
+use Rattle.archive_counts.proofs.Between.{Between}
 
 -- these elements were accepted, none of them given up, and the window was lent as left each time
 pub record Noted (xs : List Element) (notes : Notes) : Type 0 where
