@@ -21,6 +21,7 @@ use Rattle.archive_lists.specs.Fold.{finished, wholeOf}
 use Rattle.archive_lists.specs.Recordings as recordings
 use Rattle.archive_lists.specs.Recordings.{Element, promised}
 use Rattle.archive.specs.Demand.{Readable}
+use Rattle.archive.specs.PowerCut.{EarlierFirst}
 use Rattle.archive.specs.Chain.{Start, fresh, added, earlierOf, OnItsNewest, AsItStands, NoneInTheWay, Read, Adds, Closed, Way, adding, wayOf, Chain, first, more, Together, one-more, none, acceptedIn, NoneGiven, ReadTogether, WithoutTails, Chains}
 use Rattle.archive_lists.proofs.tape.FoldLaws.{fold-users}
 use Rattle.archive.proofs.Continued.{left-whole, readable, read-count, read-behind, leaves, start-kept, added-ended, continued}
@@ -117,22 +118,24 @@ module _ (g : Geometry) (last : ℕ) (seg : g .segtrk < 2 ^ 16) (trk : g .trks <
       }
 
   -- its reading delivered what the chain before holds
-  pub earlier-is : (t : Tape) (xs : List Element) (ns : List recordings.Notes) (held : Held g last t xs ns) (d : Drive) (s : State) (b : Start g last s) (w : recordings.World) → Cartridge last (d .tape) → wayOf b ≡ adding
-      → SameFrames last t (d .tape) → OnItsNewest b t → Closed g last d s b w → earlierOf b ≡ held .reads .elements
-  earlier-is t xs ns held d s (fresh depth blocks tail o op) w cart is same on c = never (cc)
-  earlier-is t xs ns held d s (added depth blocks tail u h r read op) w cart is same on c =
+  pub earlier-is : (t : Tape) (xs : List Element) (ns : List recordings.Notes) (held : Held g last t xs ns) (s : State) (b : Start g last s) → wayOf b ≡ adding → OnItsNewest b t → AsItStands b t → earlierOf b ≡ held .reads .elements
+  earlier-is t xs ns held s (fresh depth blocks tail o op) is on same = never (cc)
+  earlier-is t xs ns held s (added depth blocks tail u h r read op) is on same =
       let told = toldOf (headerOf h) in
       let x = added-ended g last seg trk e s depth blocks tail u h r read op in
-      let users : (v : Tape) → SameFrames last v (d .tape) → wholeOf told v ≡ wholeOf told (d .tape) =
-      λ v q. fold-users told v (d .tape) (subst (λ (n : ℕ). SameFrames n v (d .tape)) (sym (valid-last last h (on .here .valid))) q) (headerOf h .last .0 + 1) in
-      finished-same (sym (x .ended .whole) ∙ users u (c .as-it-stands) ∙ sym (users t same) ∙ held .whole h on)
+      finished-same (sym (x .ended .whole) ∙ fold-users told u t (subst (λ (n : ℕ). SameFrames n u t) (sym (valid-last last h (on .here .valid))) same) (headerOf h .last .0 + 1) ∙ held .whole h on)
+
+  -- the frames read are those that the session before left
+  pub as-left : (t v : Tape) (s : State) (b : Start g last s) → SameFrames last t v → AsItStands b v → AsItStands b t
+  as-left t v s (fresh depth blocks tail o op) same stands = tt
+  as-left t v s (added depth blocks tail u h r read op) same stands = λ a user. stands a user ∙ sym (same a user)
 
   chain-held : {begun : Way} {t : Tape} {xs : List Element} {ns : List recordings.Notes} → Chain g last begun t xs ns → Held g last t xs ns
   chain-held (first d s b w cart is c) = held-behind g last (w .drive .tape) (earlierOf b) [] (earlierOf b) (w .notes) _ none (nothing-whole (earlierOf b)) (closed-left d s b w cart c)
   chain-held (more t xs ns before d s b w cart is same on c) =
       let h = chain-held before in
       held-behind g last (w .drive .tape) xs ns (h .reads .elements) (w .notes) _ (h .reads .together) (h .reads .whole)
-      (subst (λ (ys : List Element). Left g last (w .drive .tape) ys (w .notes) (closed-count d s b w cart c)) (earlier-is t xs ns h d s b w cart is same on c) (closed-left d s b w cart c))
+      (subst (λ (ys : List Element). Left g last (w .drive .tape) ys (w .notes) (closed-count d s b w cart c)) (earlier-is t xs ns h s b is on (as-left t (d .tape) s b same (c .as-it-stands))) (closed-left d s b w cart c))
 
   -- without a tail nothing is given up in it
   ungiven : (d : Drive) (s : State) (b : Start g last s) (w : recordings.World) → Cartridge last (d .tape) → Closed g last d s b w → s .setup .tail ≡ 0 → w .notes .givenUp ≡ 0
@@ -146,3 +149,12 @@ module _ (g : Geometry) (last : ℕ) (seg : g .segtrk < 2 ^ 16) (trk : g .trks <
 pub chains : Chains
 unfolding Chains
 chains g last begun t xs ns seg trk e c = (chain-held g last seg trk e c .reads, none-given g last seg trk e c)
+
+-- ---- and a session behind it
+
+pub earlier-first : EarlierFirst
+unfolding EarlierFirst
+earlier-first g last begun t xs ns s b seg trk e c is on same =
+    let h = chain-held g last seg trk e c in
+    let q = sym (earlier-is g last seg trk e t xs ns h s b is on same) in
+    (subst (Together xs ns) q (h .reads .together), λ none. sym q ∙ h .reads .whole none)

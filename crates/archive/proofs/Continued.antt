@@ -18,7 +18,7 @@ use Rattle.geometry.proofs.Last.{frames-of, last-small}
 use Rattle.geometry.proofs.TestLaws.{neither}
 use Rattle.frame.specs.declared.element.Kind.the-variants.{Marker}
 use Rattle.frame.specs.declared.header.Header.{Header}
-use Rattle.header.specs.Valid.{headerOf}
+use Rattle.header.specs.Valid.{headerOf, updateOf}
 use Rattle.header.proofs.Facts.{valid-last, valid-pass}
 use Rattle.judgement.specs.Judgement.{endsFrom}
 use Rattle.judgement.specs.declared.told.Told.{Told}
@@ -52,6 +52,7 @@ use Rattle.archive_lists.proofs.tape.Basics.{promised-all}
 use Rattle.archive_lists.proofs.tape.Seen.{Seen, Clean}
 use Rattle.archive_lists.proofs.tape.Stands.{telling}
 use Rattle.archive_lists.proofs.tape.FoldLaws.{fold-users}
+use Rattle.archive_cuts.proofs.View.{Fair}
 use Rattle.archive_lists.proofs.tape.Ended.{EndsHere, fold-ended, ends-known}
 use Rattle.archive_lists.proofs.reading.Invariant.{Ended}
 use Rattle.archive_lists.proofs.reading.Promises.{AtEnd, at-end-so}
@@ -60,7 +61,7 @@ use Rattle.archive_lists.proofs.recording.Setting.{Setting, HeadersLeft, Leaves
 use Rattle.archive_lists.proofs.recording.Invariant.{Inv, gaveUp, live, rejecting, spent, over}
 use Rattle.archive_lists.proofs.recording.InvariantLaws.{flight-awaits, fetch-awaited}
 use Rattle.archive_lists.proofs.recording.Start.{Started, started-as, starts-below, sets, pass-is, trail-none, opened-unspent, nothing-seen, nothing-borne, nothing-traced, begins}
-use Rattle.archive.proofs.recording.Added.{AddedView, at-end-facts, added-view, added-started, added-pass, added-traced, marker-low, added-below, added-seen, added-clean}
+use Rattle.archive.proofs.recording.Added.{AddedView, at-end-facts, added-view, added-started, added-pass, added-traced, marker-low, added-count, added-below, added-seen, added-fair, added-clean}
 use Rattle.archive_lists.proofs.recording.Noted.{noted, runs-with}
 use Rattle.archive_lists.proofs.recording.SetUp.{close-unspent, runs-unspent}
 use Rattle.archive_lists.proofs.Refusals.{close-spent}
@@ -205,35 +206,34 @@ pub record Kept (last pass : ℕ) (on-newest as-it-stands none-in-the-way : Type
   pub whole : Inv last pass on-newest (as-it-stands × none-in-the-way) prior (noted earlier true w)
   pub frames : Inv last pass on-newest none-in-the-way prior (noted earlier false w)
 
-module _ (g : Geometry) (last : ℕ) (seg : g .segtrk < 2 ^ 16) (trk : g .trks < 2 ^ 16) (e : lastOf g ≡ address last) (d : Drive) (window : List ℕ) (calls : List recordings.Call) (w : recordings.World)
+kept-on : {last pass : ℕ} {on-newest as-it-stands none-in-the-way : Type 0} {prior : Prior} {earlier : List Element} {w v : recordings.World} {calls : List recordings.Call}
+    → Kept last pass on-newest as-it-stands none-in-the-way prior earlier w → recordings.Runs w calls v → Kept last pass on-newest as-it-stands none-in-the-way prior earlier v
+kept-on {earlier = earlier} k r = record { set = k .set; whole = runs-keep (k .set) (k .whole) (runs-with earlier true r); frames = runs-keep (k .set) (k .frames) (runs-with earlier false r) }
+
+module _ (g : Geometry) (last : ℕ) (seg : g .segtrk < 2 ^ 16) (trk : g .trks < 2 ^ 16) (e : lastOf g ≡ address last) (d : Drive) (window : List ℕ)
     (cart : Cartridge last (d .tape)) (unwritten : d .written ≡ []) (rest : AtRest d) where
   -- from the start of its elements, and what the cartridge was then
-  begun-kept : (s : State) (earlier : List Element) (at : ℕ) (x : Started last earlier at s) (on-newest as-it-stands none-in-the-way : Type 0) → recordings.Runs (recordings.started s window d) calls w
+  begun-kept : (s : State) (earlier : List Element) (at : ℕ) (x : Started last earlier at s) (on-newest as-it-stands none-in-the-way : Type 0)
       → (on-newest → Below last (s .copies .header) (d .tape)) → (as-it-stands → none-in-the-way → Seen last (s .copies .header .pass) earlier earlier (length earlier) at (d .tape))
       → (none-in-the-way → Clean last (s .copies .header .pass) at (d .tape))
-      → Traces earlier (Marked (priorOf last (s .copies .header .pass) earlier at (d .tape) as-it-stands) last (s .copies .header .pass) at (d .tape)) (length earlier) (s .elements .trail)
-      → Kept last (s .copies .header .pass) on-newest as-it-stands none-in-the-way (priorOf last (s .copies .header .pass) earlier at (d .tape) as-it-stands) earlier w
-  begun-kept s earlier at x on-newest as-it-stands none-in-the-way r below seen clean traced =
+      → Traces earlier (Marked (priorOf last (s .copies .header) earlier at (d .tape) as-it-stands) last (s .copies .header .pass) at (d .tape)) (length earlier) (s .elements .trail)
+      → Kept last (s .copies .header .pass) on-newest as-it-stands none-in-the-way (priorOf last (s .copies .header) earlier at (d .tape) as-it-stands) earlier (recordings.started s window d)
+  begun-kept s earlier at x on-newest as-it-stands none-in-the-way below seen clean traced =
       let set = sets g last earlier at s seg trk e x in
       record {
         set = set;
-        whole =
-            runs-keep set (begins last d window earlier true at s x on-newest (as-it-stands × none-in-the-way) as-it-stands set unwritten rest cart below (λ c _. seen (c .0) (c .1)) (λ c. clean (c .1)) traced) (runs-with earlier true r);
-        frames = runs-keep set (begins last d window earlier false at s x on-newest none-in-the-way as-it-stands set unwritten rest cart below (λ _ z. absurd (true≢false (sym z))) clean traced) (runs-with earlier false r);
+        whole = begins last d window earlier true at s x on-newest (as-it-stands × none-in-the-way) as-it-stands set unwritten rest cart below (λ c _. seen (c .0) (c .1)) (λ c. clean (c .1)) traced;
+        frames = begins last d window earlier false at s x on-newest none-in-the-way as-it-stands set unwritten rest cart below (λ _ z. absurd (true≢false (sym z))) clean traced;
       }
 
-  -- ---- opened afresh
+-- ---- opened afresh
 
-  module _ (s : State) (depth blocks tail : ℕ) (o : Opening) (op : opened g depth blocks tail o ≡ accepting s) where
-    none-there : NoneBears last (d .tape) (newPass o) → NoneBears last (d .tape) (s .copies .header .pass)
-    none-there = subst (NoneBears last (d .tape)) (sym (pass-is g last depth blocks tail s e o op))
+module _ (g : Geometry) (last : ℕ) (e : lastOf g ≡ address last) (s : State) (depth blocks tail : ℕ) (o : Opening) (op : opened g depth blocks tail o ≡ accepting s) (t : Tape) where
+  pub fresh-none : NoneBears last t (newPass o) → NoneBears last t (s .copies .header .pass)
+  fresh-none = subst (NoneBears last t) (sym (pass-is g last depth blocks tail s e o op))
 
-    fresh-kept : recordings.Runs (recordings.started s window d) calls w → Kept last (s .copies .header .pass) (OnNewest last (d .tape) o) (Unit {0}) (NoneBears last (d .tape) (newPass o)) (priorOf last (s .copies .header .pass) [] 10 (d .tape) (Unit {0})) [] w
-    fresh-kept r =
-        begun-kept s [] 10 (started-as g last depth blocks tail s e (frames-of g last e .large) o op) (OnNewest last (d .tape) o) (Unit {0}) (NoneBears last (d .tape) (newPass o)) r
-        (starts-below g last depth blocks tail s e (d .tape) o op) (λ _ none. nothing-seen last (s .copies .header .pass) (d .tape) cart (none-there none))
-        (λ none. nothing-borne last (s .copies .header .pass) (d .tape) (none-there none))
-        (nothing-traced _ (s .elements .trail) (trail-none g last depth blocks tail s e o op))
+  fresh-seen : Cartridge last t → NoneBears last t (newPass o) → Seen last (s .copies .header .pass) [] [] 0 10 t
+  fresh-seen cart none = nothing-seen last (s .copies .header .pass) t cart (fresh-none none)
 
 -- ---- a session that was opened at the end of a reading
 
@@ -273,22 +273,35 @@ module _ (g : Geometry) (last : ℕ) (seg : g .segtrk < 2 ^ 16) (trk : g .trks <
       → (j b : ℕ) (f : List ℕ) → isUser last b ≡ true → t b ≡ some f → FoundAs (telling last (headerOf h .pass) 0) (record { 0 = j }) Marker f → b < endOf (r .session) .0
   markers-low t same = marker-low (toldOf (headerOf h)) last t (r .session) (r .notes .deliveries) large (opened-is .last-is) (ended-now t same) depth blocks tail s view
 
-  module _ (d : Drive) (window : List ℕ) (calls : List recordings.Call) (w : recordings.World) (cart : Cartridge last (d .tape)) (unwritten : d .written ≡ []) (rest : AtRest d) where
-    abbrev None : Type 0
-    None = NoneAbove last (d .tape) (endOf (r .session) .0) (headerOf h .pass)
+  -- it sees what the reading delivered, and from the old end on each frame is of another pass, or as the table has it
+  added-sees : (t : Tape) → Cartridge last t → SameFrames last u t → NoneAbove last t (endOf (r .session) .0) (headerOf h .pass)
+      → Seen last (s .copies .header .pass) (r .notes .deliveries) (r .notes .deliveries) (length (r .notes .deliveries)) (endOf (r .session) .0) t
+  added-sees t cart same none =
+      subst (λ (n : ℕ). Seen last n (r .notes .deliveries) (r .notes .deliveries) (length (r .notes .deliveries)) (endOf (r .session) .0) t) pass-kept
+      (added-seen (toldOf (headerOf h)) last t (r .session) (r .notes .deliveries) large (opened-is .last-is) (ended-now t same) depth blocks tail s view cart none)
 
-    added-kept : recordings.Runs (recordings.started s window d) calls w → Kept last (s .copies .header .pass) (Newest last (d .tape) h) (SameFrames last u (d .tape)) None
-        (priorOf last (s .copies .header .pass) (r .notes .deliveries) (endOf (r .session) .0) (d .tape) (SameFrames last u (d .tape))) (r .notes .deliveries) w
-    added-kept runs =
-        begun-kept g last seg trk e d window calls w cart unwritten rest s (r .notes .deliveries) (endOf (r .session) .0)
-        added-so
-        (Newest last (d .tape) h) (SameFrames last u (d .tape)) None runs
-        (added-below (toldOf (headerOf h)) last u (r .session) (r .notes .deliveries) large (opened-is .last-is) (added-ended .ended) depth blocks tail s view h refl (d .tape))
-        (λ same none.
-        subst (λ (n : ℕ). Seen last n (r .notes .deliveries) (r .notes .deliveries) (length (r .notes .deliveries)) (endOf (r .session) .0) (d .tape)) pass-kept
-        (added-seen (toldOf (headerOf h)) last (d .tape) (r .session) (r .notes .deliveries) large (opened-is .last-is) (ended-now (d .tape) same) depth blocks tail s view cart none))
-        (λ none. subst (λ (n : ℕ). Clean last n (endOf (r .session) .0) (d .tape)) pass-kept (added-clean none))
-        (added-traced (toldOf (headerOf h)) last u (r .session) (r .notes .deliveries) large (opened-is .last-is) (added-ended .ended) depth blocks tail s view (last-small g last seg trk (frames-of g last e)) (d .tape))
+  pub added-fairly : (t : Tape) → Cartridge last t → SameFrames last u t → NoneAbove last t (endOf (r .session) .0) (headerOf h .pass) → Fair last (s .copies .header .pass) (endOf (r .session) .0) t
+  added-fairly t cart same none =
+      subst (λ (n : ℕ). Fair last n (endOf (r .session) .0) t) pass-kept
+      (added-fair (toldOf (headerOf h)) last t (r .session) (r .notes .deliveries) large (opened-is .last-is) (ended-now t same) depth blocks tail s view cart none)
+
+  pub added-counts : updateOf h < s .copies .header .update
+  added-counts = added-count (toldOf (headerOf h)) last u (r .session) (r .notes .deliveries) large (opened-is .last-is) (added-ended .ended) depth blocks tail s view h refl
+
+  -- the header that it was opened on names the old end
+  pub names-old : (headerOf h .eod .0 ≡ 0 → ⊥) × (headerOf h .eod .0 ≡ endOf (r .session) .0)
+  names-old = let same = ap (λ (x : Told). x .eod .0) (added-ended .ended .told-is) in (λ z. view .some-end (same ∙ z), sym same ∙ view .named)
+
+  added-kept : (d : Drive) (window : List ℕ) → Cartridge last (d .tape) → d .written ≡ [] → AtRest d
+      → Kept last (s .copies .header .pass) (Newest last (d .tape) h) (SameFrames last u (d .tape)) (NoneAbove last (d .tape) (endOf (r .session) .0) (headerOf h .pass))
+      (priorOf last (s .copies .header) (r .notes .deliveries) (endOf (r .session) .0) (d .tape) (SameFrames last u (d .tape))) (r .notes .deliveries) (recordings.started s window d)
+  added-kept d window cart unwritten rest =
+      begun-kept g last seg trk e d window cart unwritten rest s (r .notes .deliveries) (endOf (r .session) .0) added-so
+      (Newest last (d .tape) h) (SameFrames last u (d .tape)) (NoneAbove last (d .tape) (endOf (r .session) .0) (headerOf h .pass))
+      (added-below (toldOf (headerOf h)) last u (r .session) (r .notes .deliveries) large (opened-is .last-is) (added-ended .ended) depth blocks tail s view h refl (d .tape))
+      (added-sees (d .tape) cart)
+      (λ none. subst (λ (n : ℕ). Clean last n (endOf (r .session) .0) (d .tape)) pass-kept (added-clean none))
+      (added-traced (toldOf (headerOf h)) last u (r .session) (r .notes .deliveries) large (opened-is .last-is) (added-ended .ended) depth blocks tail s view (last-small g last seg trk (frames-of g last e)) (d .tape))
 
 -- ---- however it was opened
 
@@ -300,16 +313,33 @@ start-unspent : (g : Geometry) (last : ℕ) → lastOf g ≡ address last → (s
 start-unspent g last e s (fresh depth blocks tail o q) = opened-unspent g last depth blocks tail s e o q
 start-unspent g last e s (added depth blocks tail u h r read q) = sym (ap (λ (x : State). x .spent) (added-view (r .session) depth blocks tail s q .is))
 
+-- the invariant at its start
+pub start-begins : (g : Geometry) (last : ℕ) → g .segtrk < 2 ^ 16 → g .trks < 2 ^ 16 → lastOf g ≡ address last → (d : Drive) (window : List ℕ)
+    → Cartridge last (d .tape) → d .written ≡ [] → AtRest d → (s : State) (b : Start g last s)
+    → Kept last (s .copies .header .pass) (OnItsNewest b (d .tape)) (AsItStands b (d .tape)) (NoneInTheWay b (d .tape))
+    (priorOf last (s .copies .header) (earlierOf b) (startOf b) (d .tape) (AsItStands b (d .tape))) (earlierOf b) (recordings.started s window d)
+start-begins g last seg trk e d window cart unwritten rest s (fresh depth blocks tail o op) =
+    begun-kept g last seg trk e d window cart unwritten rest s [] 10 (started-as g last depth blocks tail s e (frames-of g last e .large) o op) (OnNewest last (d .tape) o) (Unit {0}) (NoneBears last (d .tape) (newPass o))
+    (starts-below g last depth blocks tail s e (d .tape) o op) (λ _. fresh-seen g last e s depth blocks tail o op (d .tape) cart)
+    (λ none. nothing-borne last (s .copies .header .pass) (d .tape) (fresh-none g last e s depth blocks tail o op (d .tape) none))
+    (nothing-traced _ (s .elements .trail) (trail-none g last depth blocks tail s e o op))
+start-begins g last seg trk e d window cart unwritten rest s (added depth blocks tail u h r read op) = added-kept g last seg trk e s depth blocks tail u h r read op d window cart unwritten rest
+
+-- what a reading sees there
+pub start-seen : (g : Geometry) (last : ℕ) → g .segtrk < 2 ^ 16 → g .trks < 2 ^ 16 → lastOf g ≡ address last → (t : Tape) → Cartridge last t → (s : State) (b : Start g last s) → AsItStands b t → NoneInTheWay b t
+    → Seen last (s .copies .header .pass) (earlierOf b) (earlierOf b) (length (earlierOf b)) (startOf b) t
+start-seen g last seg trk e t cart s (fresh depth blocks tail o op) same none = fresh-seen g last e s depth blocks tail o op t cart none
+start-seen g last seg trk e t cart s (added depth blocks tail u h r read op) same none = added-sees g last seg trk e s depth blocks tail u h r read op t cart same none
+
 pub start-kept : (g : Geometry) (last : ℕ) → g .segtrk < 2 ^ 16 → g .trks < 2 ^ 16 → lastOf g ≡ address last → (d : Drive) (window : List ℕ) (calls : List recordings.Call) (w : recordings.World)
     → Cartridge last (d .tape) → d .written ≡ [] → AtRest d → (s : State) (b : Start g last s) → recordings.Runs (recordings.started s window d) calls w
     → Kept last (s .copies .header .pass) (OnItsNewest b (d .tape)) (AsItStands b (d .tape)) (NoneInTheWay b (d .tape))
-    (priorOf last (s .copies .header .pass) (earlierOf b) (startOf b) (d .tape) (AsItStands b (d .tape))) (earlierOf b) w
-start-kept g last seg trk e d window calls w cart unwritten rest s (fresh depth blocks tail o op) r = fresh-kept g last seg trk e d window calls w cart unwritten rest s depth blocks tail o op r
-start-kept g last seg trk e d window calls w cart unwritten rest s (added depth blocks tail u h r read op) runs = added-kept g last seg trk e s depth blocks tail u h r read op d window calls w cart unwritten rest runs
+    (priorOf last (s .copies .header) (earlierOf b) (startOf b) (d .tape) (AsItStands b (d .tape))) (earlierOf b) w
+start-kept g last seg trk e d window calls w cart unwritten rest s b r = kept-on (start-begins g last seg trk e d window cart unwritten rest s b) r
 
 pub kept-after : (g : Geometry) (last : ℕ) → g .segtrk < 2 ^ 16 → g .trks < 2 ^ 16 → lastOf g ≡ address last → (d : Drive) (w : recordings.World) (s : State) (b : Start g last s) → HasRecorded last d s w
     → Kept last (s .copies .header .pass) (OnItsNewest b (d .tape)) (AsItStands b (d .tape)) (NoneInTheWay b (d .tape))
-    (priorOf last (s .copies .header .pass) (earlierOf b) (startOf b) (d .tape) (AsItStands b (d .tape))) (earlierOf b) w
+    (priorOf last (s .copies .header) (earlierOf b) (startOf b) (d .tape) (AsItStands b (d .tape))) (earlierOf b) w
 kept-after g last seg trk e d w s b x = start-kept g last seg trk e d (x .window) (x .calls) w (x .cartridge) (x .unwritten) (x .rests) s b (x .runs)
 
 module _ {last pass : ℕ} {on-newest as-it-stands none-in-the-way : Type 0} {prior : Prior} {earlier : List Element} {w : recordings.World} (k : Kept last pass on-newest as-it-stands none-in-the-way prior earlier w) where
@@ -351,7 +381,7 @@ continued g last d s b window calls w seg trk e cart unwritten rest runs = recor
       };
 }
   where
-    k : Kept last (s .copies .header .pass) (OnItsNewest b (d .tape)) (AsItStands b (d .tape)) (NoneInTheWay b (d .tape)) (priorOf last (s .copies .header .pass) (earlierOf b) (startOf b) (d .tape) (AsItStands b (d .tape))) (earlierOf b) w
+    k : Kept last (s .copies .header .pass) (OnItsNewest b (d .tape)) (AsItStands b (d .tape)) (NoneInTheWay b (d .tape)) (priorOf last (s .copies .header) (earlierOf b) (startOf b) (d .tape) (AsItStands b (d .tape))) (earlierOf b) w
     k = start-kept g last seg trk e d window calls w cart unwritten rest s b runs
 
     v : recordings.World

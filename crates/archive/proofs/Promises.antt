@@ -6,10 +6,12 @@ use Rattle.archive.specs.Promises.{Promises}
 use Rattle.archive.proofs.Demand.{demand-3}
 use Rattle.archive.proofs.EndNamed.{end-named}
 use Rattle.archive_lists.proofs.Fold.{reading-is-fold, fold-of-user-frames}
-use Rattle.archive.proofs.Chain.{adds, chains}
+use Rattle.archive.proofs.Chain.{adds, chains, earlier-first}
 use Rattle.archive.proofs.Trails.{writes-name-markers, chains-name-markers}
 use Rattle.archive.proofs.WorstCase.{worst-case}
 use Rattle.archive.proofs.WorstReached.{worst-reached, worst-on-blank}
+use Rattle.archive.proofs.PowerCut.{power-cut}
+use Rattle.archive.proofs.BeforeFirstCopy.{before-first-copy}
 use Rattle.archive.proofs.SentCommands.{commands-sent}
 use Rattle.archive.proofs.RepliesRefused.{replies-refused}
 use Rattle.archive_lists.proofs.Refusals.{refused-calls}
@@ -33,4 +35,7 @@ promises = record {
   worst-case = worst-case;
   worst-reached = worst-reached;
   worst-on-blank = worst-on-blank;
+  power-cut = power-cut;
+  earlier-first = earlier-first;
+  before-first-copy = before-first-copy;
 }

@@ -51,7 +51,7 @@ use Rattle.archive_lists.proofs.recording.Trailing as trailing
 use Rattle.archive_lists.proofs.recording.Trailing.{Prior, MarkerBelow, TapeTrails}
 use Rattle.archive.specs.WorstCase.{startOf}
 use Rattle.archive.proofs.Continued.{kept-after, pass-kept, markers-low, start-kept, headers, left-whole, promised-behind, read-behind}
-use Rattle.archive.proofs.Chain.{nothing-whole, Left, Held, held-behind, closed-leaves, closed-count, closed-left, earlier-is}
+use Rattle.archive.proofs.Chain.{nothing-whole, Left, Held, held-behind, closed-leaves, closed-count, closed-left, earlier-is, as-left}
 use Rattle.archive.proofs.recording.InFlight.{marker-on, goes-out}
 
 -- ---- the tape
@@ -215,7 +215,7 @@ module _ (g : Geometry) (last : ℕ) (seg : g .segtrk < 2 ^ 16) (trk : g .trks <
   chain-trails (more t xs ns before d s b w cart is same on c) =
       let x = chain-trails before in
       let h = x .held in
-      let got = earlier-is g last seg trk e t xs ns h d s b w cart is same on c in
+      let got = earlier-is g last seg trk e t xs ns h s b is on (as-left g last seg trk e t (d .tape) s b same (c .as-it-stands)) in
       record {
         held = held-behind g last (w .drive .tape) xs ns (h .reads .elements) (w .notes) _ (h .reads .together) (h .reads .whole)
             (subst (λ (ys : List Element). Left g last (w .drive .tape) ys (w .notes) (closed-count g last seg trk e d s b w cart c)) got (closed-left g last seg trk e d s b w cart c));

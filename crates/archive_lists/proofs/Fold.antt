@@ -1,5 +1,5 @@
 -- Every list of a reading's calls gives the fold. Assumes nothing.
-use Prim.Native.Nat.{ℕ, _+_, _^_, _<_}
+use Prim.Native.Nat.{ℕ, _+_, _^_, _<_, _≤_}
 use mathlib.Core.Path.{_≡_, refl, sym, ap, subst, _∙_}
 use mathlib.Core.Bool.{true}
 use mathlib.Core.List.{List}
@@ -18,12 +18,14 @@ use Rattle.judgement.specs.declared.told.Told.{Told}
 use Rattle.reading_state.specs.Open.{OpenedSaid, toldOf, fresh, openFor, openOf}
 use Rattle.archive_lists.specs.Tape.{Tape, Cartridge}
 use Rattle.archive_lists.specs.Readings.{World, Call, Runs, started}
+use Rattle.archive_lists.specs.Faithful.{replyBound}
 use Rattle.archive_lists.specs.Fold.{FoldOfUserFrames, ReadingIsFold}
 use Rattle.archive_lists.proofs.tape.FoldLaws.{fold-users}
 use Rattle.archive_lists.proofs.reading.Facts.{ReadTape}
 use Rattle.archive_lists.proofs.reading.Invariant.{ReadInv}
 use Rattle.archive_lists.proofs.reading.Serves.{read-begins}
 use Rattle.archive_lists.proofs.reading.Calls.{reads-keep}
+use Rattle.archive_lists.proofs.reading.BoundedLists.{runs-few}
 use Rattle.archive_lists.proofs.reading.Promises.{is-fold}
 
 -- the cartridge that is read
@@ -61,10 +63,13 @@ module _ (g : Geometry) (last : ℕ) (t : Tape) (h : List ℕ) (at : ℕ) (calls
   pub reading-kept : ReadInv (toldOf (headerOf h)) t w
   reading-kept = reads-keep tape-read (read-begins tape-read at) (subst (λ (x : OpenedSaid). Runs t (started (x .session) at) calls w) (reading-opened .opened) runs)
 
+  pub reading-few : w .notes .replies ≤ replyBound (headerOf h .last .0)
+  reading-few = runs-few tape-read (read-begins tape-read at) (omega arith) (subst (λ (x : OpenedSaid). Runs t (started (x .session) at) calls w) (reading-opened .opened) runs)
+
 pub reading-is-fold : ReadingIsFold
 unfolding ReadingIsFold
 reading-is-fold g last t h at calls w seg trk e cart opens runs =
-    is-fold (tape-read g last t h at calls w seg trk e cart opens runs) w (reading-kept g last t h at calls w seg trk e cart opens runs)
+    is-fold (tape-read g last t h at calls w seg trk e cart opens runs) w (reading-few g last t h at calls w seg trk e cart opens runs) (reading-kept g last t h at calls w seg trk e cart opens runs)
 
 pub fold-of-user-frames : FoldOfUserFrames
 unfolding FoldOfUserFrames

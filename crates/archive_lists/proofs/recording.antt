@@ -24,5 +24,6 @@ pub mod CopiesReplies
 pub mod HeaderReplies
 pub mod ElementSteps
 pub mod ElementReplies
+pub mod Issued
 pub mod Calls
 pub mod Completion

@@ -41,8 +41,8 @@ module _ (eod update : ℕ) where
   old-end-passed-over : 46 < judgement.endsFrom (toldAt eod update) → judgement.judgeFrame (toldAt eod update) (asAddress 46) (record { 0 = 2 }) (elementFrame firstEod blank) ≡ judgement.skipped
   old-end-passed-over later = judged-earlier firstEod (lit< tt) (lit< tt) blank refl (reads-itself (elementFrame firstEod blank)) (toldAt eod update) (asAddress 46) refl refl later
 
-  added-found : judgement.judgeFrame (toldAt eod update) (asAddress 80) (record { 0 = 2 }) (elementFrame addedFilemark blank) ≡ judgement.filemark
-  added-found = judged-written addedFilemark (lit< tt) (lit< tt) blank refl (reads-itself (elementFrame addedFilemark blank)) (toldAt eod update) (asAddress 80) refl refl refl
+  pub added-found : (a : ℕ) → judgement.judgeFrame (toldAt eod update) (asAddress a) (record { 0 = 2 }) (elementFrame addedFilemark blank) ≡ judgement.filemark
+  added-found a = judged-written addedFilemark (lit< tt) (lit< tt) blank refl (reads-itself (elementFrame addedFilemark blank)) (toldAt eod update) (asAddress a) refl refl refl
 
 eod-found : judgement.judgeFrame (toldOf addedClosing) (asAddress 81) (record { 0 = 3 }) (elementFrame addedEod blank) ≡ judgement.end
 unfolding judgement.endsFrom
@@ -97,7 +97,7 @@ module _ (b : List ℕ) (full : length b ≡ 32768) where
         (blank-jumped t told firstTrail (firstElements b) 8 (Read (asAddress 46)) 47 2 refl refl (λ a low high. behind a low (omega arith))
         (address-located t told firstTrail (firstElements b) 9 (Read (asAddress 47)) 79 2 refl 47
         (unreadable-skipped t told firstTrail (firstElements b) 10 (Locate (asAddress 79)) 79 2 refl refl (behind 79 (lit≤ tt) (lit< tt))
-        (frame-read t told firstTrail (firstElements b) 11 (Read (asAddress 79)) 80 2 refl refl true (elementFrame addedFilemark blank) judgement.filemark (same 80 (lit≤ tt) (lit< tt) ∙ added-reads b) (element-length addedFilemark blank refl) (added-found eod update) refl rest))))))
+        (frame-read t told firstTrail (firstElements b) 11 (Read (asAddress 79)) 80 2 refl refl true (elementFrame addedFilemark blank) judgement.filemark (same 80 (lit≤ tt) (lit< tt) ∙ added-reads b) (element-length addedFilemark blank refl) (added-found eod update 80) refl rest))))))
 
   from-fresh : (place : ℕ) → Runs (left b) (started (fresh (toldOf addedClosing)) place) (addedReading b) (addedRead b)
   unfolding judgement.endsFrom

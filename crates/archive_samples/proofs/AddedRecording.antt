@@ -57,7 +57,7 @@ use Rattle.archive.proofs.Chain.{adds, chains}
 
 -- ---- the opening
 
-abbrev addedState : State
+abbrev pub addedState : State
 addedState = startedAt (setupOf depth 1 0) addedOpening (asAddress 46) (record { 0 = 2 }) firstTrail
 
 pub added-opened : (b : List ℕ) → openAtEndOf (firstRead b .session) depth blocks 0 ≡ accepting addedState
@@ -135,7 +135,7 @@ added-runs b =
     let t : Tape = addedOpened b .tape in
     let past : List ℕ = addedOpened b .written in
     opening-written-at 0 window window-long addedOpening (asAddress 46) (record { 0 = 2 }) firstTrail (addedStart b)
-    (filemark-begun 11999 46 2 firstTrail reaches addedOpening (lit< tt) t (addedOpened b .at) past
+    (filemark-begun 11999 46 2 firstTrail reaches addedOpening (lit< tt) (addedOpened b)
     (element-failed window window-long addedElements t past 46 34 80 (filemark-taken 11999 46 2 46 firstTrail marks addedOpening reaches (lit< tt) (Locate (asAddress 46))) filemark-failed filemark-relocated
     (filemark-written 11999 80 2 80 firstTrail marks addedOpening reaches (lit< tt) addedElements (afterError t) (46 ∷ past) (elementFrame addedFilemark blank) (Locate (asAddress 80)) filemark-frame
     (eod-written 11999 80 2 80 firstTrail marks addedOpening reaches (lit< tt) addedElements (afterMark t) (80 ∷ 46 ∷ past) (elementFrame addedEod blank) eod-frame
@@ -206,7 +206,7 @@ module _ (b : List ℕ) (full : length b ≡ 32768) where
     reported = refl;
   })
 
-  first-read-at : chain.HasRead geometry 11999 (firstLeft b .tape) (headerFrame firstClosing) (firstRead b)
+  pub first-read-at : chain.HasRead geometry 11999 (firstLeft b .tape) (headerFrame firstClosing) (firstRead b)
   first-read-at = record {
     cartridge = second-cartridge b full;
     opens = ap (λ (x : reading.OpenedSaid). x .number) first-reading-opened;
@@ -215,7 +215,7 @@ module _ (b : List ℕ) (full : length b ≡ 32768) where
     runs = first-read b full 0;
   }
 
-  none-in-the-way : NoneAbove 11999 (firstLeft b .tape) 46 (headerOf (headerFrame firstClosing) .pass)
+  pub none-in-the-way : NoneAbove 11999 (firstLeft b .tape) 46 (headerOf (headerFrame firstClosing) .pass)
   none-in-the-way = none-above b (headerOf (headerFrame firstClosing) .pass)
 
   pub added-chain : Chain geometry 11999 chain.afresh (addedLeft b .tape) [] (firstEnd b .notes ∷ addedEnd b .notes ∷ [])
@@ -238,7 +238,7 @@ added-newest b = headers-newest addedClosing (addedWritten b) 11999 added-valid
 -- what the next session needs of it: a cartridge, and on it no frame of the pass above the end
 module _ (b : List ℕ) (full : length b ≡ 32768) where
   -- what Adds says of this session
-  abbrev atFirstEnd : chain.Start geometry 11999 addedState
+  abbrev pub atFirstEnd : chain.Start geometry 11999 addedState
   atFirstEnd = chain.added depth blocks 0 (firstLeft b .tape) (headerFrame firstClosing) (firstRead b) (first-read-at b full) (added-opened b)
 
   added-continued : Continued geometry 11999 (firstLeft b .tape) addedState atFirstEnd (addedEnd b)

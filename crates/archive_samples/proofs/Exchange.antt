@@ -69,6 +69,22 @@ module _ (window : List ℕ) (accepted : List Element) (s : State) (d : Drive) w
       → Runs (between window accepted s d) (fetch window frame ∷ []) (reported window accepted s d)
   done long free decided = call (fetched _ (fetch-decided s window frame free long framed decided) refl) stop
 
+  -- a fetch that gives a command
+  pub asks : {c : Command} → length window ≡ 32768 → s .ended || s .exchange .awaiting ≡ false → windowLength s ≡ 32768 → decisionOf s ≡ giving (commandSaid c)
+      → Calls (between window accepted s d) (fetch window frame) (world window accepted (awaits s c) d (sent c (frameFor c s window frame)))
+  unfolding sending
+  asks {c} long free sized decided =
+      let p = ap (λ (x : Command). world window accepted (awaits s c) d (sent x (frameFor c s window frame))) (command-by c) in
+      subst (λ v. Calls (between window accepted s d) (fetch window frame) v) p (fetched _ (fetch-sends s window frame free (long ∙ sym sized) framed c decided) refl)
+
+  -- a reply that takes effect
+  pub brings : {next : State} {c : Command} {r : Reply} (n : ℕ) → TakesEffect n → replyOf (awaits s c) r ≡ record { session = next; number = n }
+      → Calls (world window accepted (awaits s c) d (answered r)) (reply r) (between window accepted next d)
+  brings {next} {c} {r} n effect replied =
+      let p : between window accepted (replyOf (awaits s c) r .session) d ≡ between window accepted next d = ap (λ (x : OutcomeSaid). between window accepted (x .session) d) replied in
+      let number : n ≡ replyOf (awaits s c) r .number = sym (ap (λ (x : OutcomeSaid). x .number) replied) in
+      subst (λ v. Calls (world window accepted (awaits s c) d (answered r)) (reply r) v) p (replies r refl (subst TakesEffect number effect))
+
   -- the world after a block is stored
   abbrev storedWorld : List ℕ → Bool → StoredSaid → World
   storedWorld b same x = record { session = x .result .session; window = x .window; drive = d; flight = no-command; notes = record { accepted = acceptedAfter (x .result .number) accepted (block b); unaltered = same; reported = false; givenUp = 0 } }
@@ -78,29 +94,20 @@ module _ (window : List ℕ) (accepted : List Element) (s : State) (d : Drive) {
   pub acting : {e : Drive} → Acts d e → Runs (between window accepted s e) cs u → Runs (between window accepted s d) cs u
   acting a rest = drive (acts _ a) rest
 
-  -- a fetch that gives a command
   asked : {c : Command} → length window ≡ 32768 → s .ended || s .exchange .awaiting ≡ false → windowLength s ≡ 32768 → decisionOf s ≡ giving (commandSaid c)
       → Runs (world window accepted (awaits s c) d (sent c (frameFor c s window frame))) cs u
       → Runs (between window accepted s d) (fetch window frame ∷ cs) u
-  unfolding sending
-  asked {c} long free sized decided rest =
-      let p = ap (λ (x : Command). world window accepted (awaits s c) d (sent x (frameFor c s window frame))) (command-by c) in
-      call (subst (λ v. Calls (between window accepted s d) (fetch window frame) v) p (fetched window accepted s d _ (fetch-sends s window frame free (long ∙ sym sized) framed c decided) refl)) rest
+  asked long free sized decided rest = call (asks window accepted s d long free sized decided) rest
 
   pub given : {next : State} {c : Command} {r : Reply} → length window ≡ 32768 → Step s c r next → Runs (world window accepted (awaits s c) d (sent c (frameFor c s window frame))) cs u
       → Runs (between window accepted s d) (fetch window frame ∷ cs) u
   given long step rest = asked long (step .free) (step .sized) (step .decided) rest
 
-  -- the drive's answer to it, and its reply, which takes effect
+  -- the drive's answer to it, and its reply
   taken-in : {next : State} {e : Drive} {c : Command} {r : Reply} (n : ℕ) → TakesEffect n → replyOf (awaits s c) r ≡ record { session = next; number = n } → Answers d (frameFor c s window frame) c r e
       → Runs (between window accepted next e) cs u
       → Runs (world window accepted (awaits s c) d (sent c (frameFor c s window frame))) (reply r ∷ cs) u
-  taken-in {next} {e} {c} {r} n effect replied answer rest =
-      let w : World = world window accepted (awaits s c) e (answered r) in
-      let p : between window accepted (replyOf (awaits s c) r .session) e ≡ between window accepted next e = ap (λ (x : OutcomeSaid). between window accepted (x .session) e) replied in
-      let number : n ≡ replyOf (awaits s c) r .number = sym (ap (λ (x : OutcomeSaid). x .number) replied) in
-      let t : Calls w (reply r) (between window accepted next e) = subst (λ v. Calls w (reply r) v) p (replies r refl (subst TakesEffect number effect)) in
-      drive (answers c (frameFor c s window frame) r e refl answer) (call t rest)
+  taken-in {e = e} {c} {r} n effect replied answer rest = drive (answers c (frameFor c s window frame) r e refl answer) (call (brings window accepted s e n effect replied) rest)
 
 module _ (window : List ℕ) (accepted : List Element) (s : State) (d : Drive) {cs : List Call} {u : World} where
   pub exchange : {next : State} {e : Drive} {c : Command} {r : Reply} → length window ≡ 32768 → Step s c r next → Answers d (frameFor c s window frame) c r e

@@ -11,7 +11,7 @@ use lib.Dec.{eqb, leb, lit<, lit≤}
 use Rattle.geometry.specs.Place.{asAddress, asSeq}
 use Rattle.frame.specs.declared.header.Header.{Header}
 use Rattle.frame.specs.declared.trail.Trail.{Trail}
-use Rattle.archive_lists.specs.Conduct.{locates}
+use Rattle.archive_lists.specs.Conduct.{Drive, locates}
 use Rattle.drive.specs.Senses.{meaningIn}
 use Rattle.archive_lists.specs.Tape.{Tape, put}
 use Rattle.drive.specs.declared.command.Command.{Command}
@@ -76,13 +76,13 @@ module _ (last : ℕ) where
       unfolding decisionOf dueOf replyOf replyBy settledOf meaningIn
       filemark-located = record { free = refl; sized = refl; decided = rw (room large a low); replied = refl }
 
-      pub filemark-begun : (t : Tape) (place : ℕ) (past : List ℕ) {cs : List Call} {u : World}
-          → Runs (between window (filemark ∷ []) (writing 0 h located (Locate (asAddress a))) (buffered t a past [])) cs u
-          → Runs (between window [] (writing 0 h unaccepted ReadPosition) (buffered t place past [])) (accept-filemark ∷ exchanges window 1 cs) u
+      pub filemark-begun : (d : Drive) {cs : List Call} {u : World}
+          → Runs (between window (filemark ∷ []) (writing 0 h located (Locate (asAddress a))) (buffered (d .tape) a (d .written) [])) cs u
+          → Runs (between window [] (writing 0 h unaccepted ReadPosition) d) (accept-filemark ∷ exchanges window 1 cs) u
       unfolding meaningIn
-      filemark-begun t place past rest =
-          filemark-accepted window [] (writing 0 h unaccepted ReadPosition) (buffered t place past []) in-time
-          (exchange window (filemark ∷ []) (writing 0 h accepted ReadPosition) (buffered t place past []) window-long filemark-located (locates (asAddress a) good refl) rest)
+      filemark-begun d rest =
+          filemark-accepted window [] (writing 0 h unaccepted ReadPosition) d in-time
+          (exchange window (filemark ∷ []) (writing 0 h accepted ReadPosition) d window-long filemark-located (locates (asAddress a) good refl) rest)
 
   -- ---- due at an address, with nothing outstanding: written, and EOD at the next
 

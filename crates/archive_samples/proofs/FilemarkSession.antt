@@ -63,7 +63,7 @@ module _ (h : Header) (a number : ℕ) (trail : Trail) (d : Drive) (mark eod : L
   unfolding reply.confirmedOf
   filemark-runs large low mark-frame eod-frame =
       opening-written-at 0 window window-long h (asAddress a) (asSeq number) trail d
-      (filemark-begun last a number trail large h (omega arith) (opened .tape) (opened .at) (opened .written)
+      (filemark-begun last a number trail large h (omega arith) opened
       (filemark-written last a number a trail marks h large low (filemark ∷ []) (opened .tape) (opened .written) mark (Locate (asAddress a)) mark-frame
       (eod-written last a number a trail marks h large low (filemark ∷ []) (marked (opened .tape)) (a ∷ opened .written) eod eod-frame
       (closing-written 0 window window-long (filemark ∷ []) eodWritten closingHeader written))))

@@ -12,6 +12,9 @@ pub mod SecondRecording
 pub mod SecondReading
 pub mod AddedRecording
 pub mod AddedReading
+pub mod CutRecording
+pub mod CutReading
+pub mod UncopiedRecording
 pub mod ThirdRecording
 pub mod ThirdReading
 pub mod ThirdTrails

@@ -137,7 +137,7 @@ second-runs b =
     let t : Tape = secondOpened b .tape in
     let past : List ℕ = secondOpened b .written in
     opening-written 0 window window-long secondOpening (secondStart b)
-    (filemark-begun 11999 10 0 noTrail reaches secondOpening (lit< tt) t (secondOpened b .at) past
+    (filemark-begun 11999 10 0 noTrail reaches secondOpening (lit< tt) (secondOpened b)
     (filemark-written 11999 10 0 10 noTrail marks secondOpening reaches (lit< tt) secondElements t past (elementFrame secondFilemark blank) (Locate (asAddress 10)) filemark-frame
     (close-accepted window secondElements (writing 0 secondOpening (onTape 11999 10 0 10 noTrail marks) ReadPosition) (buffered (afterMark t) 11 (10 ∷ past) []) refl (close-called 11999 10 0 10 noTrail marks secondOpening)
     (element-failed window window-long secondElements (afterMark t) (10 ∷ past) 11 34 45 (eod-taken 11999 10 0 10 noTrail marks secondOpening reaches (lit< tt)) eod-failed eod-relocated

@@ -28,7 +28,7 @@ use Rattle.archive_lists.specs.Openings.{NoneBears}
 use Rattle.archive_lists.proofs.tape.FoldLaws.{put-same, put-other}
 use Rattle.archive_lists.proofs.tape.SeenLaws.{cartridge-put}
 use Rattle.archive_samples.proofs.Flush.{flushed}
-use Rattle.archive_samples.proofs.Headers.{groupWritten, headersWritten}
+use Rattle.archive_samples.proofs.Headers.{groupWritten, headersWritten, lastCopyFailed}
 
 some-same : {f g : List ℕ} → _≡_ {A = Option (List ℕ)} (some f) (some g) → f ≡ g
 some-same e = cc
@@ -159,3 +159,12 @@ module _ (t : Tape) (a : ℕ) where
 
   pub same-bears-none : (last pass : ℕ) → NoneBears last t pass → NoneBears last (put t a (t a)) pass
   same-bears-none last pass clean b f user reads = clean b f user (sym (same-reads b) ∙ reads)
+
+-- the header copies, of which the last failed
+module _ (h : Header) (d : Drive) where
+  pub last-copy-elsewhere : (a : ℕ) → 10 ≤ a → a ≤ 2989 → lastCopyFailed h d .tape a ≡ d .tape a
+  last-copy-elsewhere a low high =
+      let g : Drive = groupWritten h 0 d in
+      same-reads (run (headerFrame h) (g .tape) 2990 (g .written) 4) 2994 a
+      ∙ run-elsewhere (headerFrame h) 4 (g .tape) 2990 (g .written) a (inl (omega arith))
+      ∙ run-elsewhere (headerFrame h) 5 (d .tape) 5 (d .written) a (inr (omega arith))

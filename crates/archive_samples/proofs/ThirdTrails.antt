@@ -114,7 +114,7 @@ module _ (b : List ℕ) (full : length b ≡ 32768) where
   third-asks : Runs (started thirdState window (thirdStart b)) toWrite (asked (elementFrame thirdFilemark blank))
   third-asks =
       opening-written-at 0 window window-long thirdOpening (asAddress 81) (record { 0 = 3 }) addedTrail (thirdStart b)
-      (filemark-begun 11999 81 3 addedTrail reaches thirdOpening (lit< tt) (thirdOpened b .tape) (thirdOpened b .at) (thirdOpened b .written)
+      (filemark-begun 11999 81 3 addedTrail reaches thirdOpening (lit< tt) (thirdOpened b)
       (subst (λ (f : List ℕ). Runs (between window thirdElements placed begun) (fetch window frame ∷ []) (asked f)) filemark-frame
       (given window thirdElements placed begun window-long (filemark-taken 11999 81 3 81 addedTrail marks thirdOpening reaches (lit< tt) (Locate (asAddress 81))) stop)))
 

@@ -15,16 +15,19 @@ use lib.Seq.{take-length}
 use Rattle.geometry.specs.Cartridge.{isUser}
 use Rattle.geometry.proofs.PickLaws.{pick-by}
 use Rattle.geometry.proofs.TestLaws.{or-false, and-true}
+use Rattle.geometry.proofs.Impossible.{never}
 use Rattle.geometry.proofs.UserFrames.{user-ranges}
 use Rattle.buffer.specs.Bytes.{get16, get32}
 use Rattle.frame.specs.declared.element.Kind.the-variants.{Marker, Eod}
 use Rattle.frame.specs.declared.trail.Trail.{Trail}
 use Rattle.header.specs.Valid.{updateOf, headerOf}
 use Rattle.judgement.specs.Judgement as judgement
-use Rattle.judgement.specs.Judgement.{endsFrom, judgeFrame}
+use Rattle.judgement.specs.Judgement.{JudgementSaid, endsFrom, judgeFrame}
 use Rattle.judgement.specs.declared.told.Told.{Told}
 use Rattle.judgement.proofs.Facts.{Typed, FoundAs}
-use Rattle.judgement.proofs.JudgeLaws.{below-so, earlier-so, unnamed, other-pass}
+use Rattle.judgement.proofs.JudgeView as view
+use Rattle.judgement.proofs.JudgeView.{JudgeView, judge-view}
+use Rattle.judgement.proofs.JudgeLaws.{below-so, earlier-so, unnamed, found-told, other-pass}
 use Rattle.carried_headers.specs.Carried.{isCountedOut, addedTo}
 use Rattle.recording_state.specs.State.{OutcomeSaid, accepting}
 use Rattle.recording_state.specs.Open.{setupOf, isMisfit}
@@ -51,6 +54,7 @@ use Rattle.archive_lists.proofs.reading.Invariant.{Ended}
 use Rattle.archive_lists.proofs.recording.Trailing.{MarkerBelow, Marked, Traces, priorOf}
 use Rattle.archive_lists.proofs.tape.Marks.{latest-map}
 use Rattle.archive_lists.proofs.recording.HeaderCopies.{Below}
+use Rattle.archive_cuts.proofs.View.{Sound, alien, own, Fair}
 use Rattle.archive_lists.proofs.recording.Start.{Started, Starts, refused-accepting}
 
 -- ---- an opening that was accepted
@@ -145,6 +149,7 @@ module _ (told : Told) (last : ℕ) (t : Tape) (r : Reading) (earlier : List Ele
     count-up = mod-eq-of-lt (let y = v .counts in omega arith)
 
     pub added-started : told .pass ≤ 65534 → Started last earlier end-at s
+    unfolding endsFrom
     added-started low = record {
       setup = setupOf depth blocks tail;
       header = addedTo (r .told .last) (r .told .pass) (r .told .update) (endOf r);
@@ -161,13 +166,14 @@ module _ (told : Told) (last : ℕ) (t : Tape) (r : Reading) (earlier : List Ele
       roof = end-low;
       zone = end-zone;
       spread = spread;
+      late = inr (le-refl end-at);
     }
 
     pub added-pass : s .copies .header .pass ≡ told .pass
     added-pass = sym (ap (λ (x : State). x .copies .header .pass) (v .is)) ∙ ap (λ (x : Told). x .pass) (ended .told-is)
 
     -- it goes on from the filemarks that the reading delivered, which are on a tape whose user frames are those that were read
-    pub added-traced : last + 65 < 2 ^ 32 → (u : Tape) → Traces earlier (Marked (priorOf last (s .copies .header .pass) earlier end-at u (SameFrames last t u)) last (s .copies .header .pass) end-at u) (length earlier) (s .elements .trail)
+    pub added-traced : last + 65 < 2 ^ 32 → (u : Tape) → Traces earlier (Marked (priorOf last (s .copies .header) earlier end-at u (SameFrames last t u)) last (s .copies .header .pass) end-at u) (length earlier) (s .elements .trail)
     added-traced small u = record {
       counts = ap (λ (x : Trail). x .filemarks) trail-is ∙ so-far .counts ∙ ap (filemarksAmong earlier) (sym count-is);
       names =
@@ -177,7 +183,7 @@ module _ (told : Told) (last : ℕ) (t : Tape) (r : Reading) (earlier : List Ele
     }
       where
         There : ℕ → ℕ → Type 0
-        There = Marked (priorOf last (s .copies .header .pass) earlier end-at u (SameFrames last t u)) last (s .copies .header .pass) end-at u
+        There = Marked (priorOf last (s .copies .header) earlier end-at u (SameFrames last t u)) last (s .copies .header .pass) end-at u
 
         trail-is : s .elements .trail ≡ r .trail
         trail-is = sym (ap (λ (x : State). x .elements .trail) (v .is))
@@ -193,12 +199,16 @@ module _ (told : Told) (last : ℕ) (t : Tape) (r : Reading) (earlier : List Ele
               record { frame = y .frame; user = y .user; low = y .low; reads = sym (same l b (y .user)) ∙ y .reads; found = y .found };
         }
 
-    -- every valid header that the cartridge holds counts less
-    pub added-below : (h : List ℕ) → told ≡ toldOf (headerOf h) → (u : Tape) → Newest last u h → Below last (s .copies .header) u
-    added-below h of-header u n a f at =
+    -- the header that was read counts less than its own
+    pub added-count : (h : List ℕ) → told ≡ toldOf (headerOf h) → updateOf h < s .copies .header .update
+    added-count h of-header =
         let is : (r .told .update + 1) % 2 ^ 32 ≡ s .copies .header .update = ap (λ (x : State). x .copies .header .update) (v .is) in
         let count : told .update ≡ updateOf h = ap (λ (x : Told). x .update) of-header in
-        inl (omega (arith, n .highest a f at, count-up, is, count, told-update))
+        omega (arith, count-up, is, count, told-update)
+
+    -- and so does every valid one that the cartridge holds
+    pub added-below : (h : List ℕ) → told ≡ toldOf (headerOf h) → (u : Tape) → Newest last u h → Below last (s .copies .header) u
+    added-below h of-header u n a f at = inl (omega (arith, n .highest a f at, added-count h of-header))
 
     -- ---- what a reading sees at the start
 
@@ -225,18 +235,19 @@ module _ (told : Told) (last : ℕ) (t : Tape) (r : Reading) (earlier : List Ele
         number-same : {n m : ℕ} {x y : List Element} {a b : Trail} → going n x a ≡ going m y b → n ≡ m
         number-same e = cc
 
+    -- which is the frame there
+    frame-at : (a : ℕ) (f : List ℕ) → end-at ≡ a → t a ≡ some f → here .frame ≡ f
+    frame-at a f at e = some-same (sym (here .reads) ∙ ap t at ∙ e)
+      where
+        some-same : {x y : List ℕ} → some x ≡ some y → x ≡ y
+        some-same q = cc
+
     -- so a current marker stands below it
     pub marker-low : NoneAbove last t end-at (told .pass) → (j b : ℕ) (f : List ℕ) → isUser last b ≡ true → t b ≡ some f → FoundAs (telling last (told .pass) 0) (record { 0 = j }) Marker f → b < end-at
     marker-low none j b f u e q = go (decLe end-at b)
       where
-        same : end-at ≡ b → here .frame ≡ f
-        same at = some-is (sym (here .reads) ∙ ap t at ∙ e)
-          where
-            some-is : {x y : List ℕ} → some x ≡ some y → x ≡ y
-            some-is z = cc
-
         at-end : (end-at ≡ b) ⊎ (end-at < b) → ⊥
-        at-end (inl at) = let z : _≡_ {A = ℕ} 0x0100 0x0200 = sym (old-eod .0 .type) ∙ ap (λ (x : List ℕ). get16 (drop 32768 x) 16) (same at) ∙ q .typed .type in omega arith
+        at-end (inl at) = let z : _≡_ {A = ℕ} 0x0100 0x0200 = sym (old-eod .0 .type) ∙ ap (λ (x : List ℕ). get16 (drop 32768 x) 16) (frame-at b f at e) ∙ q .typed .type in omega arith
         at-end (inr above) = none b f u above e (q .typed .written)
 
         go : Dec (end-at ≤ b) → b < end-at
@@ -257,15 +268,31 @@ module _ (told : Told) (last : ℕ) (t : Tape) (r : Reading) (earlier : List Ele
         eod-quiet at (inr above) =
             below-so (unending last (told .pass)) (record { 0 = a }) (record { 0 = i }) (here .frame) Eod (unnamed (unending last (told .pass)) (record { 0 = a }) (old-early a at) Eod) old-typed above
 
-        frame-is : end-at ≡ a → here .frame ≡ f
-        frame-is at = some-same (sym (here .reads) ∙ ap t at ∙ e)
-          where
-            some-same : {x y : List ℕ} → some x ≡ some y → x ≡ y
-            some-same q = cc
-
         go : (end-at ≡ a) ⊎ (end-at < a) → judgeFrame (unending last (told .pass)) (record { 0 = a }) (record { 0 = i }) f ≡ judgement.skipped
-        go (inl at) = subst (λ (x : List ℕ). judgeFrame (unending last (told .pass)) (record { 0 = a }) (record { 0 = i }) x ≡ judgement.skipped) (frame-is at) (eod-quiet at (eq-or-lt-of-le (le-trans (old-eod .1) (omega (arith, count-is)))))
+        go (inl at) = subst (λ (x : List ℕ). judgeFrame (unending last (told .pass)) (record { 0 = a }) (record { 0 = i }) x ≡ judgement.skipped) (frame-at a f at e) (eod-quiet at (eq-or-lt-of-le (le-trans (old-eod .1) (omega (arith, count-is)))))
         go (inr above) = other-pass (unending last (told .pass)) (record { 0 = a }) (record { 0 = i }) f (cart .long a f e) (none a f u above e)
+
+    -- frames from the old end on are of another pass, or as the table has them
+    ended-sound : {n : ℕ} {f : List ℕ} {j : JudgementSaid} → j ≡ judgement.end → JudgeView told (record { 0 = end-at }) (record { 0 = n }) f j → Sound last (told .pass) f
+    ended-sound e (view.wrong-length _) = never (cc)
+    ended-sound e (view.other-format _ _) = never (cc)
+    ended-sound e (view.other-type _ _) = never (cc)
+    ended-sound e (view.other-partition _ _) = never (cc)
+    ended-sound e (view.other-pass _ _) = never (cc)
+    ended-sound e (view.one-below _ _ _ h) = own Eod _ (found-told told (telling last (told .pass) 0) last-is refl h)
+    ended-sound e (view.foreign-below _ _ _) = never (cc)
+    ended-sound e (view.below _ _ _) = never (cc)
+    ended-sound e (view.above _ _ _) = never (cc)
+    ended-sound e (view.earlier _ _ _) = never (cc)
+    ended-sound e (view.foreign _ _ _ _ _) = never (cc)
+    ended-sound {n} e (view.found k _ _ h) = own k n (found-told told (telling last (told .pass) 0) last-is refl h)
+
+    pub added-fair : Cartridge last t → NoneAbove last t end-at (told .pass) → Fair last (told .pass) end-at t
+    added-fair cart none a f l u e = go (eq-or-lt-of-le l)
+      where
+        go : (end-at ≡ a) ⊎ (end-at < a) → Sound last (told .pass) f
+        go (inl at) = subst (Sound last (told .pass)) (frame-at a f at e) (ended-sound (here .judged) (judge-view told (record { 0 = end-at }) (record { 0 = here .number }) (here .frame)))
+        go (inr above) = alien (cart .long a f e) (none a f u above e)
 
     pub added-seen : Cartridge last t → NoneAbove last t end-at (told .pass) → Seen last (told .pass) earlier earlier (length earlier) end-at t
     added-seen cart none = record {

@@ -46,7 +46,7 @@ module _ {told : Told} {t : Tape} (k : ReadTape told t) where
   reply-flight w r given frame n m u (served r2 given2 a g v) lent te =
       serve-so k w u r frame a (right-length (w .session) r frame (u .going-on) a te) n m g (w .session .exchange .command) refl lent v
 
-  read-keeps-call : (w v : World) (c : readings.Call) → ReadInv told t w → Calls w c v → ReadInv told t v
+  pub read-keeps-call : (w v : World) (c : readings.Call) → ReadInv told t w → Calls w c v → ReadInv told t v
   read-keeps-call w v c i (readings.refuses _ l h) = subst (λ (s : Reading). ReadInv told t (withSession w s)) (sym (refused-calls .reading (w .session) c .unchanged l h)) i
   read-keeps-call w v c (under n m u a) (readings.fetches te) = fetch-flight k w u n m refl a te
   read-keeps-call w v c (over n m f e a g q d b) (readings.fetches te) = fetch-end k w e a g f (over n m f e a g q d b)

@@ -4,7 +4,6 @@ use mathlib.Core.Path.{_≡_, refl, sym, ap, subst, _∙_}
 use mathlib.Core.Bool.{true}
 use mathlib.Core.List.{List, [], _∷_, _++_}
 use mathlib.Core.Option.{Option, none, some}
-use native.Mathlib.Decide.{decLe}
 use native.Mathlib.Nat.{le-refl}
 use native.Mathlib.Numerals.{add-one}
 use native.Mathlib.Omega.{arith}
@@ -184,23 +183,3 @@ module _ {told : Told} {t : Tape} (k : ReadTape told t) where
   fold-jump a blank =
       fold-none told t (a + 32) (pastReserved (a + 32)) (past-reserved-least (a + 32)) (λ c f l u w _. past-skips (told .last .0) (a + 32) c l u w)
       ∙ fold-none told t a (a + 32) (omega arith) (λ c f l u w g. none-some (sym (blank c l u) ∙ g))
-
-  -- ---- where the fold over the whole tape ends
-
-  module _ {xs : List Element} {e : ℕ} (ends : wholeOf told t ≡ finished xs e) where
-    pub fits : (a : ℕ) → a ≤ told .last .0 + 1 → Fits xs (foldOf told t a)
-    fits a l =
-        let e : told .last .0 + 1 ≡ told .last .0 + 1 - a + a = omega arith in
-        fold-back told t xs a (told .last .0 + 1 - a) (subst (λ (i : ℕ). Fits xs (foldOf told t i)) e (subst (Fits xs) (sym ends) refl))
-
-    -- a fold that goes on has not come to the end of the tape
-    pub not-past : {a n : ℕ} {got : List Element} {trail : Trail} → foldOf told t a ≡ going n got trail → a ≤ told .last .0
-    not-past {a} {n} {got} e = go (decLe a (told .last .0))
-      where
-        go : Dec (a ≤ told .last .0) → a ≤ told .last .0
-        go (yes h) = h
-        go (no h) = going-finished (sym e ∙ fold-above a (omega arith) ∙ ends)
-
-    -- and finds something to read
-    pub not-blank : {a n : ℕ} {got : List Element} {trail : Trail} → foldOf told t a ≡ going n got trail → ((b : ℕ) → a ≤ b → t b ≡ none) → ⊥
-    not-blank {a} e blank = going-finished (sym e ∙ sym (fold-blank a (not-past e) blank) ∙ ends)

@@ -59,7 +59,7 @@ module _ {told : Told} {t : Tape} (k : ReadTape told t) where
         ∙ pick-f _ (le-ltb (w .session .told .last .0) (w .session .position .next .0) (omega (arith, last-is)))
         ∙ ap (λ (y : CommandSaid). fetch.sending (w .session) (commandFor y)) e
 
-    past-last : w .session .exchange .awaiting ≡ false → w .session .exchange .again ≡ false → told .last .0 < w .session .position .next .0 → fetch.fetchOf (w .session) ≡ record { session = endedOf (w .session); said = fetch.refused 12 }
+    pub past-last : w .session .exchange .awaiting ≡ false → w .session .exchange .again ≡ false → told .last .0 < w .session .position .next .0 → fetch.fetchOf (w .session) ≡ record { session = endedOf (w .session); said = fetch.refused 12 }
     unfolding fetch.fetchOf
     past-last a g l =
         pick-f _ (neither _ _ (u .going-on) a)

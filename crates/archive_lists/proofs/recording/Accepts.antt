@@ -301,7 +301,7 @@ module _ {last pass : ℕ} {on-newest none-bears : Type 0} {prior : Prior} (w : 
     k = l .k;
     edge = l .edge;
     list = l .list ++ x ∷ [];
-    floor = (l .floor .0, omega (arith, l .floor .1, grown));
+    floor = (l .floor .0, omega (arith, l .floor .1, grown), l .floor .2);
     promises = record { is = promised-so; ungiven = λ _. ungiven-so; aimed = l .promises .aimed };
     going = l .going;
     counted = counted-more;
@@ -310,6 +310,7 @@ module _ {last pass : ℕ} {on-newest none-bears : Type 0} {prior : Prior} (w : 
     reported = l .reported;
     outgoing = λ n. outgoing-more window unaltered (l .outgoing (⊎-elim (λ y. inl (y .0, gain (y .1) .0)) inr n));
     eod-place = let y = early (l .course) in record { written = λ _ b _. clash b (early-unended y); named = λ q. early-unclosed y q };
+    copied = l .copied;
     below = l .below;
     clean = l .clean;
     content = λ p u. let y = gain u in content-more window (l .content p (y .0)) (y .1) unaltered;

@@ -99,6 +99,7 @@ module _ {last pass : ℕ} {on-newest none-bears : Type 0} {prior : Prior} (w : 
         reported = l .reported;
         outgoing = λ _. none-outgoing;
         eod-place = record { written = λ _ _ k. absurd (omega (arith, numbers .most, none, count)); named = λ q. ⊎-elim (λ z. never (cc)) (λ z. never (cc)) q };
+        copied = l .copied;
         below = l .below;
         clean = l .clean;
         content = λ p u.
@@ -138,6 +139,7 @@ module _ {last pass : ℕ} {on-newest none-bears : Type 0} {prior : Prior} (w : 
         reported = l .reported;
         outgoing = λ n. let f = l .outgoing n in record { queue = f .queue; sent = f .sent };
         eod-place = record { written = l .eod-place .written; named = l .eod-place .named };
+        copied = l .copied;
         below = l .below;
         clean = l .clean;
         content = λ p u. let x = l .content p u in record { tape = x .tape; seen = x .seen; stored = x .stored };

@@ -43,7 +43,7 @@ use Rattle.archive_lists.proofs.recording.Setting.{Setting, HeadersLeft
 
 -- ---- a copy of the header
 
-module _ {last pass spare : ℕ} (set : Setting last pass) (h : Header) (c : Carried last pass spare h) where
+module _ {last pass : ℕ} {prior : Prior} {spare : ℕ} (set : Setting last pass) (h : Header) (c : Carried last pass prior spare h) where
   eod-small : h .eod .0 < 2 ^ 32
   eod-small = go (or-true _ _ (c .eod-fits))
     where
@@ -68,7 +68,7 @@ module _ {last pass spare : ℕ} (set : Setting last pass) (h : Header) (c : Car
   pass-low = omega (arith, c .pass-is, set .low)
 
   module _ {f : List ℕ} (r : ReadsAs (headerFrame h) f) where
-    copy-valid : validHeader (asAddress last) f ≡ true
+    pub copy-valid : validHeader (asAddress last) f ≡ true
     copy-valid =
         read-valid r (asAddress last)
         ∙ subst (λ (n : ℕ). validHeader (asAddress n) (headerFrame h) ≡ true) (c .last-is)
@@ -207,6 +207,9 @@ ends-named h some = pick-f _ (ne-eqb (h .eod .0) 0 some)
 
 -- ---- a reading opens
 
-pub opens : (g : Geometry) (last : ℕ) (t : Tape) (h : List ℕ) → lastOf g ≡ address last → Cartridge last t → Newest last t h → reading.openOf g h .number ≡ 0
+pub opens-at : (g : Geometry) (last : ℕ) (t : Tape) (a : ℕ) (h : List ℕ) → lastOf g ≡ address last → Cartridge last t → HeaderAt last t a h → reading.openOf g h .number ≡ 0
 unfolding reading.openOf
-opens g last t h e cart n = ap (λ (c : CheckedSaid). reading.openFor c .number) (valid-taken g h e (cart .long (n .address) h (n .here .reads)) (n .here .valid))
+opens-at g last t a h e cart n = ap (λ (c : CheckedSaid). reading.openFor c .number) (valid-taken g h e (cart .long a h (n .reads)) (n .valid))
+
+pub opens : (g : Geometry) (last : ℕ) (t : Tape) (h : List ℕ) → lastOf g ≡ address last → Cartridge last t → Newest last t h → reading.openOf g h .number ≡ 0
+opens g last t h e cart n = opens-at g last t (n .address) h e cart (n .here)

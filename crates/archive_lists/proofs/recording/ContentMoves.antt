@@ -30,7 +30,7 @@ use Rattle.archive_lists.proofs.tape.FoldLaws.{put-same, put-other}
 use Rattle.archive_lists.proofs.tape.SeenLaws.{cartridge-put, seen-elsewhere, seen-writes, seen-fails, clean-elsewhere, clean-behind}
 use Rattle.archive_lists.proofs.tape.Stands.{Stands, Queue}
 use Rattle.archive_lists.proofs.tape.StandsLaws.{item-past, stands-read, stands-long}
-use Rattle.archive_lists.proofs.recording.HeaderCopies.{Below}
+use Rattle.archive_lists.proofs.recording.HeaderCopies.{Copy, Below}
 use Rattle.archive_lists.proofs.recording.Setting.{EodAt}
 use Rattle.archive_lists.proofs.recording.Invariant.{totalOf, Outgoing, EodPlace, Content}
 
@@ -65,10 +65,21 @@ pub element-below : {last : ℕ} (w : World) → isUser last (w .drive .at) ≡ 
 element-below {last} w here v below a g at =
     below a g (record { group = at .group; reads = sym (put-other (w .drive .tape) (w .drive .at) v a (λ e. header-not-user last a (at .group) (ap (isUser last) e ∙ here))) ∙ at .reads; valid = at .valid })
 
-header-low : (last a : ℕ) → 3000 ≤ last → isHeader a ≡ true → a ≤ last
+-- and so a header's copy stays
+pub copy-beside : (last a : ℕ) {h : Header} {t : Tape} {bound : ℕ} → isUser last a ≡ true → (v : Option (List ℕ)) → Copy h t bound → Copy h (put t a v) bound
+copy-beside last a {t = t} here v x = record {
+  address = x .address;
+  frame = x .frame;
+  group = x .group;
+  low = x .low;
+  reads = put-other t a v (x .address) (λ e. header-not-user last (x .address) (x .group) (ap (isUser last) e ∙ here)) ∙ x .reads;
+  as-sent = x .as-sent;
+}
+
+pub header-low : (last a : ℕ) → 3000 ≤ last → isHeader a ≡ true → a ≤ last
 header-low last a large h = ⊎-elim (λ x. let y = x .1 in omega arith) (λ x. let y = x .1 in omega arith) (ranges 5 9 2990 2994 a h)
 
-not-user : (last a : ℕ) → isHeader a ≡ true → (b : Bool) → isUser last a ≡ b → isUser last a ≡ false
+pub not-user : (last a : ℕ) → isHeader a ≡ true → (b : Bool) → isUser last a ≡ b → isUser last a ≡ false
 not-user last a h true u = absurd (header-not-user last a h u)
 not-user last a h false u = u
 
@@ -85,7 +96,7 @@ module _ {last pass k : ℕ} (ps : List Element) (w : World) (e : Drive) (v : Op
 
 module _ {last pass k : ℕ} (n : ℕ) (w : World) (e : Drive) (v : Option (List ℕ)) (q : e .tape ≡ put (w .drive .tape) (w .drive .at) v) (at : isHeader (w .drive .at) ≡ true) where
   -- EOD stays where it is
-  pub header-eod-place : {none-bears : Type 0} → (ElementStage (w .session) → ⊥) → EodPlace last pass none-bears n w k → EodPlace last pass none-bears n (withDrive w e (w .flight)) k
+  pub header-eod-place : {none-bears : Type 0} {start : ℕ} → (ElementStage (w .session) → ⊥) → EodPlace last pass none-bears start n w k → EodPlace last pass none-bears start n (withDrive w e (w .flight)) k
   header-eod-place no-elements x = record {
     written = λ st _ _. absurd (no-elements st);
     named = λ s.
@@ -146,10 +157,10 @@ module _ {last pass k : ℕ} (ps : List Element) (w : World) (f : List ℕ) (res
           above = λ p. clean-behind (some read) (ahead p);
         })
 
-    pub eod-written : {none-bears : Type 0} → (none-bears → Clean last pass (w .drive .at) (w .drive .tape)) → (v : Option (List ℕ)) → Written f v → (w .session .elements .eod ≡ true → Outgoing last pass ps w k) → EodPlace last pass none-bears (length ps) (withDrive w (wrote (w .drive) rest v) (w .flight)) (k + 1)
-    eod-written ahead v (conduct.reads read r) x = record { written = λ _ e all. eod-stood ahead read (stands-read (queued (x e) .0) r) (omega arith); named = unclosed (w .session) st }
+    pub eod-written : {none-bears : Type 0} {start : ℕ} → (none-bears → Clean last pass (w .drive .at) (w .drive .tape)) → (v : Option (List ℕ)) → Written f v → (w .session .elements .eod ≡ true → Outgoing last pass ps w k) → start ≤ w .drive .at → EodPlace last pass none-bears start (length ps) (withDrive w (wrote (w .drive) rest v) (w .flight)) (k + 1)
+    eod-written ahead v (conduct.reads read r) x from = record { written = λ _ e all. (eod-stood ahead read (stands-read (queued (x e) .0) r) (omega arith), omega arith); named = unclosed (w .session) st }
 
-    pub eod-failed : {none-bears : Type 0} (v : Option (List ℕ)) → EodPlace last pass none-bears (length ps) (withDrive w (failing (w .drive) v) (w .flight)) k
+    pub eod-failed : {none-bears : Type 0} {start : ℕ} (v : Option (List ℕ)) → EodPlace last pass none-bears start (length ps) (withDrive w (failing (w .drive) v) (w .flight)) k
     eod-failed v = record { written = λ _ _ all. absurd (omega (arith, most (w .session .elements .eod) (length ps))); named = unclosed (w .session) st }
 
     -- tape and window

@@ -142,8 +142,9 @@ copying-goes {s} {d} f rest n b free (replied r a g x) = map-goes (λ _ y. repli
 
 -- ---- what it may still write
 
-link-safe : {last : ℕ} {c : Copies} {d : Drive} {extra : ℕ} → CountsOf c → CopyLink c d extra → Safe last d
-link-safe {last} {c} {d} {extra} counts l = allowed (λ i h.
+-- its buffered frames lie in a header group
+pub link-place-of : {c : Copies} {d : Drive} {extra : ℕ} → CountsOf c → CopyLink c d extra → (i : ℕ) → i < length (d .buffer) → isHeader (d .at + i) ≡ true
+link-place-of {c} {d} {extra} counts l i h =
     let q = c .copy + extra - length (d .buffer) + i in
     let held = counts .held in
     let known = l .known in
@@ -151,7 +152,10 @@ link-safe {last} {c} {d} {extra} counts l = allowed (λ i h.
     let next-is = l .next-is in
     let low : q < 5 = omega arith in
     let there : d .at + i ≡ headerAddress (c .group) 0 + q = omega arith in
-    either-left (isHeader (d .at + i)) (isUser last (d .at + i)) (subst (λ (x : ℕ). isHeader x ≡ true) (header-from-first (c .group) q low ∙ sym there) (is-header (c .group) q)))
+    subst (λ (x : ℕ). isHeader x ≡ true) (header-from-first (c .group) q low ∙ sym there) (is-header (c .group) q)
+
+link-safe : {last : ℕ} {c : Copies} {d : Drive} {extra : ℕ} → CountsOf c → CopyLink c d extra → Safe last d
+link-safe {last} {c} {d} {extra} counts l = allowed (λ i h. either-left (isHeader (d .at + i)) (isUser last (d .at + i)) (link-place-of counts l i h))
 
 pub rests-safe : {last : ℕ} {d : Drive} → AtRest d → Safe last d
 rests-safe (stopped e) = halted e

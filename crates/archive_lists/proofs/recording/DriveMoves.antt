@@ -26,15 +26,15 @@ use Rattle.archive_lists.specs.Recordings as recordings
 use Rattle.archive_lists.specs.Recordings.{World, Flight, withDrive, Moves}
 use Rattle.archive_lists.proofs.tape.Basics.{none-sent, answered-sent}
 use Rattle.archive_lists.proofs.tape.Stands.{Stands, Queue}
-use Rattle.drive.specs.Senses.{meaningOf}
-use Rattle.drive.specs.Listed.{Listed}
+use Rattle.drive.specs.Senses.{meaningOf, good}
+use Rattle.drive.specs.Listed.{Means, Listed}
 use Rattle.archive_lists.specs.Tape.{Tape, Cartridge}
 use Rattle.archive_lists.specs.Filemarks.{itemAt}
 use Rattle.archive_lists.proofs.tape.Seen.{Seen, Clean}
 use Rattle.archive_lists.proofs.tape.SeenLaws.{clean-put}
 use Rattle.archive_lists.proofs.recording.Trailing.{Prior, Trailing}
 use Rattle.archive_lists.proofs.recording.TrailingMoves.{trailing-answered, trailing-moved, trailing-header, trailing-tape, trailing-taken, trailing-failed, trailing-written}
-use Rattle.archive_lists.proofs.recording.HeaderCopies.{Below}
+use Rattle.archive_lists.proofs.recording.HeaderCopies.{Copy, Below}
 use Rattle.archive_lists.proofs.recording.CopiesLink as copies
 use Rattle.archive_lists.proofs.recording.CopiesLink.{Copying, CopiesAgree}
 use Rattle.archive_lists.proofs.recording.CopiesMoves as copying
@@ -43,7 +43,7 @@ use Rattle.archive_lists.proofs.recording.ElementsLink as elements
 use Rattle.archive_lists.proofs.recording.ElementsLink.{Asks, Answered, Writing}
 use Rattle.archive_lists.proofs.recording.ElementsMoves as writing
 use Rattle.archive_lists.proofs.recording.ElementsMoves.{Goes, writing-goes, ElementsOutcome, elements-answer, asks-off-header}
-use Rattle.archive_lists.proofs.recording.ContentMoves.{header-below, element-below, header-content, header-clean, header-eod-place, outgoing-written, outgoing-failed, eod-written, eod-failed, content-written, content-failed, queue-more, most}
+use Rattle.archive_lists.proofs.recording.ContentMoves.{header-below, element-below, copy-beside, header-content, header-clean, header-eod-place, outgoing-written, outgoing-failed, eod-written, eod-failed, content-written, content-failed, queue-more, most}
 use Rattle.archive_lists.proofs.recording.Invariant as inv
 use Rattle.archive_lists.proofs.recording.Invariant.{totalOf, EodDue, Course, Outgoing, Known, EodPlace, Content, Live, Safe, halted, allowed, Inv, live, rejecting, spent, over}
 use Rattle.archive_lists.proofs.recording.InvariantLaws.{unreported}
@@ -66,13 +66,13 @@ safe-acts {last} {d} (allowed h) (conduct.fails f rest v b free l) =
     )
 
 -- what an answer does to the drive: nothing, or it has taken the WRITE's frame, or is where the LOCATE says
-data Does (d : Drive) (frame : List ℕ) : Command → Drive → Type 0 where
-  alters-nothing : (c : Command) → Does d frame c d
-  takes-frame : (a : Address) → Does d frame (Write a) (taking d frame)
-  goes-to : (a : Address) → Does d frame (Locate a) (moved d (a .0))
+pub data Does (d : Drive) (frame : List ℕ) (r : Reply) : Command → Drive → Type 0 where
+  alters-nothing : (c : Command) → Does d frame r c d
+  takes-frame : (a : Address) → Means r good → Does d frame r (Write a) (taking d frame)
+  goes-to : (a : Address) → Does d frame r (Locate a) (moved d (a .0))
 
-does : {d e : Drive} {frame : List ℕ} {c : Command} {r : Reply} → Answers d frame c r e → Does d frame c e
-does (conduct.takes a r m) = takes-frame a
+pub does : {d e : Drive} {frame : List ℕ} {c : Command} {r : Reply} → Answers d frame c r e → Does d frame r c e
+does (conduct.takes a r m) = takes-frame a m
 does (conduct.overflows a r off m) = alters-nothing _
 does (conduct.counts r m z) = alters-nothing _
 does (conduct.write-fails a r m y z) = alters-nothing _
@@ -88,14 +88,14 @@ does (conduct.rejects-located a r m) = goes-to a
 
 module _ {last pass : ℕ} {on-newest none-bears : Type 0} {prior : Prior} {w : World} (set : Setting last pass) (written : Within last (w .drive .written)) (l : Live last pass on-newest none-bears prior w) where
   -- another drive, in the same session
-  relive : (d : Drive) (f : Flight) (k edge : ℕ) → l .k ≤ k → Course last (length (l .list)) (withDrive w d f) k edge → (Known none-bears w → Outgoing last pass (l .list) (withDrive w d f) k) → EodPlace last pass none-bears (length (l .list)) (withDrive w d f) k
-      → (on-newest → Below last (w .session .copies .header) (d .tape)) → (none-bears → Clean last pass edge (d .tape)) → (none-bears → w .notes .unaltered ≡ true → Content last pass (l .list) (withDrive w d f) k edge)
+  relive : (d : Drive) (f : Flight) (k edge : ℕ) → l .k ≤ k → l .edge ≤ edge → Course last (length (l .list)) (withDrive w d f) k edge → (Known none-bears w → Outgoing last pass (l .list) (withDrive w d f) k) → EodPlace last pass none-bears (prior .start) (length (l .list)) (withDrive w d f) k
+      → (ElementStage (w .session) → Copy (w .session .copies .header) (d .tape) (last + 1)) → (on-newest → Below last (w .session .copies .header) (d .tape)) → (none-bears → Clean last pass edge (d .tape)) → (none-bears → w .notes .unaltered ≡ true → Content last pass (l .list) (withDrive w d f) k edge)
       → Trailing last pass prior (l .list) (w .notes .accepted) (w .session .stage) (w .session .elements) d f k edge → Live last pass on-newest none-bears prior (withDrive w d f)
-  relive d f k edge up course outgoing eod-place below clean content trailing = record {
+  relive d f k edge up on course outgoing eod-place copied below clean content trailing = record {
     k = k;
     edge = edge;
     list = l .list;
-    floor = (omega (arith, l .floor .0), l .floor .1);
+    floor = (omega (arith, l .floor .0), l .floor .1, omega (arith, l .floor .2));
     promises = record { is = l .promises .is; ungiven = l .promises .ungiven; aimed = l .promises .aimed };
     going = l .going;
     counted = l .counted;
@@ -104,6 +104,7 @@ module _ {last pass : ℕ} {on-newest none-bears : Type 0} {prior : Prior} {w : 
     reported = l .reported;
     outgoing = outgoing;
     eod-place = eod-place;
+    copied = copied;
     below = below;
     clean = clean;
     content = content;
@@ -138,17 +139,17 @@ module _ {last pass : ℕ} {on-newest none-bears : Type 0} {prior : Prior} {w : 
     header-writes : (v : Option (List ℕ)) → Written f v → Inv last pass on-newest none-bears prior (withDrive w (wrote (w .drive) rest v) (w .flight))
     header-writes v x =
         live (header-written (goes .place))
-        (relive (wrote (w .drive) rest v) (w .flight) (l .k) (l .edge) (le-refl (l .k)) (course (wrote (w .drive) rest v) (agreed (goes .written v x)))
+        (relive (wrote (w .drive) rest v) (w .flight) (l .k) (l .edge) (le-refl (l .k)) (le-refl (l .edge)) (course (wrote (w .drive) rest v) (agreed (goes .written v x)))
         (λ _. none-out (wrote (w .drive) rest v)) (header-eod-place (length (l .list)) w (wrote (w .drive) rest v) v refl (goes .place) outside (l .eod-place))
-        (λ p. header-below w v (as-header (as-new v x)) (l .below p)) (λ p. header-clean w (wrote (w .drive) rest v .tape) v refl (goes .place) (l .clean p)) (λ p u. header-content (l .list) w (wrote (w .drive) rest v) v refl (goes .place) (set .large) (as-header (as-new v x)) (l .content p u))
+        (λ el. absurd (outside el)) (λ p. header-below w v (as-header (as-new v x)) (l .below p)) (λ p. header-clean w (wrote (w .drive) rest v .tape) v refl (goes .place) (l .clean p)) (λ p u. header-content (l .list) w (wrote (w .drive) rest v) v refl (goes .place) (set .large) (as-header (as-new v x)) (l .content p u))
         (trailing-header (l .trailing) (wrote (w .drive) rest v) (w .flight) v refl (goes .place) outside))
 
     header-fails : (v : Option (List ℕ)) → Left (w .drive .tape (w .drive .at)) f v → Inv last pass on-newest none-bears prior (withDrive w (failing (w .drive) v) (w .flight))
     header-fails v x =
         live (header-written (goes .place))
-        (relive (failing (w .drive) v) (w .flight) (l .k) (l .edge) (le-refl (l .k)) (course (failing (w .drive) v) (agreed (goes .broken v)))
+        (relive (failing (w .drive) v) (w .flight) (l .k) (l .edge) (le-refl (l .k)) (le-refl (l .edge)) (course (failing (w .drive) v) (agreed (goes .broken v)))
         (λ _. none-out (failing (w .drive) v)) (header-eod-place (length (l .list)) w (failing (w .drive) v) v refl (goes .place) outside (l .eod-place))
-        (λ p. header-below w v (as-header x) (l .below p)) (λ p. header-clean w (failing (w .drive) v .tape) v refl (goes .place) (l .clean p)) (λ p u. header-content (l .list) w (failing (w .drive) v) v refl (goes .place) (set .large) (as-header x) (l .content p u))
+        (λ el. absurd (outside el)) (λ p. header-below w v (as-header x) (l .below p)) (λ p. header-clean w (failing (w .drive) v .tape) v refl (goes .place) (l .clean p)) (λ p u. header-content (l .list) w (failing (w .drive) v) v refl (goes .place) (set .large) (as-header x) (l .content p u))
         (trailing-header (l .trailing) (failing (w .drive) v) (w .flight) v refl (goes .place) outside))
 
   -- ---- among the elements
@@ -170,17 +171,17 @@ module _ {last pass : ℕ} {on-newest none-bears : Type 0} {prior : Prior} {w : 
     writes : (v : Option (List ℕ)) → Written f v → Inv last pass on-newest none-bears prior (withDrive w (wrote (w .drive) rest v) (w .flight))
     writes v x =
         live (user-written (on .place))
-        (relive (wrote (w .drive) rest v) (w .flight) (l .k + 1) (w .drive .at + 1) (omega arith) (course (wrote (w .drive) rest v) (l .k + 1) (w .drive .at + 1) (on .written v))
-        (λ n. outgoing-written (l .list) w f rest b free st v (l .outgoing n)) (eod-written (l .list) w f rest b free st (on .place) room clean-here v x (λ e. l .outgoing (inr e)))
-        (λ p. element-below w (on .place) v (l .below p)) (λ p. clean-put v (clean-here p)) (λ p u. content-written (l .list) w f rest b free st (on .place) room (set .large) (l .content p u) (l .outgoing (inl (p, u))) (on .edge-here) v x)
+        (relive (wrote (w .drive) rest v) (w .flight) (l .k + 1) (w .drive .at + 1) (omega arith) (omega (arith, on .edge-here)) (course (wrote (w .drive) rest v) (l .k + 1) (w .drive .at + 1) (on .written v))
+        (λ n. outgoing-written (l .list) w f rest b free st v (l .outgoing n)) (eod-written (l .list) w f rest b free st (on .place) room clean-here v x (λ e. l .outgoing (inr e)) (omega (arith, l .floor .2, on .edge-here)))
+        (λ el. copy-beside last (w .drive .at) (on .place) v (l .copied el)) (λ p. element-below w (on .place) v (l .below p)) (λ p. clean-put v (clean-here p)) (λ p u. content-written (l .list) w f rest b free st (on .place) room (set .large) (l .content p u) (l .outgoing (inl (p, u))) (on .edge-here) v x)
         (trailing-written f rest b free st (set .large) (on .place) (on .edge-here) unfinished (l .trailing) v x))
 
     fails : (v : Option (List ℕ)) → Left (w .drive .tape (w .drive .at)) f v → Inv last pass on-newest none-bears prior (withDrive w (failing (w .drive) v) (w .flight))
     fails v x =
         live (user-written (on .place))
-        (relive (failing (w .drive) v) (w .flight) (l .k) (w .drive .at + 1) (le-refl (l .k)) (course (failing (w .drive) v) (l .k) (w .drive .at + 1) (on .broken v))
+        (relive (failing (w .drive) v) (w .flight) (l .k) (w .drive .at + 1) (le-refl (l .k)) (omega (arith, on .edge-here)) (course (failing (w .drive) v) (l .k) (w .drive .at + 1) (on .broken v))
         (λ n. outgoing-failed (l .list) w f rest b free st v (l .outgoing n)) (eod-failed (l .list) w f rest b free st (on .place) room v)
-        (λ p. element-below w (on .place) v (l .below p)) (λ p. clean-put v (clean-here p)) (λ p u. content-failed (l .list) w f rest b free st (on .place) room (set .large) (l .content p u) (l .outgoing (inl (p, u))) (on .edge-here) v x)
+        (λ el. copy-beside last (w .drive .at) (on .place) v (l .copied el)) (λ p. element-below w (on .place) v (l .below p)) (λ p. clean-put v (clean-here p)) (λ p u. content-failed (l .list) w f rest b free st (on .place) room (set .large) (l .content p u) (l .outgoing (inl (p, u))) (on .edge-here) v x)
         (trailing-failed f rest b free st (set .large) (on .place) (on .edge-here) unfinished (l .trailing) v x))
 
   live-acts : Course last (length (l .list)) w (l .k) (l .edge) → (d : Drive) → Acts (w .drive) d → Inv last pass on-newest none-bears prior (withDrive w d (w .flight))
@@ -199,9 +200,9 @@ module _ {last pass : ℕ} {on-newest none-bears : Type 0} {prior : Prior} {w : 
   same-tape : {d e : Drive} {frame : List ℕ} {c : Command} {r : Reply} → Answers d frame c r e → (e .tape ≡ d .tape) × (e .written ≡ d .written)
   same-tape an = go (does an)
     where
-      go : {d e : Drive} {frame : List ℕ} {c : Command} → Does d frame c e → (e .tape ≡ d .tape) × (e .written ≡ d .written)
+      go : {d e : Drive} {frame : List ℕ} {c : Command} {r : Reply} → Does d frame r c e → (e .tape ≡ d .tape) × (e .written ≡ d .written)
       go (alters-nothing _) = (refl, refl)
-      go (takes-frame _) = (refl, refl)
+      go (takes-frame _ _) = (refl, refl)
       go (goes-to _) = (refl, refl)
 
   module _ (c : Command) (frame : List ℕ) (r : Reply) (d : Drive) (q : w .flight ≡ recordings.sent c frame) (an : Answers (w .drive) frame c r d) where
@@ -224,13 +225,18 @@ module _ {last pass : ℕ} {on-newest none-bears : Type 0} {prior : Prior} {w : 
     same-below : Below last (w .session .copies .header) (w .drive .tape) → Below last (w .session .copies .header) (d .tape)
     same-below x = subst (Below last (w .session .copies .header)) (sym (same-tape an .0)) x
 
-    same-eod-place : {k : ℕ} → (ElementStage (w .session) → w .session .elements .eod ≡ true → k ≡ length (l .list) + 1 → d .at ≡ w .drive .at) → EodPlace last pass none-bears (length (l .list)) w k → EodPlace last pass none-bears (length (l .list)) (withDrive w d (recordings.answered r)) k
+    same-copy : Copy (w .session .copies .header) (w .drive .tape) (last + 1) → Copy (w .session .copies .header) (d .tape) (last + 1)
+    same-copy x = subst (λ (t : Tape). Copy (w .session .copies .header) t (last + 1)) (sym (same-tape an .0)) x
+
+    same-eod-place : {k : ℕ} → (ElementStage (w .session) → w .session .elements .eod ≡ true → k ≡ length (l .list) + 1 → d .at ≡ w .drive .at) → EodPlace last pass none-bears (prior .start) (length (l .list)) w k → EodPlace last pass none-bears (prior .start) (length (l .list)) (withDrive w d (recordings.answered r)) k
     same-eod-place {k} stays x =
         let e = sym (same-tape an .0) in
         record {
-          written = λ st b all.
-              subst (λ (t : Tape). EodAt last pass none-bears (length (l .list)) t (d .at - 1)) e
-              (subst (λ (a : ℕ). EodAt last pass none-bears (length (l .list)) (w .drive .tape) (a - 1)) (sym (stays st b all)) (x .written st b all));
+          written = λ st b all. (
+            subst (λ (t : Tape). EodAt last pass none-bears (length (l .list)) t (d .at - 1)) e
+                (subst (λ (a : ℕ). EodAt last pass none-bears (length (l .list)) (w .drive .tape) (a - 1)) (sym (stays st b all)) (x .written st b all .0)),
+            subst (λ (a : ℕ). prior .start ≤ a - 1) (sym (stays st b all)) (x .written st b all .1),
+          );
           named = λ s. subst (λ (t : Tape). EodAt last pass none-bears (length (l .list)) t (w .session .copies .header .eod .0)) e (x .named s);
         }
 
@@ -246,9 +252,9 @@ module _ {last pass : ℕ} {on-newest none-bears : Type 0} {prior : Prior} {w : 
           go : CopyOutcome last (w .session .copies) d r c → Inv last pass on-newest none-bears prior (withDrive w d (recordings.answered r))
           go (copying.goes-on y) =
               live within
-              (relive d (recordings.answered r) (l .k) (l .edge) (le-refl (l .k))
+              (relive d (recordings.answered r) (l .k) (l .edge) (le-refl (l .k)) (le-refl (l .edge))
               (course d (record { counts = agree .counts; placed = agree .placed; copying = copies.replied r a g (subst (λ z. copies.CopyAnswered (w .session .copies) d r z) (sym e) y) }))
-              (λ _. outgoing-answered (λ el _. header-not-element (w .session) st el)) (same-eod-place (λ el _ _. header-not-element (w .session) st el) (l .eod-place)) (λ p. same-below (l .below p)) (λ p. same-clean (l .clean p)) (λ p u. same-content (l .content p u))
+              (λ _. outgoing-answered (λ el _. header-not-element (w .session) st el)) (same-eod-place (λ el _ _. header-not-element (w .session) st el) (l .eod-place)) (λ el. same-copy (l .copied el)) (λ p. same-below (l .below p)) (λ p. same-clean (l .clean p)) (λ p u. same-content (l .content p u))
               (trailing-tape (l .trailing) d (recordings.answered r) (same-tape an .0) (λ el. header-not-element (w .session) st el)))
           go (copying.reject m safe) = lost (header-not-done (w .session) st) a (λ z. m (subst (λ k. Listed k (meaningOf (r .key) (r .asc) (r .ascq))) e z)) (λ el. header-not-element (w .session) st el) safe
 
@@ -256,9 +262,9 @@ module _ {last pass : ℕ} {on-newest none-bears : Type 0} {prior : Prior} {w : 
         (course : (e : Drive) → Writing last (w .session) e (l .k) (l .edge) (recordings.answered r) → Course last (length (l .list)) (withDrive w e (recordings.answered r)) (l .k) (l .edge)) where
       -- EOD, due alone and on tape, is outstanding: no LOCATE
       at-answers : {e : Drive} {k2 : Command} → EodDue (w .session .elements) (w .session .closed) → w .session .elements .eod ≡ true → l .k ≡ length (l .list) + 1
-          → Asks last (heldOf (w .session)) (w .session .elements .pending) (w .drive) (l .k) (l .edge) k2 → Does (w .drive) frame k2 e → e .at ≡ w .drive .at
+          → Asks last (heldOf (w .session)) (w .session .elements .pending) (w .drive) (l .k) (l .edge) k2 → Does (w .drive) frame r k2 e → e .at ≡ w .drive .at
       at-answers due b all x (alters-nothing _) = refl
-      at-answers due b all x (takes-frame _) = refl
+      at-answers due b all x (takes-frame _ _) = refl
       at-answers (inv.not-yet v) b all (elements.moves a _ mo) (goes-to _) = clash b v
       at-answers (inv.alone v c one) b all (elements.moves a _ mo) (goes-to _) =
           let n = l .counted .numbered in
@@ -270,18 +276,18 @@ module _ {last pass : ℕ} {on-newest none-bears : Type 0} {prior : Prior} {w : 
           → (w .session .elements .locate ≡ false) × (w .session .elements .outstanding < w .session .elements .pending) × (w .session .elements .first .0 + w .session .elements .outstanding ≡ l .k + length (w .drive .buffer))
       taken-there (elements.writes a p due off low li) = (li .placed, due, let z = li .taken-is in omega arith)
 
-      queue-answers : {e : Drive} {k2 : Command} → w .flight ≡ recordings.sent k2 frame → Outgoing last pass (l .list) w (l .k) → Asks last (heldOf (w .session)) (w .session .elements .pending) (w .drive) (l .k) (l .edge) k2 → Does (w .drive) frame k2 e → e .failed ≡ false
+      queue-answers : {e : Drive} {k2 : Command} → w .flight ≡ recordings.sent k2 frame → Outgoing last pass (l .list) w (l .k) → Asks last (heldOf (w .session)) (w .session .elements .pending) (w .drive) (l .k) (l .edge) k2 → Does (w .drive) frame r k2 e → e .failed ≡ false
           → Queue last pass (l .list) (l .k) (e .buffer)
       unfolding Queue
       queue-answers q2 x asked (alters-nothing _) free = x .queue st free
-      queue-answers q2 x asked (takes-frame a) free =
+      queue-answers q2 x asked (takes-frame a _) free =
           queue-more last pass (l .list) (l .k) (w .drive .buffer) frame (x .queue st free) (subst (λ (j : ℕ). Stands last pass (itemAt (l .list) j) j frame) (taken-there asked .2) (x .sent a frame st q2))
       queue-answers q2 x asked (goes-to _) free = tt
 
-      trailing-answers : {e : Drive} {k2 : Command} → w .flight ≡ recordings.sent k2 frame → Asks last (heldOf (w .session)) (w .session .elements .pending) (w .drive) (l .k) (l .edge) k2 → Does (w .drive) frame k2 e
+      trailing-answers : {e : Drive} {k2 : Command} → w .flight ≡ recordings.sent k2 frame → Asks last (heldOf (w .session)) (w .session .elements .pending) (w .drive) (l .k) (l .edge) k2 → Does (w .drive) frame r k2 e
           → Trailing last pass prior (l .list) (w .notes .accepted) (w .session .stage) (w .session .elements) e (recordings.answered r) (l .k) (l .edge)
       trailing-answers q2 asked (alters-nothing _) = trailing-answered (l .trailing) r
-      trailing-answers q2 asked (takes-frame a) =
+      trailing-answers q2 asked (takes-frame a _) =
           let there = taken-there asked in
           trailing-taken a frame r st (there .0) (there .1) (there .2)
           (subst (λ (y : Flight). Trailing last pass prior (l .list) (w .notes .accepted) (w .session .stage) (w .session .elements) (w .drive) y (l .k) (l .edge)) q2 (l .trailing))
@@ -293,9 +299,9 @@ module _ {last pass : ℕ} {on-newest none-bears : Type 0} {prior : Prior} {w : 
           go : ElementsOutcome last (heldOf (w .session)) (w .session .elements .pending) d (l .k) (l .edge) r c → Inv last pass on-newest none-bears prior (withDrive w d (recordings.answered r))
           go (writing.goes-on y) =
               live within
-              (relive d (recordings.answered r) (l .k) (l .edge) (le-refl (l .k))
+              (relive d (recordings.answered r) (l .k) (l .edge) (le-refl (l .k)) (le-refl (l .edge))
               (course d (elements.replied r a g (subst (λ z. Answered last (heldOf (w .session)) (w .session .elements .pending) d (l .k) (l .edge) r z) (sym e) y)))
-              (λ n. outgoing-answered (λ el free. queue-answers q (l .outgoing n) x (does an) free)) (same-eod-place (λ _ b all. at-answers due b all x (does an)) (l .eod-place)) (λ p. same-below (l .below p)) (λ p. same-clean (l .clean p)) (λ p u. same-content (l .content p u))
+              (λ n. outgoing-answered (λ el free. queue-answers q (l .outgoing n) x (does an) free)) (same-eod-place (λ _ b all. at-answers due b all x (does an)) (l .eod-place)) (λ el. same-copy (l .copied el)) (λ p. same-below (l .below p)) (λ p. same-clean (l .clean p)) (λ p u. same-content (l .content p u))
               (trailing-answers q x (does an)))
           go (writing.reject m safe) = lost (element-not-done (w .session) st) a (λ z. m (subst (λ k. Listed k (meaningOf (r .key) (r .asc) (r .ascq))) e z)) (λ _ b f. asks-off-header (subst (λ k. Asks last (heldOf (w .session)) (w .session .elements .pending) (w .drive) (l .k) (l .edge) k) (sym e ∙ f) x)) safe
 

@@ -16,6 +16,7 @@ use Rattle.geometry.proofs.UserFrames.{user-ranges}
 use Rattle.drive.specs.Command.{commandAddress}
 use Rattle.drive.specs.Cases.{locateGood, locateBusy, writeGood, writeBusy, writeFailed, writeOverflow, positionGood, positionBusy, positionFailed}
 use Rattle.drive.specs.Listed.{Means}
+use Rattle.reading_state.specs.Open.{toldOf}
 use Rattle.archive_lists.specs.Conduct.{AtRest, Within}
 use Rattle.drive.specs.Senses.{busy}
 use Rattle.archive_lists.specs.Tape.{Tape}
@@ -40,6 +41,7 @@ use Rattle.archive_lists.proofs.tape.Seen.{Has, Seen, Clean}
 use Rattle.archive_lists.proofs.tape.FoldLaws.{fold-none}
 use Rattle.archive_lists.proofs.tape.SeenLaws.{seen-as, seen-moves, clean-moves}
 use Rattle.archive_lists.proofs.tape.Stands.{unending, StoredAs}
+use Rattle.archive_lists.proofs.tape.Closed.{from-named, user-some, user-within}
 use Rattle.archive_lists.proofs.recording.Trailing.{Prior, Trailing}
 use Rattle.archive_lists.proofs.recording.TrailingMoves.{trailing-idle, trailing-closed, trailing-stepped}
 use Rattle.archive_lists.proofs.recording.KeptAgreement.{writing-numbers, reask}
@@ -68,7 +70,7 @@ above-last {last} {a} large b u = ⊎-elim (λ x. let y = x .1 in omega arith) (
 clean-top : {last pass : ℕ} {t : Tape} → 3000 ≤ last → Clean last pass (last + 1) t
 clean-top large = record { old = 0; old-low = omega arith; none = λ a f _ b u _ _. above-last large b u }
 
-seen-top : {last pass k edge : ℕ} {ps xs : List Element} {t : Tape} → 3000 ≤ last → last + 1 ≤ edge → Seen last pass ps xs k edge t → Seen last pass ps xs k (last + 1) t
+pub seen-top : {last pass k edge : ℕ} {ps xs : List Element} {t : Tape} → 3000 ≤ last → last + 1 ≤ edge → Seen last pass ps xs k edge t → Seen last pass ps xs k (last + 1) t
 seen-top {last} {pass} {edge = edge} {xs = xs} {t} large l h =
     seen-as h (subst (Has xs (h .m)) (fold-none (unending last pass) t (last + 1) edge l (λ c f b _ u _. above-last large b u)) (h .seen))
     (λ a f b u _ _ _. absurd (above-last large b u))
@@ -131,7 +133,7 @@ module _ {last pass : ℕ} {on-newest none-bears : Type 0} {prior : Prior} (w : 
       k = l .k;
       edge = s .tried;
       list = l .list;
-      floor = l .floor;
+      floor = (l .floor .0, l .floor .1, omega (arith, l .floor .2, s .further));
       promises = record { is = l .promises .is; ungiven = λ e0. l .promises .ungiven (sym (s .eod-is) ∙ e0); aimed = aims };
       going = l .going;
       counted = counted-so;
@@ -140,6 +142,7 @@ module _ {last pass : ℕ} {on-newest none-bears : Type 0} {prior : Prior} (w : 
       reported = l .reported;
       outgoing = λ n. record { queue = l .outgoing (⊎-elim inl (λ b. inr (sym (s .eod-is) ∙ b)) n) .queue; sent = λ _ _ _ z. none-sent z };
       eod-place = record { written = λ q b n. l .eod-place .written q (sym (s .eod-is) ∙ b) n; named = λ q. ⊎-elim (λ z. never (cc)) (λ z. never (cc)) q };
+      copied = l .copied;
       below = l .below;
       clean = λ p. clean-moves (s .tried) (s .further) (l .clean p);
       content = content-so;
@@ -175,6 +178,13 @@ module _ {last pass : ℕ} {on-newest none-bears : Type 0} {prior : Prior} (w : 
           go (yes h) = seen-moves (last + 1) h here
           go (no h) = seen-top (set .large) (omega arith) here
 
+      -- EOD is not below the start
+      end-late : prior .start ≤ e .next .0 - 1
+      end-late = subst (λ (a : ℕ). prior .start ≤ a - 1) (sym (on-tape .3)) (l .eod-place .written st v all-on .1)
+
+      end-low : e .next .0 - 1 ≤ last
+      end-low = user-within last (e .next .0 - 1) (set .large) (on-tape .2)
+
       closing-live : w .session .exchange .again ≡ false → Live last pass on-newest none-bears prior (repliedWorld w (closingStarted stepped))
       closing-live again =
           let c = counted-so in
@@ -182,7 +192,7 @@ module _ {last pass : ℕ} {on-newest none-bears : Type 0} {prior : Prior} (w : 
             k = l .k;
             edge = last + 1;
             list = l .list;
-            floor = l .floor;
+            floor = (l .floor .0, l .floor .1, omega (arith, end-late, end-low));
             promises = record { is = l .promises .is; ungiven = λ e0. l .promises .ungiven (sym (s .eod-is) ∙ e0); aimed = aims };
             going = l .going;
             counted = record { wide = c .wide; held = c .held; windowed = c .windowed; numbered = c .numbered; marks = c .marks; room = c .room };
@@ -192,6 +202,8 @@ module _ {last pass : ℕ} {on-newest none-bears : Type 0} {prior : Prior} (w : 
               eod-fits = either-right (eqb (e .next .0 - 1) 0) (isUser last (e .next .0 - 1)) (on-tape .2);
               old-low = omega arith;
               count-fits = let h = l .carried .count-fits in omega (arith, count-up, ap spareOf st);
+              late = inr (subst (λ (n : ℕ). prior .start ≤ n) (sym (from-named (toldOf (closingHeader stepped)) (user-some last (e .next .0 - 1) (on-tape .2)))) end-late);
+              newer = omega (arith, l .carried .newer, count-up);
             };
             course = inv.closing refl (s .eod-is ∙ v) closed all-on refl (record {
               counts = start-counts (closingHeader stepped);
@@ -202,8 +214,9 @@ module _ {last pass : ℕ} {on-newest none-bears : Type 0} {prior : Prior} (w : 
             outgoing = λ _. record { queue = λ el _. never (cc); sent = λ _ _ _ z. none-sent z };
             eod-place = record {
               written = λ el _ _. never (cc);
-              named = λ _. subst (λ (a : ℕ). EodAt last pass none-bears (length (l .list)) (w .drive .tape) (a - 1)) (sym (on-tape .3)) (l .eod-place .written st v all-on);
+              named = λ _. subst (λ (a : ℕ). EodAt last pass none-bears (length (l .list)) (w .drive .tape) (a - 1)) (sym (on-tape .3)) (l .eod-place .written st v all-on .0);
             };
+            copied = λ el. never (cc);
             below = λ p. below-so (l .below p);
             clean = λ _. clean-top (set .large);
             content = λ p u.
@@ -277,6 +290,7 @@ module _ {last pass : ℕ} {on-newest none-bears : Type 0} {prior : Prior} (w : 
           reported = l .reported;
           outgoing = λ n. record { queue = l .outgoing n .queue; sent = λ _ _ _ z. none-sent z };
           eod-place = record { written = l .eod-place .written; named = l .eod-place .named };
+          copied = l .copied;
           below = l .below;
           clean = l .clean;
           content = λ p u. let c = l .content p u in record { tape = c .tape; seen = c .seen; stored = c .stored };

@@ -107,6 +107,7 @@ module _ {last pass : ℕ} {on-newest none-bears : Type 0} {prior : Prior} (w : 
     reported = done;
     outgoing = λ n. let f = l .outgoing (known-left n) in record { queue = f .queue; sent = f .sent };
     eod-place = record { written = l .eod-place .written; named = l .eod-place .named };
+    copied = l .copied;
     below = l .below;
     clean = l .clean;
     content = λ p u.
@@ -139,7 +140,7 @@ module _ {last pass : ℕ} {on-newest none-bears : Type 0} {prior : Prior} (w : 
       k = l .k;
       edge = edge;
       list = l .list;
-      floor = l .floor;
+      floor = (l .floor .0, l .floor .1, omega (arith, l .floor .2));
       promises = record { is = l .promises .is; ungiven = l .promises .ungiven; aimed = l .promises .aimed };
       going = l .going;
       counted = let n = l .counted in record { wide = n .wide; held = n .held; windowed = n .windowed; numbered = n .numbered; marks = n .marks; room = n .room };
@@ -148,6 +149,7 @@ module _ {last pass : ℕ} {on-newest none-bears : Type 0} {prior : Prior} (w : 
       reported = l .reported;
       outgoing = λ n. record { queue = l .outgoing (known-left n) .queue; sent = λ a f. sent a f n };
       eod-place = record { written = l .eod-place .written; named = l .eod-place .named };
+      copied = l .copied;
       below = l .below;
       clean = λ p. clean-moves edge further (l .clean p);
       content = λ p u.

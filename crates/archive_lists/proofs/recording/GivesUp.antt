@@ -141,7 +141,7 @@ module _ {last pass : ℕ} {on-newest none-bears : Type 0} {prior : Prior} (w : 
     k = l .k;
     edge = l .edge;
     list = kept;
-    floor = (l .floor .0, omega (arith, kept-size, l .floor .0));
+    floor = (l .floor .0, omega (arith, kept-size, l .floor .0), l .floor .2);
     promises = record {
       is = ap (λ (n : ℕ). take n (w .notes .accepted)) (sym left);
       ungiven = λ e. absurd (true≢false e);
@@ -161,6 +161,7 @@ module _ {last pass : ℕ} {on-newest none-bears : Type 0} {prior : Prior} (w : 
     reported = l .reported;
     outgoing = λ _. record { queue = λ _ free. none-queued free (settled-writing ag out agree .1); sent = λ a f _ q. none-sent (sym no-flight ∙ q) };
     eod-place = record { written = λ _ _ q. absurd (omega (arith, kept-size)); named = λ q. ⊎-elim (λ z. never (cc)) (λ z. never (cc)) q };
+    copied = l .copied;
     below = l .below;
     clean = l .clean;
     trailing = trailing-given;

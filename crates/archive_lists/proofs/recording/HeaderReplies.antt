@@ -108,7 +108,7 @@ module _ {last pass : ℕ} {on-newest none-bears : Type 0} {prior : Prior} (w : 
                 marks = ap (λ (x : Elements). length (x .marks)) els ∙ c .marks;
                 room = let h = c .room in omega arith;
               };
-          carried = subst (λ (n : ℕ). Carried last pass n (v .copies .header)) (ap spareOf (sym stage)) (subst (λ (x : Header). Carried last pass (spareOf (w .session .stage)) x) (sym head) (l .carried));
+          carried = subst (λ (n : ℕ). Carried last pass prior n (v .copies .header)) (ap spareOf (sym stage)) (subst (λ (x : Header). Carried last pass prior (spareOf (w .session .stage)) x) (sym head) (l .carried));
           course = course;
           reported = λ e. stage ∙ l .reported e;
           outgoing = λ _. record { queue = λ el _. header-not-element (w .session) st (sym stage ∙ el); sent = λ _ _ _ z. none-sent z };
@@ -116,6 +116,7 @@ module _ {last pass : ℕ} {on-newest none-bears : Type 0} {prior : Prior} (w : 
             written = λ el _ _. header-not-element (w .session) st (sym stage ∙ el);
             named = λ q. subst (λ (x : Header). EodAt last pass none-bears (length (l .list)) (w .drive .tape) (x .eod .0)) (sym head) (l .eod-place .named (⊎-elim (λ z. inl (sym stage ∙ z)) (λ z. inr (sym stage ∙ z)) q));
           };
+          copied = λ el. header-not-element (w .session) st (sym stage ∙ el);
           below = λ p. subst (λ (x : Header). Below last x (w .drive .tape)) (sym head) (l .below p);
           clean = l .clean;
           content = λ p u.
@@ -137,8 +138,9 @@ module _ {last pass : ℕ} {on-newest none-bears : Type 0} {prior : Prior} (w : 
 
     staged-live : Course last (length (l .list)) (repliedWorld w onward) (l .k) (l .edge) → (w .notes .reported ≡ true → to ≡ S.Done) → (to ≡ S.Elements → w .drive .failed ≡ false → Queue last pass (l .list) (l .k) (w .drive .buffer))
         → (to ≡ S.Elements → w .session .elements .eod ≡ true → ⊥) → ((to ≡ S.ClosingHeaders) ⊎ (to ≡ S.Done) → w .session .stage ≡ S.ClosingHeaders)
-        → (to ≡ S.Elements → (w .session .elements .first .0 ≡ l .k) × (w .session .elements .locate ≡ true) × AtRest (w .drive)) → Live last pass on-newest none-bears prior (repliedWorld w onward)
-    staged-live course reported queue unended named begins =
+        → (to ≡ S.Elements → (w .session .elements .first .0 ≡ l .k) × (w .session .elements .locate ≡ true) × AtRest (w .drive))
+        → (to ≡ S.Elements → Copy (w .session .copies .header) (w .drive .tape) (last + 1)) → Live last pass on-newest none-bears prior (repliedWorld w onward)
+    staged-live course reported queue unended named begins copied =
         let c = l .counted in
         record {
           k = l .k;
@@ -148,11 +150,12 @@ module _ {last pass : ℕ} {on-newest none-bears : Type 0} {prior : Prior} (w : 
           promises = record { is = l .promises .is; ungiven = l .promises .ungiven; aimed = l .promises .aimed };
           going = l .going;
           counted = record { wide = c .wide; held = c .held; windowed = c .windowed; numbered = c .numbered; marks = c .marks; room = c .room };
-          carried = subst (λ (n : ℕ). Carried last pass n (w .session .copies .header)) spare (l .carried);
+          carried = subst (λ (n : ℕ). Carried last pass prior n (w .session .copies .header)) spare (l .carried);
           course = course;
           reported = reported;
           outgoing = λ _. record { queue = queue; sent = λ _ _ _ z. none-sent z };
           eod-place = record { written = λ el b _. absurd (unended el b); named = λ q. l .eod-place .named (inl (named q)) };
+          copied = copied;
           below = l .below;
           clean = l .clean;
           content = λ p u. let x = l .content p u in record { tape = x .tape; seen = x .seen; stored = x .stored };
@@ -182,8 +185,8 @@ module _ {last pass : ℕ} {on-newest none-bears : Type 0} {prior : Prior} (w : 
     nothing-queued (stopped e) free = clash e free
     nothing-queued (empty e) free = subst (Queue last pass (l .list) (l .k)) (sym e) tt
 
-    opened-live : AtRest (w .drive) → Live last pass on-newest none-bears prior (repliedWorld w opened)
-    opened-live rests =
+    opened-live : AtRest (w .drive) → Copy (w .session .copies .header) (w .drive .tape) 2995 → Live last pass on-newest none-bears prior (repliedWorld w opened)
+    opened-live rests copy =
         let target = t .target-is in
         staged-live S.Elements (ap spareOf q)
         (inv.writing refl (inv.not-yet v) (elements.to-locate refl again (t .relocates) (record {
@@ -195,7 +198,7 @@ module _ {last pass : ℕ} {on-newest none-bears : Type 0} {prior : Prior} (w : 
           spread = omega (arith, t .spread);
           edge-is = sym (t .target-is);
         })))
-        (λ e. never (let z = l .reported e in cc)) (λ _ free. nothing-queued rests free) (λ _ b. clash b v) (λ z. ⊎-elim (λ y. never (cc)) (λ y. never (cc)) z) (λ _. (t .first-is, t .relocates, rests))
+        (λ e. never (let z = l .reported e in cc)) (λ _ free. nothing-queued rests free) (λ _ b. clash b v) (λ z. ⊎-elim (λ y. never (cc)) (λ y. never (cc)) z) (λ _. (t .first-is, t .relocates, rests)) (λ _. copy-higher (omega (arith, set .large)) copy)
 
     opening-next : {s : copying.ProgressSaid} → Next (w .session .copies .header) (w .drive) s → Safe last (w .drive) → After (headerReplyBy s (w .session))
     opening-next (next.at-place c e n p x) safe =
@@ -204,7 +207,7 @@ module _ {last pass : ℕ} {on-newest none-bears : Type 0} {prior : Prior} (w : 
         live wr (more-live (inl q) again asked (withCopies (repliedOf (w .session)) c) (l .going) refl refl refl e (inv.opening q v t (record { counts = n; placed = p; copying = copies.to-seek refl again x })))
     opening-next (next.through rests copy) safe =
         subst (λ (x : Stage). Inv last pass on-newest none-bears prior (repliedWorld w (settledOf (withStage (repliedOf (w .session)) (followingOf x))))) (sym q)
-        (settled-cases opened (λ (v : State). Inv last pass on-newest none-bears prior (repliedWorld w v)) (λ _. live wr (opened-live rests)) (λ a b c z. live wr (eod-live (repliedWorld w opened) (opened-live rests) a b c z)) (λ _ b _. clash b v))
+        (settled-cases opened (λ (v : State). Inv last pass on-newest none-bears prior (repliedWorld w v)) (λ _. live wr (opened-live rests copy)) (λ a b c z. live wr (eod-live (repliedWorld w opened) (opened-live rests copy) a b c z)) (λ _ b _. clash b v))
     opening-next (next.ends n other) safe = ends-so (w .session) n (ap (λ (b : Bool). b && (ltb 0 (w .session .setup .tail) && not (w .session .elements .eod))) other) (λ z. never (cc)) safe
 
   -- ---- the closing headers
@@ -215,7 +218,7 @@ module _ {last pass : ℕ} {on-newest none-bears : Type 0} {prior : Prior} (w : 
 
     done-live : AtRest (w .drive) → Copy (w .session .copies .header) (w .drive .tape) 2995 → Live last pass on-newest none-bears prior (repliedWorld w done)
     done-live rests copy =
-        staged-live S.Done (ap spareOf q) (inv.finished refl v closed k0 e0 refl refl again rests (copy-higher (omega (arith, set .large)) copy)) (λ _. refl) (λ el _. never (cc)) (λ el _. never (cc)) (λ _. q) (λ el. never (cc))
+        staged-live S.Done (ap spareOf q) (inv.finished refl v closed k0 e0 refl refl again rests (copy-higher (omega (arith, set .large)) copy)) (λ _. refl) (λ el _. never (cc)) (λ el _. never (cc)) (λ _. q) (λ el. never (cc)) (λ el. never (cc))
 
     closing-next : {s : copying.ProgressSaid} → Next (w .session .copies .header) (w .drive) s → Safe last (w .drive) → After (headerReplyBy s (w .session))
     closing-next (next.at-place c e n p x) safe =

@@ -98,8 +98,9 @@ abbrev pub Known : Type 0 → World → Type 0
 Known none-bears w = (none-bears × (w .notes .unaltered ≡ true)) ⊎ (w .session .elements .eod ≡ true)
 
 -- EOD, once it is on tape, stands behind the drive's place, and then where the closing headers say
-pub record EodPlace (last pass : ℕ) (none-bears : Type 0) (n : ℕ) (w : World) (k : ℕ) : Type 0 where
-  pub written : ElementStage (w .session) → w .session .elements .eod ≡ true → k ≡ n + 1 → EodAt last pass none-bears n (w .drive .tape) (w .drive .at - 1)
+pub record EodPlace (last pass : ℕ) (none-bears : Type 0) (start n : ℕ) (w : World) (k : ℕ) : Type 0 where
+  pub written : ElementStage (w .session) → w .session .elements .eod ≡ true → k ≡ n + 1
+      → EodAt last pass none-bears n (w .drive .tape) (w .drive .at - 1) × (start ≤ w .drive .at - 1)
   pub named : (w .session .stage ≡ S.ClosingHeaders) ⊎ (w .session .stage ≡ S.Done) → EodAt last pass none-bears n (w .drive .tape) (w .session .copies .header .eod .0)
 
 -- ---- tape and window, where the tape was quiet at the opening and the window is unaltered
@@ -126,16 +127,18 @@ pub record Live (last pass : ℕ) (on-newest none-bears : Type 0) (prior : Prior
   pub k : ℕ
   pub edge : ℕ
   pub list : List Element
-  -- so many were on tape at the opening
-  pub floor : (prior .base ≤ k) × (prior .base ≤ length list)
+  -- so many were on tape at the opening, and nothing below its start is tried
+  pub floor : (prior .base ≤ k) × (prior .base ≤ length list) × (prior .start ≤ edge)
   pub promises : Promises list w
   pub going : w .session .ended ≡ false
   pub counted : Counted last (length list) (w .session)
-  pub carried : Carried last pass (spareOf (w .session .stage)) (w .session .copies .header)
+  pub carried : Carried last pass prior (spareOf (w .session .stage)) (w .session .copies .header)
   pub course : Course last (length list) w k edge
   pub reported : w .notes .reported ≡ true → w .session .stage ≡ S.Done
   pub outgoing : Known none-bears w → Outgoing last pass list w k
-  pub eod-place : EodPlace last pass none-bears (length list) w k
+  pub eod-place : EodPlace last pass none-bears (prior .start) (length list) w k
+  -- no element goes out before a header copy is on tape
+  pub copied : ElementStage (w .session) → Copy (w .session .copies .header) (w .drive .tape) (last + 1)
   pub below : on-newest → Below last (w .session .copies .header) (w .drive .tape)
   pub clean : none-bears → Clean last pass edge (w .drive .tape)
   pub content : none-bears → w .notes .unaltered ≡ true → Content last pass list w k edge

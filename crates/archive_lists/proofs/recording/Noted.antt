@@ -43,7 +43,7 @@ module _ (earlier : List Element) (kept : Bool) where
   refuses-with w (fetch lent frame) l h = refuses (fetch lent frame) l h
   refuses-with w (reply r) l h = refuses (reply r) l h
 
-  calls-with : {w v : World} {c : Call} → Calls w c v → Calls (noted earlier kept w) c (noted earlier kept v)
+  pub calls-with : {w v : World} {c : Call} → Calls w c v → Calls (noted earlier kept w) c (noted earlier kept v)
   calls-with {w} (refuses c l h) = refuses-with w c l h
   calls-with {w} (accepts-block b lent te) =
       subst (λ (u : Bool). Calls (noted earlier kept w) (accept-block b lent) (as-noted (afterBlock w b lent) (earlier ++ afterBlock w b lent .notes .accepted) u)) (kept-with kept (w .notes .unaltered) (agree lent (w .window)))
@@ -58,7 +58,7 @@ module _ (earlier : List Element) (kept : Bool) where
       (fetches lent frame te)
   calls-with (replies r q te) = replies r q te
 
-  moves-with : {w v : World} → Moves w v → Moves (noted earlier kept w) (noted earlier kept v)
+  pub moves-with : {w v : World} → Moves w v → Moves (noted earlier kept w) (noted earlier kept v)
   moves-with (acts d a) = acts d a
   moves-with (answers c frame r d q a) = answers c frame r d q a
 

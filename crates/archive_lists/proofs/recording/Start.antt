@@ -23,7 +23,7 @@ use Rattle.geometry.proofs.TestLaws.{or-false, and-true}
 use Rattle.geometry.proofs.Impossible.{never}
 use Rattle.geometry.proofs.UserFrames.{User, user-ranges}
 use Rattle.frame.specs.declared.header.Header.{Header}
-use Rattle.header.specs.Valid.{validHeader, headerOf}
+use Rattle.header.specs.Valid.{validHeader, headerOf, updateOf}
 use Rattle.header.specs.Read as checked
 use Rattle.header.specs.Read.{CheckedSaid, readHeader}
 use Rattle.header.proofs.Facts.{valid-last}
@@ -49,7 +49,7 @@ use Rattle.archive_lists.proofs.tape.Basics.{promised-all}
 use Rattle.archive_lists.proofs.tape.Seen.{has, Seen, Clean}
 use Rattle.archive_lists.proofs.tape.FoldLaws.{fold-none}
 use Rattle.archive_lists.proofs.recording.Trailing.{Marked, Traces, TapeTrails, priorOf}
-use Rattle.archive_lists.proofs.recording.HeaderCopies.{Carried, Below}
+use Rattle.archive_lists.proofs.recording.HeaderCopies.{Late, Carried, Below}
 use Rattle.archive_lists.proofs.recording.CopiesLink.{to-seek}
 use Rattle.archive_lists.proofs.recording.Noted.{noted}
 use Rattle.archive_lists.proofs.recording.Invariant as inv
@@ -74,6 +74,7 @@ pub record Started (last : ℕ) (earlier : List Element) (at : ℕ) (s : State) 
   pub roof : at ≤ last
   pub zone : (at ≤ 2990) ⊎ (3000 ≤ at)
   pub spread : length earlier + 10 ≤ at
+  pub late : Late at header
 
 -- and of the opening alone: the sizes that it was given
 pub record Starts (depth blocks tail : ℕ) (s : State) : Type 0 where
@@ -137,6 +138,7 @@ module _ (g : Geometry) (last depth blocks tail : ℕ) (s : State) (e : lastOf g
         roof = omega arith;
         zone = inl (omega arith);
         spread = le-refl 10;
+        late = inl (le-refl 10);
         count-fits = let y = x .1 in omega (arith, few);
       }
 
@@ -162,6 +164,7 @@ module _ (g : Geometry) (last depth blocks tail : ℕ) (s : State) (e : lastOf g
         roof = omega arith;
         zone = inl (omega arith);
         spread = le-refl 10;
+        late = inl (le-refl 10);
         count-fits = omega arith;
       }
 
@@ -197,14 +200,18 @@ module _ (g : Geometry) (last depth blocks tail : ℕ) (s : State) (e : lastOf g
   opened-starts (on-header h) q = fresh-starts (renewed (headerOf h)) (on-header-view h q .with)
   opened-starts on-none q = fresh-starts (openingHeader (asAddress last) 1 0) (blank-with q)
 
-  -- every valid header that the cartridge holds counts less
-  pub starts-below : (t : Tape) (o : Opening) → opened g depth blocks tail o ≡ accepting s → OnNewest last t o → Below last (s .copies .header) t
-  starts-below t (on-header h) q n a f at =
+  -- the header that it was opened on counts less than its own
+  pub renewed-count : (h : List ℕ) → opened g depth blocks tail (on-header h) ≡ accepting s → updateOf h < s .copies .header .update
+  renewed-count h q =
       let o = on-header-view h q in
       let x = fresh-counts h o in
       let few : (headerOf h .update + 1) % 2 ^ 32 ≡ headerOf h .update + 1 = mod-eq-of-lt (let y = x .1 in omega arith) in
       let is : renewed (headerOf h) .update ≡ s .copies .header .update = ap (λ (r : State). r .copies .header .update) (o .with .0) in
-      inl (omega (arith, n .highest a f at, few, is))
+      omega (arith, few, is)
+
+  -- and so does every valid one that the cartridge holds
+  pub starts-below : (t : Tape) (o : Opening) → opened g depth blocks tail o ≡ accepting s → OnNewest last t o → Below last (s .copies .header) t
+  starts-below t (on-header h) q n a f at = inl (omega (arith, n .highest a f at, renewed-count h q))
   starts-below t on-none q n a f at = absurd (n a f at)
 
 pub sets : (g : Geometry) (last : ℕ) (earlier : List Element) (at : ℕ) (s : State) → g .segtrk < 2 ^ 16 → g .trks < 2 ^ 16 → lastOf g ≡ address last → Started last earlier at s → Setting last (s .copies .header .pass)
@@ -251,14 +258,14 @@ nothing-traced P trail e = record { counts = ap (λ (x : Trail). x .filemarks) e
 
 pub begins : (last : ℕ) (d : Drive) (window : List ℕ) (earlier : List Element) (kept : Bool) (at : ℕ) (s : State) (x : Started last earlier at s) (on-newest none-bears same : Type 0) → Setting last (s .copies .header .pass) → d .written ≡ [] → AtRest d
     → Cartridge last (d .tape) → (on-newest → Below last (s .copies .header) (d .tape)) → (none-bears → kept ≡ true → Seen last (s .copies .header .pass) earlier earlier (length earlier) at (d .tape)) → (none-bears → Clean last (s .copies .header .pass) at (d .tape))
-    → Traces earlier (Marked (priorOf last (s .copies .header .pass) earlier at (d .tape) same) last (s .copies .header .pass) at (d .tape)) (length earlier) (s .elements .trail)
-    → Inv last (s .copies .header .pass) on-newest none-bears (priorOf last (s .copies .header .pass) earlier at (d .tape) same) (noted earlier kept (recordings.started s window d))
+    → Traces earlier (Marked (priorOf last (s .copies .header) earlier at (d .tape) same) last (s .copies .header .pass) at (d .tape)) (length earlier) (s .elements .trail)
+    → Inv last (s .copies .header .pass) on-newest none-bears (priorOf last (s .copies .header) earlier at (d .tape) same) (noted earlier kept (recordings.started s window d))
 begins last d window earlier kept at s x on-newest none-bears same set unwritten rest cart below seen clean traced =
     live (subst (Within last) (sym unwritten) nothing-written) (record {
       k = length earlier;
       edge = at;
       list = earlier ++ [];
-      floor = (le-refl (length earlier), omega (arith, ap length (append-nil earlier)));
+      floor = (le-refl (length earlier), omega (arith, ap length (append-nil earlier)), le-refl at);
       promises = record { is = sym (promised-all (noted earlier kept (recordings.started s window d) .notes) refl); ungiven = λ _. refl; aimed = λ _ _. aimed };
       going = ap (λ (r : State). r .ended) (sym (x .is));
       counted = subst (λ (r : State). inv.Counted last (length (earlier ++ [])) r) (x .is) (record {
@@ -269,12 +276,14 @@ begins last d window earlier kept at s x on-newest none-bears same set unwritten
         marks = length-replicate {A = Bool} 64 false;
         room = room;
       });
-      carried = subst (λ (r : State). Carried last (r .copies .header .pass) (inv.spareOf (r .stage)) (r .copies .header)) (x .is) (record {
+      carried = subst (λ (r : State). Carried last (r .copies .header .pass) (priorOf last (r .copies .header) earlier at (d .tape) same) (inv.spareOf (r .stage)) (r .copies .header)) (x .is) (record {
         last-is = x .last-is;
         pass-is = refl;
         eod-fits = ap (λ (n : ℕ). eqb n 0 || isUser last n) (x .eod-zero);
         old-low = x .old-low;
         count-fits = x .count-fits;
+        late = x .late;
+        newer = le-refl (x .header .update);
       });
       course = subst (λ (r : State). inv.Course last (length (earlier ++ [])) (noted earlier kept (recordings.started r window d)) (length earlier) (at)) (x .is)
           (inv.opening refl refl (record { first-is = x .number-is; none-out = refl; relocates = refl; target-is = refl; roof = x .roof; zone = x .zone; spread = x .spread }) (record {
@@ -285,6 +294,7 @@ begins last d window earlier kept at s x on-newest none-bears same set unwritten
       reported = λ e. absurd (true≢false (sym e));
       outgoing = λ _. record { queue = λ st _. absurd (opening-stage st); sent = λ _ _ st _. absurd (opening-stage st) };
       eod-place = record { written = λ st _ _. absurd (opening-stage st); named = λ st. absurd (⊎-elim closing-stage done-stage st) };
+      copied = λ st. absurd (opening-stage st);
       below = below;
       clean = clean;
       content = λ p u.
@@ -298,8 +308,8 @@ begins last d window earlier kept at s x on-newest none-bears same set unwritten
         prefix = λ i l. refl;
         marked = λ i h. absurd (none-pending i h);
         trail =
-            subst (λ (n : ℕ). Traces (earlier ++ []) (Marked (priorOf last (s .copies .header .pass) earlier at (d .tape) same) last (s .copies .header .pass) at (d .tape)) n (s .elements .trail)) (sym first-is)
-            (subst (λ (xs : List Element). Traces xs (Marked (priorOf last (s .copies .header .pass) earlier at (d .tape) same) last (s .copies .header .pass) at (d .tape)) (length earlier) (s .elements .trail)) (sym (append-nil earlier)) traced);
+            subst (λ (n : ℕ). Traces (earlier ++ []) (Marked (priorOf last (s .copies .header) earlier at (d .tape) same) last (s .copies .header .pass) at (d .tape)) n (s .elements .trail)) (sym first-is)
+            (subst (λ (xs : List Element). Traces xs (Marked (priorOf last (s .copies .header) earlier at (d .tape) same) last (s .copies .header .pass) at (d .tape)) (length earlier) (s .elements .trail)) (sym (append-nil earlier)) traced);
         written = λ j l h. absurd (omega arith);
         behind = λ st. absurd (opening-stage st);
         queue = λ st. absurd (opening-stage st);

@@ -8,6 +8,7 @@ use mathlib.Core.Option.{some}
 use lib.ListN.{length, getD}
 use Rattle.geometry.specs.Cartridge.{isUser}
 use Rattle.geometry.specs.declared.address.Address.{Address}
+use Rattle.frame.specs.declared.header.Header.{Header}
 use Rattle.frame.specs.declared.element.Kind.{Kind}
 use Rattle.frame.specs.declared.element.Kind.the-variants.{Marker, Eod}
 use Rattle.frame.specs.declared.trail.Trail.{Trail}
@@ -24,9 +25,12 @@ use Rattle.archive_lists.specs.Filemarks.{itemAt, kindFor, filemarksAmon
 use Rattle.archive_lists.proofs.tape.Marks.{isFilemark}
 use Rattle.archive_lists.proofs.tape.Stands.{telling}
 
--- what there was before a session: so many elements; what may be assumed of the trail that it started with, and of the frames that the tape held
+-- what there was before a session: so many elements, up to the address of its first, and what its opening headers count; what may be assumed of the
+-- trail that it started with, and of the frames that the tape held
 pub record Prior : Type 1 where
   pub base : ℕ
+  pub start : ℕ
+  pub least : ℕ
   pub same : Type 0
   pub trailed : Type 0
 
@@ -94,8 +98,14 @@ abbrev pub TapeTrails : ℕ → ℕ → List Element → List Element → ℕ �
 TapeTrails last pass xs ys k edge t = (a i : ℕ) (f : List ℕ) (kind : Kind) → isUser last a ≡ true → t a ≡ some f → FoundAs (telling last pass 0) (record { 0 = i }) kind f → TapeSays last pass xs ys k edge t i kind f
 
 -- behind elements that the cartridge holds already, up to an address
-abbrev pub priorOf : ℕ → ℕ → List Element → ℕ → Tape → Type 0 → Prior
-priorOf last pass earlier at t same = record { base = length earlier; same = same; trailed = TapeTrails last pass earlier earlier (length earlier) at t }
+abbrev pub priorOf : ℕ → Header → List Element → ℕ → Tape → Type 0 → Prior
+priorOf last h earlier at t same = record {
+  base = length earlier;
+  start = at;
+  least = h .update;
+  same = same;
+  trailed = TapeTrails last (h .pass) earlier earlier (length earlier) at t;
+}
 
 -- ---- the drive's buffer
 

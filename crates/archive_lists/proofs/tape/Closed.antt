@@ -29,23 +29,23 @@ use Rattle.archive_lists.proofs.tape.StandsLaws.{ends-telling, stands-a
 use Rattle.archive_lists.proofs.tape.FoldLaws.{fold-user, Final, fold-final, fold-alike}
 use Rattle.archive_lists.proofs.reading.Facts.{Fits, fold-back}
 
-user-within : (last a : ℕ) → 3000 ≤ last → isUser last a ≡ true → a ≤ last
+pub user-within : (last a : ℕ) → 3000 ≤ last → isUser last a ≡ true → a ≤ last
 user-within last a large u = ⊎-elim (λ h. let x = h .1 in omega arith) (λ h. h .1) (user-ranges last a u)
 
-final-going : {X : Type 0} {r : Reader} {n : ℕ} {got : List Element} {trail : Trail} → Final r → r ≡ going n got trail → X
+pub final-going : {X : Type 0} {r : Reader} {n : ℕ} {got : List Element} {trail : Trail} → Final r → r ≡ going n got trail → X
 final-going {r = going n got trail} f e = absurd f
 final-going {r = finished got e} f q = never (cc)
 final-going {r = stopped m} f q = never (cc)
 
 -- a user frame's address is not 0
-user-some : (last a : ℕ) → isUser last a ≡ true → a ≡ 0 → ⊥
+pub user-some : (last a : ℕ) → isUser last a ≡ true → a ≡ 0 → ⊥
 user-some last a u z = ⊎-elim (λ h. let x = h .0 in omega arith) (λ h. let x = h .0 in omega arith) (user-ranges last a u)
 
-from-named : (told : Told) → (told .eod .0 ≡ 0 → ⊥) → endsFrom told ≡ told .eod .0
+pub from-named : (told : Told) → (told .eod .0 ≡ 0 → ⊥) → endsFrom told ≡ told .eod .0
 unfolding endsFrom
 from-named told other = pick-f _ (ne-eqb (told .eod .0) 0 other)
 
-take-take : (j m : ℕ) (xs : List Element) → j ≤ m → take j (take m xs) ≡ take j xs
+pub take-take : (j m : ℕ) (xs : List Element) → j ≤ m → take j (take m xs) ≡ take j xs
 take-take zero m xs h = refl
 take-take (suc j) zero xs h = absurd (not-suc-le-zero h)
 take-take (suc j) (suc m) [] h = refl

@@ -114,7 +114,7 @@ pub fold-final : (told : Told) (t : Tape) (a b : ℕ) {r : Reader} → a ≤ b �
 fold-final told t a b l h e = let z : b ≡ b - a + a = omega arith in ap (foldOf told t) z ∙ fold-final-by told t a (b - a) h e
 
 -- an address above changes nothing
-fold-put : (told : Told) (t : Tape) (a : ℕ) (v : Option (List ℕ)) (b : ℕ) → b ≤ a → foldOf told (put t a v) b ≡ foldOf told t b
+pub fold-put : (told : Told) (t : Tape) (a : ℕ) (v : Option (List ℕ)) (b : ℕ) → b ≤ a → foldOf told (put t a v) b ≡ foldOf told t b
 unfolding foldOf
 fold-put told t a v zero h = refl
 fold-put told t a v (suc b) h = rw (put-other t a v b (λ e. omega arith), fold-put told t a v b (omega arith))

@@ -1,0 +1,6 @@
+pub mod HeldCopies
+pub mod View
+pub mod Intact
+pub mod CutLists
+pub mod Untouched
+pub mod InPart
