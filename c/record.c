@@ -3,9 +3,10 @@
    the same cartridge, of whose header copies only one is left. Then it meets
    header copies that differ, and a cartridge without any. Then it records on
    another cartridge, tries to add to it where that is refused, adds twice, once
-   with the old end gone bad, and reads back all of it. At last it fills a
+   with the old end gone bad, and reads back all of it. Then it fills a
    cartridge, of which little can be written, up to the tail, closes it, records
-   the rest on one more cartridge and reads back both. The commands are printed,
+   the rest on one more cartridge and reads back both. And it cuts an addition
+   short behind each of its frames and reads what stands. The commands are printed,
    each LOCATE on a line of its own with what follows it: W a WRITE, R a READ, C
    a READ with a correction, P a READ POSITION with the frames still buffered, B
    a busy reply, ! a write error with the address that failed. Behind each
@@ -28,6 +29,12 @@ enum { FIRST = 4, SECOND = 9, THIRD = 11, OLD_END = 14 };
    them find room: six below the bad stretch and nine behind it. */
 enum { STRETCH = 16, GOOD_AGAIN = 2980, TAIL = 12, MANY = 19, FITTING = 15, NO_TAIL = 0 };
 
+/* The frames of an addition that is cut short, and this program's own numbers for
+   a reply that can't be had and for an element that is not as it was recorded; no
+   refusal has them. */
+enum { HEADERS = 10, CUT_FRAMES = 2 * HEADERS + SECOND - FIRST + 1 };
+enum { NO_REPLY = 255, NOT_AS_RECORDED = 254 };
+
 /* Where a header frame has its EOD address and its update count, and the
    highest count that is added to. */
 enum { EOD_AT = 32, UPDATE_AT = ADR_BLOCK_LENGTH + 12 };
@@ -47,6 +54,8 @@ struct drive {
     int quiet;         /* prints nothing */
     int stopped;       /* at a bad spot, until LOCATE */
     unsigned sent;     /* every BUSY_TURN-th command is answered busy */
+    unsigned left;     /* frames that are written before the mains go; 0 if they stay */
+    int silent;        /* the mains are gone: nothing is written, and no reply comes */
 };
 
 static struct adr_reply sense(uint8_t key, uint8_t asc, uint8_t ascq)
@@ -86,7 +95,7 @@ static struct adr_reply write_error(const struct drive *drive)
 /* Writes the oldest buffered frame to tape, or stops. */
 static void write_oldest(struct drive *drive)
 {
-    if (drive->stopped || drive->buffered == 0)
+    if (drive->stopped || drive->silent || drive->buffered == 0)
         return;
     if (is_bad(drive, drive->front)) {
         drive->stopped = 1;
@@ -101,6 +110,7 @@ static void write_oldest(struct drive *drive)
     drive->front++;
     drive->buffered--;
     memmove(drive->buffer[0], drive->buffer[1], drive->buffered * (size_t)ADR_FRAME_LENGTH);
+    drive->silent = drive->left != 0 && --drive->left == 0;
 }
 
 /* Reads the next address. 00/00/02 where nothing reads from there on. */
@@ -257,7 +267,8 @@ static struct adr_record_outcome accept(struct adr_recording session, uint8_t *w
     return outcome;
 }
 
-/* Brings a session to ADR_DONE; or the refusal, and the session that it left. */
+/* Brings a session to ADR_DONE; or the refusal, and the session that it left.
+   Without a reply the session is left as it is: there is nothing to release. */
 static struct adr_record_outcome carry_through(struct drive *drive, struct adr_recording session,
                                                struct source *source, struct sent *sent)
 {
@@ -278,6 +289,10 @@ static struct adr_record_outcome carry_through(struct drive *drive, struct adr_r
             return outcome;
         if (fetched.answer == ADR_COMMAND) {
             struct adr_reply reply = send(drive, fetched.command, frame);
+            if (drive->silent) {
+                outcome.number = NO_REPLY;
+                return outcome;
+            }
             count(sent, fetched.command, reply);
             outcome = adr_record_reply(session, reply);
             session = outcome.session;
@@ -401,35 +416,55 @@ static int is_as_recorded(uint8_t answer, const uint8_t *frame, unsigned element
     return answer == ADR_BLOCK && memcmp(frame, block, sizeof block) == 0;
 }
 
+/* What came of a reading. */
+struct delivered {
+    unsigned count; /* elements, as they were recorded */
+    uint8_t number; /* why it did not come to its end, 0 if it did */
+};
+
+/* Reads to the end, or to a refusal, or to an element that is not as recorded;
+   the first has this number at the source. */
+static struct delivered deliver(struct drive *drive, struct adr_reading *session, unsigned first,
+                                unsigned turn)
+{
+    static uint8_t frame[ADR_FRAME_LENGTH];
+    struct delivered delivered = { 0, 0 };
+    for (;;) {
+        struct adr_read_fetched fetched = adr_read_fetch(*session);
+        delivered.number = fetched.number;
+        *session = fetched.session;
+        if (fetched.answer != ADR_COMMAND)
+            return delivered;
+        struct adr_reply reply = send(drive, fetched.command, frame);
+        struct adr_read_taken taken =
+            adr_read_reply(fetched.session, reply, frame, sizeof frame);
+        *session = taken.session;
+        delivered.number = taken.number;
+        if (taken.answer == ADR_REFUSED)
+            return delivered;
+        if (taken.answer != ADR_BLOCK && taken.answer != ADR_FILEMARK)
+            continue;
+        if (!is_as_recorded(taken.answer, frame, first + delivered.count, turn)) {
+            delivered.number = NOT_AS_RECORDED;
+            return delivered;
+        }
+        delivered.count++;
+    }
+}
+
 /* Brings a reading to its end; whether so many elements were delivered as
    recorded, the first of them with this number at the source. */
 static int read_back(struct drive *drive, struct adr_reading *session, unsigned first,
                      unsigned count, unsigned turn)
 {
-    static uint8_t frame[ADR_FRAME_LENGTH];
-    unsigned delivered = 0;
-    for (;;) {
-        struct adr_read_fetched fetched = adr_read_fetch(*session);
-        if (fetched.answer == ADR_REFUSED)
-            return failed("a fetch", fetched.number);
-        if (fetched.answer == ADR_END)
-            break;
-        struct adr_reply reply = send(drive, fetched.command, frame);
-        struct adr_read_taken taken =
-            adr_read_reply(fetched.session, reply, frame, sizeof frame);
-        *session = taken.session;
-        if (taken.answer == ADR_REFUSED)
-            return failed("a reply", taken.number);
-        if (taken.answer != ADR_BLOCK && taken.answer != ADR_FILEMARK)
-            continue;
-        if (!is_as_recorded(taken.answer, frame, first + delivered, turn)) {
-            printf("\nelement %u is not as it was recorded\n", first + delivered);
-            return 0;
-        }
-        delivered++;
-    }
-    printf("\n%u of %u elements read back as recorded\n", delivered, count);
-    return delivered == count;
+    struct delivered delivered = deliver(drive, session, first, turn);
+    if (delivered.number == NOT_AS_RECORDED)
+        printf("\nelement %u is not as it was recorded\n", first + delivered.count);
+    else if (delivered.number)
+        failed("reading on", delivered.number);
+    else
+        printf("\n%u of %u elements read back as recorded\n", delivered.count, count);
+    return delivered.number == 0 && delivered.count == count;
 }
 
 /* Leaves one header copy, the one that is hard to read. */
@@ -605,6 +640,58 @@ static void erase(struct drive *drive)
         free(drive->tape[address]);
 }
 
+/* Records and adds on a blank cartridge, and lets the mains go behind so many
+   frames of the addition; whether they went. */
+static int add_until_cut(struct drive *drive, uint8_t *newest, unsigned frames)
+{
+    struct source source = { FIRST, 0, 0, 0 }, added = { SECOND, 0, FIRST, 0 };
+    struct sent sent = { { 0, 0 }, { 0, 0 } };
+    struct adr_record_outcome opened = adr_record_open_blank(geometry, DEPTH, WINDOW, NO_TAIL);
+    struct adr_reading reading;
+    if (opened.number || carry_through(drive, opened.session, &source, &sent).number ||
+        newest_header(drive, newest) != FOUND || !open_reading(newest, &reading) ||
+        deliver(drive, &reading, 0, 0).number)
+        return 0;
+    opened = adr_record_open_at_end(reading, DEPTH, WINDOW, NO_TAIL);
+    drive->left = frames;
+    return opened.number == 0 &&
+           carry_through(drive, opened.session, &added, &sent).number == NO_REPLY;
+}
+
+/* Reads a cartridge that was cut so, with the mains back; whether all that was
+   there before the addition is, then elements of it and nothing else, and whether
+   the reading ends lawfully. Tells what a further addition is answered with. */
+static int reads_what_stands(struct drive *drive, uint8_t *newest, unsigned frames)
+{
+    struct adr_reading reading;
+    drive->silent = 0;
+    if (newest_header(drive, newest) != FOUND || !open_reading(newest, &reading))
+        return 0;
+    struct delivered delivered = deliver(drive, &reading, 0, 0);
+    uint8_t adding = adr_record_open_at_end(reading, DEPTH, WINDOW, NO_TAIL).number;
+    printf("%2u frames: %u elements, %s; adding: %u\n", frames, delivered.count,
+           delivered.number ? "and no end" : "to an end", adding);
+    return delivered.count >= FIRST && delivered.count <= SECOND &&
+           (delivered.number == 0 || delivered.number == ADR_NOT_FOUND);
+}
+
+/* An addition cut short behind each of its frames. */
+static int survives_cuts(uint8_t *newest)
+{
+    printf("\nadding %u elements to %u, and the mains go behind\n", SECOND - FIRST, FIRST);
+    for (unsigned frames = 1; frames <= CUT_FRAMES; frames++) {
+        static struct drive drive;
+        memset(&drive, 0, sizeof drive);
+        drive.quiet = 1;
+        int stands = add_until_cut(&drive, newest, frames) &&
+                     reads_what_stands(&drive, newest, frames);
+        erase(&drive);
+        if (!stands)
+            return 0;
+    }
+    return 1;
+}
+
 int main(void)
 {
     static struct drive drive = { .bad_spot = BAD_SPOT }, other, last;
@@ -616,7 +703,8 @@ int main(void)
     lose_copies(&drive);
     whole = whole && record_and_read_back(&drive, newest, &reading, 5, 1) &&
             refuses_unlike_copies(&drive, newest) && finds_none_on_a_blank(newest) &&
-            adds_twice(&other, newest) && goes_on_elsewhere(&filled, &last, newest);
+            adds_twice(&other, newest) && goes_on_elsewhere(&filled, &last, newest) &&
+            survives_cuts(newest);
     erase(&drive);
     erase(&other);
     erase(&filled);

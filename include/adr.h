@@ -194,9 +194,51 @@
    may have been carried out or not, and the session can't go on: make no reply
    up, don't send the command again, and leave the session; there is nothing to
    release. The cartridge is as after a power cut, and a recording that did not
-   come to ADR_DONE is not whole. Find the newest header again, open anew, and
-   record or read from the first element on, but add nothing (see
-   adr_record_open_at_end); if the recording was closed, see WRITE PASSES first.
+   come to ADR_DONE is not whole. What stands of it, and what can be done with
+   the cartridge, is said next.
+
+   CUT SHORT. A recording is cut short where the mains go, where a reply can't be
+   had, where the host leaves the session, and where 8, 9 or 12 ended it; a 9
+   only if no close after it came to ADR_DONE. The frame that was being written
+   then reads as before, as the new one or not at all, and the drive may still
+   write what it holds. What stands can be read: find the newest header again and
+   open a reading on it.
+     - Of an addition, while a copy of the header that it was opened on or a
+       newer one reads: the reading first delivers everything that the sessions
+       before it hold, and then elements of the one that was cut short, from its
+       first on and in order.
+     - Of a fresh recording, on a header copy of its own: the same, with nothing
+       before it, though frames of an earlier recording may stand. Before its
+       first copy was written the cartridge reads as it did, while a copy of its
+       newest header does.
+   Nothing else is delivered, and the reading is never refused with 8, 10 or 11.
+   It comes to ADR_END where the addition began or at an EOD that was written in
+   the session; or it is refused with 12, as no end is found, and then what was
+   delivered is as good as before ADR_END. How many elements of the session come
+   is not promised, not even of those known to be on tape: where the write at the
+   old end failed, the old EOD may still read, and the reading ends there. So
+   record again all that was accepted, or what is missing of it. All this needs
+   what a reading after ADR_DONE needs, too: that the session was opened as WRITE
+   PASSES and adr_record_open_at_end want it.
+
+   What can be done next is told by the newest header. Its update count (bytes
+   32,780 to 32,783, the high byte first) is one above that of the header that
+   the session was opened on if it is an opening header of the session, and two
+   above if a closing one; where there was no header these counts are 0 and 1.
+     - An opening header: its EOD address (bytes 32 to 35) is 0, and nothing can
+       be added. adr_record_open_at_end refuses it, with 13, or with 7 where the
+       reading was refused with 12. Read what is to be kept, then record afresh,
+       here or on another cartridge.
+     - A closing header: EOD and all that was accepted and not given up are on
+       tape, and a reading comes to its end. The cartridge may be added to as if
+       the session had come to ADR_DONE.
+     - The header that the session was opened on, and none of the commands was a
+       WRITE to a user frame: the cartridge is as it was, and may be added to as
+       before.
+     - That header though there was such a WRITE, or an older one: the headers of
+       the session are lost, and its frames may not be. Add nothing, and see
+       WRITE PASSES before anything is recorded.
+   c/record.c cuts an addition short behind each of its frames and reads it.
 
    WRITE PASSES. A reading knows the frames of a recording by their write pass:
    that of the header it was opened on, + 1, or 1 without a header. If a user
@@ -222,8 +264,10 @@
    there are frames of that pass above the old end, and again no call notices.
    There are none where the last session on the cartridge came to ADR_DONE and
    met none itself: a recording of a pass that no user frame bore, or an
-   addition above whose old end there were none. Where it did not, add nothing
-   before the cartridge has been recorded afresh, as is said here. */
+   addition above whose old end there were none. The same holds where it left a
+   closing header, or had written to no user frame (see CUT SHORT). Where it did
+   not, add nothing before the cartridge has been recorded afresh, as is said
+   here. */
 #ifndef ADR_H
 #define ADR_H
 
@@ -547,9 +591,9 @@ struct adr_record_outcome adr_record_open_blank(struct adr_geometry g, uint32_t 
        newest header was the one to read on.
      - There are no frames of the pass above the old end. There are none if the
        last session on the cartridge came to ADR_DONE and met none itself (see
-       WRITE PASSES above): add to no other. A left-over frame that still reads
-       behind a write error may be read as one of the addition's, or make its
-       reading be refused with 10.
+       WRITE PASSES above, and CUT SHORT for one that did not): add to no other. A
+       left-over frame that still reads behind a write error may be read as one of
+       the addition's, or make its reading be refused with 10.
    After a session that was cut short the newest header has, as a rule, EOD
    address 0. Every addition is then refused with 13, or with 7 where the
    reading finds no end, and the cartridge can only be recorded afresh; read

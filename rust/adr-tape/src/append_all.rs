@@ -36,14 +36,15 @@ pub struct Appended {
 /// frame bore its write pass, an added one where none did behind the end. Else
 /// frames of that pass may stand behind the end and be read among the new
 /// elements, and no call notices. Where a recording was cut short, the header
-/// mostly names no end, and nothing can be added. Blocks at the end that no
-/// filemark closes are one run with the new ones. [`Recorder::open_at_end`]
-/// tells more.
+/// mostly names no end, and nothing can be added: [`RecordError`] tells when
+/// something can. Blocks at the end that no filemark closes are one run with the
+/// new ones. [`Recorder::open_at_end`] tells more.
 ///
 /// # Errors
 /// What the reading failed with, and then nothing was written; or what the
-/// recording failed with, as [`record_all`](crate::record_all). The layer's refusal is [`Refusal::EndElsewhere`] where
-/// the header does not name the end that was found.
+/// recording failed with, as [`record_all`](crate::record_all). What was on the
+/// cartridge before can be read then, too. The layer's refusal is
+/// [`Refusal::EndElsewhere`] where the header does not name the end that was found.
 ///
 /// [`Refusal::EndElsewhere`]: crate::Refusal::EndElsewhere
 pub fn append_all<'a, D: Drive, S>(

@@ -8,7 +8,8 @@ use crate::reply::Reply;
 /// Each method sends one command and brings the drive's reply to it, its
 /// sense triple among them: a triple is no error of the transport. An error
 /// says that no reply can be had: the command may have been carried out or not,
-/// the session can't go on, and the cartridge is as after a power cut.
+/// the session can't go on, and the cartridge is as after a power cut:
+/// [`RecordError`](crate::RecordError) tells what stands then.
 ///
 /// Busy replies are replies too: the same command then comes again, at once and
 /// as often as the drive is busy, and READ POSITION as long as the drive's

@@ -9,6 +9,8 @@
 //!   [`read_all`]: whole recordings, additions and readings over the host's own
 //!   transport.
 //! * [`Full`]: what to do when a tape is full.
+//! * [`RecordError`]: what stands on a tape where a recording was cut short, as
+//!   when the mains go, and what can be done next.
 //! * [`frames_sent_at_most`] and [`FramesSent`]: the most frames that a recording
 //!   can send, and those that one sent.
 //! * [`ffi`]: the calls as C sees them, for hosts with buffers of their own.

@@ -19,7 +19,9 @@ use crate::summary::Summary;
 ///
 /// # Errors
 /// The layer's refusal, or what the drive or the sink failed with. What was
-/// handed to the sink before is what was recorded.
+/// handed to the sink before is what was recorded. Where the last recording was
+/// cut short, [`Refusal::NotFound`](crate::Refusal::NotFound) may come behind all
+/// that stands: [`RecordError`](crate::RecordError) tells what that is.
 pub fn read_all<D: Drive, S>(
     drive: &mut D,
     geometry: Geometry,

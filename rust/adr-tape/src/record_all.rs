@@ -18,8 +18,9 @@ use crate::summary::Summary;
 /// finds it. `progress` is called after each reply.
 ///
 /// # Errors
-/// The layer's refusal, or what the drive or the source failed with; what is on
-/// tape then can't be relied on. And [`RecordError::Full`], if there is a tail and
+/// The layer's refusal, or what the drive or the source failed with: the recording
+/// was cut short, and [`RecordError`] tells what stands on tape then. And
+/// [`RecordError::Full`], if there is a tail and
 /// the tape was full before it: then the tape was closed, and the error has what
 /// is not on it. With a tail of 0 a full tape is [`Refusal::TapeFull`], as it is
 /// where the end of data finds no room either.

@@ -111,6 +111,7 @@ impl Recorder {
     /// Where a recording was cut short, the newest header mostly names no end;
     /// then every such opening is refused, with [`Refusal::EndElsewhere`], or with
     /// [`Refusal::Phase`] where the reading finds no end either.
+    /// [`RecordError`](crate::RecordError) tells more.
     ///
     /// Blocks that no filemark closes are one run with the blocks recorded here.
     ///
@@ -329,7 +330,8 @@ impl Recorder {
     }
 
     /// Gives the recording up, because the drive can't be reached or the
-    /// elements can't be had. The cartridge is as after a power cut.
+    /// elements can't be had. The cartridge is as after a power cut:
+    /// [`RecordError`](crate::RecordError) tells what stands then.
     pub fn abandon(self) {
         self.unclosed.over();
     }

@@ -1,23 +1,25 @@
 //! An image in the simulated drive.
 
+mod reading;
+
 use std::path::Path;
 
 use adr_model::drive::Drive as SimulatedDrive;
 use adr_model::frame::{aux_of, number_at, Frame};
 use adr_tape::{
-    newest_header, read_with, record_with, Address, Element, Geometry, HeaderError, ReadError,
-    Reader, RecordError, Recorder, Refusal, Reply, Sense, Setup, Summary, FRAME_LENGTH,
+    newest_header, record_with, Address, Element, Geometry, HeaderError, RecordError, Recorder,
+    Refusal, Reply, Sense, Setup, Summary, FRAME_LENGTH,
 };
 
 use crate::failure::Failure;
 use crate::faults::hostility;
 use crate::image::{Access, Image};
 use crate::interruption;
-use crate::job::reading::{Ending, Jobs, Taker};
 use crate::lone_frame;
-use crate::progress::Progress;
+use crate::mains::Mains;
 use crate::room::Room;
-use crate::size::bytes_in;
+
+pub use reading::{End, ReadJobs};
 
 /// Where an EOD address stands in a header.
 const EOD_ADDRESS: std::ops::Range<usize> = 32..36;
@@ -67,72 +69,30 @@ impl WriteError {
     }
 }
 
-/// The end of a cartridge that was read.
-pub struct End {
-    reader: Reader,
-    /// The jobs before it.
-    pub jobs: u64,
-    ending: Ending,
-    /// Whether an element reads that was given up.
-    given_up: bool,
-}
-
-impl End {
-    /// Whether a filemark ends the last job.
-    pub fn is_closed(&self) -> bool {
-        self.ending == Ending::Closed
-    }
-}
-
-/// The jobs of a cartridge that was read.
-#[derive(Default)]
-pub struct ReadJobs {
-    /// How many there are.
-    pub number: u64,
-    ending: Ending,
-    given_up: bool,
-}
-
-impl ReadJobs {
-    /// What is to be told of a tape that was full, if it is known to have been.
-    /// Where it was behind a job, and no element that was given up reads, nothing
-    /// tells.
-    pub fn was_full(&self) -> Option<String> {
-        let job = self.number;
-        match self.ending {
-            Ending::Within => Some(format!(
-                "the tape was full in job {job}: \
-                 it and what was to follow it belong on another cartridge"
-            )),
-            Ending::BeforeFilemark => Some(no_filemark(job)),
-            Ending::Closed if self.given_up => Some(format!(
-                "the tape was full, and the recording was given up behind job {job}: \
-                 what was to follow belongs on another cartridge"
-            )),
-            Ending::Closed | Ending::Foreign => None,
-        }
-    }
-}
-
-/// What is told of a last job that no filemark ends.
-fn no_filemark(job: u64) -> String {
-    format!(
-        "job {job} has no filemark at its end: \
-         'adr salvage' restores it if nothing else is missing"
-    )
-}
-
 /// What came of a recording.
 pub struct Recorded {
-    /// Counts of it.
+    /// Counts of it, up to where the mains went if they did.
     pub summary: Summary,
     /// How many of its elements are on tape, if the tape was full before all were.
     pub full: Option<u64>,
+    /// What became of its frames.
+    pub frames: Frames,
+}
+
+/// The frames that a drive took in a session.
+#[derive(Clone, Copy, Debug, PartialEq, Eq)]
+pub struct Frames {
+    /// Those that reached the tape.
+    pub on_tape: u64,
+    /// Those that the drive still held when the mains went, if they did.
+    pub lost: Option<u64>,
 }
 
 /// A cartridge in the drive.
 pub struct Cartridge {
-    drive: SimulatedDrive<Image>,
+    drive: SimulatedDrive<Mains>,
+    /// The frames of a session behind which the mains go, if they do.
+    cut_after: Option<u64>,
     geometry: Geometry,
     write_errors: Vec<WriteError>,
     /// The sequence number in the frame that was read last.
@@ -151,22 +111,29 @@ impl Cartridge {
         let image = Image::open(path, access)?;
         let geometry = image.geometry();
         let depth = usize::try_from(depth).unwrap_or(usize::MAX);
+        let mains = Mains::new(image);
         Ok(Cartridge {
-            drive: SimulatedDrive::new(image, depth, hostility(seed), seed.unwrap_or(0)),
+            drive: SimulatedDrive::new(mains, depth, hostility(seed), seed.unwrap_or(0)),
+            cut_after: None,
             geometry,
             write_errors: Vec::new(),
             latest_number: 0,
         })
     }
 
+    /// Lets the mains go behind so many frames of each session.
+    pub fn cut_after(&mut self, frames: Option<u64>) {
+        self.cut_after = frames;
+    }
+
     /// The image.
     pub fn image(&self) -> &Image {
-        self.drive.tape()
+        self.drive.tape().image()
     }
 
     /// The image, to be read from beside the drive.
     pub fn image_mut(&mut self) -> &mut Image {
-        self.drive.tape_mut()
+        self.drive.tape_mut().image_mut()
     }
 
     /// The write errors reported so far.
@@ -225,7 +192,8 @@ impl Cartridge {
         if end_of_data(&header) == Address(0) {
             return Err(cannot(
                 "the last recording was not closed, and nothing can be added behind it; \
-                 nothing was changed: restore what can be read, and use another cartridge",
+                 nothing was changed: restore what can be read, and use another cartridge, \
+                 or record afresh with '--overwrite'; 'adr list' tells what stands",
             ));
         }
         Ok(header)
@@ -266,7 +234,7 @@ impl Cartridge {
         elements: impl Iterator<Item = Result<Element<'static>, Failure>>,
         progress: impl FnMut(&Summary),
     ) -> Result<Recorded, Failure> {
-        let opened = Recorder::open_at_end(&end.reader, setup);
+        let opened = Recorder::open_at_end(end.reader(), setup);
         let filemark = (!end.is_closed()).then_some(Ok(Element::Filemark));
         let all = filemark.into_iter().chain(elements);
         let recorded = self.record_with(opened, all, progress)?;
@@ -281,31 +249,55 @@ impl Cartridge {
         &mut self,
         opened: Result<Recorder, Refusal>,
         elements: impl Iterator<Item = Result<Element<'static>, Failure>>,
-        progress: impl FnMut(&Summary),
+        mut progress: impl FnMut(&Summary),
     ) -> Result<Recorded, Failure> {
         self.image_mut().give_back_leavings();
-        let opened = opened.map_err(RecordError::from);
-        let recorded = opened.and_then(|recorder| record_with(self, recorder, elements, progress));
-        let recorded = match recorded {
-            Ok(summary) => Ok(Recorded {
-                summary,
-                full: None,
-            }),
-            Err(RecordError::Full(full)) => Ok(Recorded {
-                summary: full.summary,
-                full: Some(full.on_tape),
-            }),
-            Err(RecordError::Refused(Refusal::Capacity)) => Err(Failure::usage(Refusal::Capacity)),
-            Err(RecordError::Refused(refusal @ Refusal::EndElsewhere)) => Err(self
-                .refused("recording stopped", refusal)
-                .with(IF_END_ELSEWHERE)),
-            Err(RecordError::Refused(refusal @ Refusal::TapeFull)) => {
-                Err(self.refused("recording stopped", refusal).with(IF_FULL))
-            }
-            Err(RecordError::Refused(refusal)) => Err(self.refused("recording stopped", refusal)),
-            Err(RecordError::Drive(failure) | RecordError::Source(failure)) => Err(failure),
+        let cut_after = self.cut_after;
+        self.drive.tape_mut().cut_after(cut_after);
+        let mut latest = Summary::default();
+        let update = |summary: &Summary| {
+            latest = *summary;
+            progress(summary);
         };
-        recorded.map_err(Failure::unrecorded)
+        let opened = opened.map_err(RecordError::from);
+        let recorded = opened.and_then(|recorder| record_with(self, recorder, elements, update));
+        let (summary, full) = match recorded {
+            Ok(summary) => (summary, None),
+            Err(RecordError::Full(full)) => (full.summary, Some(full.on_tape)),
+            Err(RecordError::Drive(_)) if self.drive.tape().are_gone() => (latest, None),
+            Err(error) => return Err(self.unrecorded(error)),
+        };
+        Ok(Recorded {
+            summary,
+            full,
+            frames: self.frames(),
+        })
+    }
+
+    /// What became of the frames of the present session.
+    fn frames(&self) -> Frames {
+        let mains = self.drive.tape();
+        let held = u64::try_from(self.drive.buffered()).unwrap_or(u64::MAX);
+        Frames {
+            on_tape: mains.written(),
+            lost: mains.are_gone().then_some(held),
+        }
+    }
+
+    /// Why nothing was recorded.
+    fn unrecorded(&self, error: RecordError<Failure, Failure>) -> Failure {
+        let stopped = |refusal| self.refused("recording stopped", refusal);
+        let failure = match error {
+            RecordError::Refused(Refusal::Capacity) => Failure::usage(Refusal::Capacity),
+            RecordError::Refused(refusal @ Refusal::EndElsewhere) => {
+                stopped(refusal).with(IF_END_ELSEWHERE)
+            }
+            RecordError::Refused(refusal @ Refusal::TapeFull) => stopped(refusal).with(IF_FULL),
+            RecordError::Refused(refusal) => stopped(refusal),
+            RecordError::Drive(failure) | RecordError::Source(failure) => failure,
+            RecordError::Full(_) => stopped(Refusal::TapeFull),
+        };
+        failure.unrecorded()
     }
 
     /// Puts what was recorded in force. A recording that is not is given up with
@@ -313,78 +305,6 @@ impl Cartridge {
     pub fn put_in_force(&mut self) -> Result<(), Failure> {
         interruption::check().map_err(Failure::unrecorded)?;
         self.image_mut().commit()
-    }
-
-    /// Reads jobs to the end of data, or until `taker` breaks. An empty
-    /// cartridge has none.
-    pub fn read_jobs<'t>(
-        &mut self,
-        taker: &'t mut Taker<'t>,
-        progress: &mut Progress,
-    ) -> Result<ReadJobs, Failure> {
-        let Some(header) = self.header_of_frames(IF_UNREADABLE)? else {
-            return Ok(ReadJobs::default());
-        };
-        let end = self.read_to_end(&header, taker, progress)?;
-        // The taker was told of any job of this tool that is not whole.
-        if end.ending == Ending::Foreign {
-            let path = self.image().path().display();
-            return Err(Failure::new(format!("{path}: {}", no_filemark(end.jobs))));
-        }
-        Ok(ReadJobs {
-            number: end.jobs,
-            ending: end.ending,
-            given_up: end.given_up,
-        })
-    }
-
-    /// Reads jobs on the newest header, as [`Cartridge::read_jobs`] does, and
-    /// tells where the reading ended.
-    pub fn read_to_end<'t>(
-        &mut self,
-        header: &[u8],
-        taker: &'t mut Taker<'t>,
-        progress: &mut Progress,
-    ) -> Result<End, Failure> {
-        let opened = Reader::open(self.geometry, header);
-        let mut reader = opened.map_err(|refusal| self.refused("reading stopped", refusal))?;
-        let end = u64::from(end_of_data(header).0);
-        let mut jobs = Jobs::new(taker);
-        let mut stopped = false;
-        let sink = |element: Element<'_>| {
-            let flow = jobs.take(&element)?;
-            stopped = flow.is_break();
-            Ok(flow)
-        };
-        let read = read_with(self, &mut reader, sink, |summary| {
-            let bytes = bytes_in(summary.blocks);
-            progress.update(bytes, u64::from(summary.address.0), Some(end));
-        });
-        match read {
-            // What the jobs are handed to tells itself where it failed.
-            Err(ReadError::Sink(failure)) => Err(failure),
-            Err(ReadError::Drive(failure)) => Err(jobs.place(failure)),
-            Err(ReadError::Refused(refusal)) => {
-                let stopped = jobs.place(self.refused("reading stopped", refusal));
-                Err(stopped.with("'adr salvage' restores the jobs behind it that are whole"))
-            }
-            Ok(_) if stopped => Ok(End {
-                reader,
-                jobs: jobs.begun(),
-                ending: Ending::Closed,
-                given_up: false,
-            }),
-            Ok(summary) => {
-                // Only then can the end of data have a number that was read before.
-                let given_up = summary.elements() > u64::from(self.latest_number);
-                Ok(End {
-                    reader,
-                    ending: jobs.end()?,
-                    jobs: jobs.begun(),
-                    given_up,
-                })
-            }
-        }
     }
 
     fn refused(&self, what: &str, refusal: Refusal) -> Failure {
@@ -400,8 +320,12 @@ impl Cartridge {
         }
     }
 
-    /// The reply, unless the image failed meanwhile.
+    /// The reply, unless the mains went or the image failed meanwhile.
     fn checked(&mut self, reply: adr_model::Reply) -> Result<Reply, Failure> {
+        if self.drive.tape().are_gone() {
+            // If the image failed too, it is told so when it is put in force.
+            return Err(Failure::new("the mains are gone"));
+        }
         match self.image_mut().take_error() {
             Some(failure) => Err(failure),
             None => Ok(of_model(reply)),

@@ -1,9 +1,11 @@
 //! `adr check`: reads everything and verifies it.
 
 use std::ops::ControlFlow;
+use std::path::Path;
 
 use crate::arguments::{Arguments, Options};
 use crate::cartridge::Cartridge;
+use crate::cut_session::{CutSession, IF_CUT};
 use crate::failure::Failure;
 use crate::frame_checksums;
 use crate::image::Access;
@@ -27,7 +29,21 @@ struct Findings {
     foreign: u64,
     bytes: u64,
     was_full: Option<String>,
+    cut: Option<CutSession>,
     wrong: Vec<String>,
+}
+
+impl Findings {
+    /// How much is wrong, and what is done next where a session was not closed.
+    fn failure(&self, path: &Path) -> Failure {
+        let wrong = u64::try_from(self.wrong.len()).unwrap_or(u64::MAX);
+        let wrong = count(wrong, "thing is", "things are");
+        let failure = Failure::new(format!("{}: {wrong} wrong", path.display()));
+        match self.cut {
+            None => failure,
+            Some(_) => failure.with(IF_CUT),
+        }
+    }
 }
 
 /// Runs the command.
@@ -56,9 +72,7 @@ pub fn run(arguments: &Arguments) -> Result<(), Failure> {
         output::message(format!("{shown}: {wrong}"));
     }
     if !findings.wrong.is_empty() {
-        let wrong = u64::try_from(findings.wrong.len()).unwrap_or(u64::MAX);
-        let wrong = count(wrong, "thing is", "things are");
-        return Err(Failure::new(format!("{shown}: {wrong} wrong")));
+        return Err(findings.failure(path));
     }
     let mut told = format!(
         "{shown}: {}, {}, {} on tape: every checksum holds",
@@ -106,6 +120,9 @@ fn read_jobs(
         Ok(jobs) => {
             findings.jobs = jobs.number;
             findings.was_full = jobs.was_full();
+            findings.cut = jobs.cut;
+            let told = jobs.cut.map(|session| session.told().join("; "));
+            findings.wrong.extend(told);
         }
         // The rest can be looked at all the same.
         Err(Failure::Failed(message)) => {

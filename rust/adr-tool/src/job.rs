@@ -124,7 +124,16 @@ impl Description {
     }
 }
 
-/// How far a job got in which the tape was full.
+/// Why a job is cut off.
+#[derive(Clone, Copy, Debug, PartialEq, Eq)]
+pub enum Cause {
+    /// The tape was full.
+    FullTape,
+    /// Its session was not closed.
+    CutSession,
+}
+
+/// How far a job got that is cut off.
 #[derive(Clone, Copy, Debug, PartialEq, Eq)]
 pub struct Cut {
     /// The bytes of it that are on tape; padding may be among them if its length
@@ -132,13 +141,23 @@ pub struct Cut {
     bytes: u64,
     /// Its length, if it was known when recording began.
     length: Option<u64>,
+    cause: Cause,
 }
 
 impl Cut {
-    /// A job of this length, cut behind so many blocks of its data.
+    /// A job of this length, cut by a full tape behind so many blocks of its data.
     pub fn behind(blocks: u64, length: Option<u64>) -> Cut {
         let bytes = bytes_in(blocks).min(length.unwrap_or(u64::MAX));
-        Cut { bytes, length }
+        Cut {
+            bytes,
+            length,
+            cause: Cause::FullTape,
+        }
+    }
+
+    /// The same for another cause.
+    pub fn by(self, cause: Cause) -> Cut {
+        Cut { cause, ..self }
     }
 }
 
@@ -153,7 +172,10 @@ impl Display for Cut {
             )?,
             None => write!(formatter, "cut off behind at most {bytes} bytes")?,
         }
-        formatter.write_str(": the tape was full")
+        formatter.write_str(match self.cause {
+            Cause::FullTape => ": the tape was full",
+            Cause::CutSession => ": its session was not closed",
+        })
     }
 }
 

@@ -2,9 +2,11 @@
 
 use std::fmt::Display;
 use std::ops::ControlFlow;
+use std::path::Path;
 
 use crate::arguments::{Arguments, Options};
-use crate::cartridge::Cartridge;
+use crate::cartridge::{Cartridge, ReadJobs};
+use crate::cut_session::IF_CUT;
 use crate::digest::hexadecimal;
 use crate::failure::Failure;
 use crate::image::Access;
@@ -50,13 +52,23 @@ pub fn run(arguments: &Arguments) -> Result<(), Failure> {
         // Beside the rows, which other programs read.
         output::message(format!("{}: {}", path.display(), cartridge.room(TAIL)?));
     }
+    tell_end(path, &jobs, broken)
+}
+
+/// Tells what is not as it should be at the end of the jobs; it failed if one of
+/// them, or the session that they end with, is not whole.
+fn tell_end(path: &Path, jobs: &ReadJobs, broken: u64) -> Result<(), Failure> {
+    let shown = path.display();
     if let Some(was_full) = jobs.was_full() {
-        output::message(format!("{}: {was_full}", path.display()));
+        output::message(format!("{shown}: {was_full}"));
+    }
+    if let Some(session) = jobs.cut {
+        session.tell(path);
+        return Err(Failure::new(format!("{shown}: {IF_CUT}")));
     }
     if broken > 0 {
         return Err(Failure::new(format!(
-            "{}: not every job is whole: see 'adr check'",
-            path.display()
+            "{shown}: not every job is whole: see 'adr check'"
         )));
     }
     Ok(())

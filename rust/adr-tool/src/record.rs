@@ -2,6 +2,7 @@
 
 mod frames;
 mod full;
+mod power_cut;
 
 use std::collections::BTreeMap;
 use std::ffi::{OsStr, OsString};
@@ -11,7 +12,7 @@ use std::path::Path;
 use adr_tape::{Setup, Summary};
 
 use crate::arguments::{Arguments, Options};
-use crate::cartridge::{require_sizes, Cartridge};
+use crate::cartridge::{require_sizes, Cartridge, Recorded};
 use crate::earlier_jobs::EarlierJobs;
 use crate::failure::Failure;
 use crate::image::Access;
@@ -26,7 +27,14 @@ use full::FullTape;
 
 /// The options of `record`.
 pub const OPTIONS: Options = Options {
-    valued: &["--name", "--faults", "--depth", "--window", "--tail"],
+    valued: &[
+        "--name",
+        "--faults",
+        "--cut-after",
+        "--depth",
+        "--window",
+        "--tail",
+    ],
     plain: &["--allow-empty", "--append", "--overwrite", "--quiet"],
 };
 
@@ -48,6 +56,7 @@ pub fn run(arguments: &Arguments) -> Result<(), Failure> {
     let seed = arguments.number("--faults")?;
     let inputs = inputs(command.path, command.files, arguments.value("--name"))?;
     let mut cartridge = Cartridge::load(command.path, Access::Record, command.setup.depth, seed)?;
+    cartridge.cut_after(command.cut_after);
     interruption::watch();
     let earlier_jobs = command.look(&mut cartridge, &inputs)?;
     tell_names_that_come_again(&inputs, &earlier_jobs);
@@ -60,6 +69,8 @@ struct Command<'a> {
     path: &'a Path,
     files: &'a [OsString],
     setup: Setup,
+    /// The frames behind which the mains go, if they do.
+    cut_after: Option<u64>,
     quiet: bool,
 }
 
@@ -74,6 +85,7 @@ impl Command<'_> {
             path,
             files,
             setup: setup(arguments)?,
+            cut_after: arguments.number("--cut-after")?,
             quiet: arguments.has("--quiet"),
         })
     }
@@ -114,6 +126,11 @@ impl Command<'_> {
             None => cartridge.record(self.setup, &mut elements, update),
             Some(end) => cartridge.append(end, self.setup, &mut elements, update),
         }?;
+        if let Some(lost) = recorded.frames.lost {
+            // A trial of what a tape holds then, asked for as such.
+            cartridge.put_in_force()?;
+            return Err(power_cut::failure(self.path, recorded.frames.on_tape, lost));
+        }
         let reach = recorded.full.map(|on_tape| elements.reach(on_tape));
         // What a cartridge holds is not given for a part of a job.
         let in_force = !replaces || reach.is_none_or(|reach| elements.has_whole_job(reach));
@@ -121,13 +138,11 @@ impl Command<'_> {
             cartridge.put_in_force()?;
         }
         drop(progress);
+        if let Some(cut_after) = self.cut_after {
+            power_cut::tell_done(self.path, recorded.frames.on_tape, cut_after);
+        }
         let Some(reach) = reach else {
-            if !self.quiet && std::io::stderr().is_terminal() {
-                output::message(told(jobs, &recorded.summary));
-            }
-            self.tell_room(cartridge)?;
-            self.tell_frames(&recorded.summary);
-            return tell_changed(self.path, elements.changed());
+            return self.tell_whole(cartridge, &recorded, jobs, elements.changed());
         };
         let full = FullTape {
             path: self.path,
@@ -141,6 +156,22 @@ impl Command<'_> {
             changed: elements.changed(),
         };
         Err(self.tell_full(cartridge, &full, &recorded.summary))
+    }
+
+    /// Tells what came of a recording that is whole; it failed if files changed.
+    fn tell_whole(
+        &self,
+        cartridge: &mut Cartridge,
+        recorded: &Recorded,
+        jobs: u64,
+        changed: &[Change],
+    ) -> Result<(), Failure> {
+        if !self.quiet && std::io::stderr().is_terminal() {
+            output::message(told(jobs, &recorded.summary));
+        }
+        self.tell_room(cartridge)?;
+        self.tell_frames(&recorded.summary);
+        tell_changed(self.path, changed)
     }
 
     /// Tells what is on a full tape, and then its room and its frames; it failed.

@@ -65,7 +65,16 @@ pub fn run(arguments: &Arguments) -> Result<(), Failure> {
     let mut taker = |number: u64, event: Event<'_>| restoring.take(number, &event);
     let jobs = cartridge.read_jobs(&mut taker, &mut progress)?;
     drop(progress);
-    restoring.finish(jobs.number)
+    let finished = restoring.finish(jobs.number);
+    let Some(session) = jobs.cut else {
+        return finished;
+    };
+    session.tell(path);
+    finished.and(Err(Failure::new(format!(
+        "{}: the jobs asked for are restored as far as they are whole; \
+         what else the last session was to hold is not on the cartridge",
+        path.display()
+    ))))
 }
 
 fn target(arguments: &Arguments, wanted: &Wanted) -> Result<Target, Failure> {

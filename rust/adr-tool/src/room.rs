@@ -29,6 +29,8 @@ pub struct Room {
     frames: u64,
     /// Those before the end of data.
     used: u64,
+    /// Whether a header names no end of data: then nothing can be added.
+    unclosed: bool,
 }
 
 impl Room {
@@ -36,6 +38,7 @@ impl Room {
     /// for a recording that keeps so many frames for the end of data.
     pub fn new(geometry: Geometry, end: Option<Address>, tail: u32) -> Result<Room, Refusal> {
         let behind_last = u64::from(geometry.last()?.0) + 1;
+        let unclosed = end == Some(Address(0));
         let end = end.map_or(0, |end| u64::from(end.0));
         // The highest address is a user frame: the end of data has room there.
         let tail = u64::from(tail.max(END_OF_DATA));
@@ -45,6 +48,7 @@ impl Room {
         Ok(Room {
             frames: frames.max(used),
             used,
+            unclosed,
         })
     }
 
@@ -61,10 +65,13 @@ impl Room {
 
 impl fmt::Display for Room {
     fn fmt(&self, formatter: &mut fmt::Formatter<'_>) -> fmt::Result {
+        let capacity = amount(bytes_in(self.frames));
+        if self.unclosed {
+            return write!(formatter, "capacity at most {capacity} for a new recording");
+        }
         write!(
             formatter,
-            "capacity at most {}: {} used, at most {} free",
-            amount(bytes_in(self.frames)),
+            "capacity at most {capacity}: {} used, at most {} free",
             amount(bytes_in(self.used)),
             amount(bytes_in(self.free())),
         )

@@ -84,6 +84,12 @@ Files that cannot fit are told before anything is written. A file that changes
 while it is recorded is told, and the exit status is then 1: the recording is
 in force, its other jobs are whole. Names that come again are told.
 
+--cut-after N is for trying out what a power cut leaves: N frames of this
+session reach the tape, header copies among them, and then the drive is silent.
+Unlike after a power cut of this computer, the image then holds what the tape
+holds, and with --overwrite the jobs that were there are lost. The exit status
+is 1. A session that is done with fewer frames is not cut, and that is told.
+
   --append        record behind the jobs on the cartridge
   --overwrite     replace the jobs on the cartridge
   --allow-empty   record standard input or a pipe even if there is nothing to
@@ -91,6 +97,7 @@ in force, its other jobs are whole. Names that come again are told.
   --name NAME     the name of the job from standard input (stdin); it is that
                   of a file, without directories
   --faults SEED   let the drive have faults, picked by this number
+  --cut-after N   let the drive's mains go behind N frames of this session
   --depth N       frames that the drive buffers, 1 to 255 (32)
   --window N      blocks that may wait for the drive, 1 to 64 (64)
   --tail N        frames at the end of the tape that are kept for the end of
@@ -108,6 +115,8 @@ job whose file shrank or grew while it was recorded is marked. Standard error
 tells the capacity and what is free; bad spots make both less. A new recording
 has all of the capacity, for it replaces the jobs; --append has what is free.
 A job that a full tape cut off is marked too, and the exit status is then 1.
+So it is where the last session was not closed, as after a power cut: told are
+what stood before it, what stands of it, and what can be done.
 
 A tape has no directory: the whole recording is read, to the end of data. A
 drive would take 8 minutes for each GB, 2 hours for a full cartridge of 15 GB,
@@ -136,7 +145,8 @@ then 1: jobs that are not there, jobs of another program and, with --into,
 files that exist, jobs that are not whole and jobs with the name of an earlier
 one. Files get the mode that was recorded, under the umask. A job whose file
 shrank or grew while it was recorded is restored and told; the exit status is
-then 1 too.
+then 1 too. So it is where a reading comes to the end of a session that was not
+closed, as after a power cut: what is whole is restored, the rest is told.
 
   --into DIRECTORY        write the jobs, or all jobs, under their own names;
                           a name that leads out of the directory is refused
@@ -151,8 +161,8 @@ pub const CHECK: &str = "\
 usage: adr check [OPTION...] IMAGE
 
 Reads every job and every frame and verifies their checksums. The exit status
-is 1 if anything is wrong, also if a file shrank or grew while it was recorded;
-the image is never changed.
+is 1 if anything is wrong, also if a file shrank or grew while it was recorded
+or the last session was not closed; the image is never changed.
 
   --faults SEED   let the drive have faults, picked by this number
   --quiet         no progress on a terminal
@@ -187,7 +197,8 @@ usage: adr map [OPTION...] IMAGE
 Shows what stands where on the cartridge: copies of the header, blocks,
 filemarks, the end of data, bad spots, damaged frames, frames that are passed
 over, and what is unused. The checksum of every frame is tested. If one is
-damaged or a reading would stop, the exit status is 1 after the map was shown.
+damaged, a reading would stop or the last session was not closed, the exit
+status is 1 after the map was shown.
 
   --svg FILE    write a picture to this file instead, which gets its name when
                 it is whole; '-' is standard output

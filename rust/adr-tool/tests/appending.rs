@@ -80,13 +80,7 @@ fn clear(place: &Place) {
 /// The directory holds files of these names, as they were.
 #[track_caller]
 fn restored_are(place: &Place, names: &[&str]) {
-    let mut sorted = names.to_vec();
-    sorted.sort_unstable();
-    assert_eq!(place.names("out"), sorted);
-    for name in names {
-        let restored = place.read(&format!("out/{name}"));
-        assert!(restored == place.read(name), "{name}");
-    }
+    place.has_copies("out", names);
 }
 
 /// How many of a kind a map has.

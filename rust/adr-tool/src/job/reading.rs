@@ -5,7 +5,7 @@ use std::ops::ControlFlow;
 
 use adr_tape::Element;
 
-use super::{Block, Closing, Cut, Description};
+use super::{Block, Cause, Closing, Cut, Description};
 use crate::digest::Sha256;
 use crate::failure::Failure;
 
@@ -121,6 +121,16 @@ impl<'t> Jobs<'t> {
 
     /// Takes in the end of data, which is also that of a job that has not ended.
     pub fn end(&mut self) -> Result<Ending, Failure> {
+        self.end_by(Cause::FullTape)
+    }
+
+    /// Takes in that no end of data was found, for the session was not closed.
+    pub fn end_of_cut_session(&mut self) -> Result<Ending, Failure> {
+        self.end_by(Cause::CutSession)
+    }
+
+    /// Ends a job that has not ended, for this cause if it is cut off.
+    fn end_by(&mut self, cause: Cause) -> Result<Ending, Failure> {
         let (verdict, ending) = match std::mem::replace(&mut self.state, State::Between) {
             State::Between => return Ok(Ending::Closed),
             State::Foreign => return Ok(Ending::Foreign),
@@ -131,7 +141,7 @@ impl<'t> Jobs<'t> {
                 };
                 (verdict, Ending::BeforeFilemark)
             }
-            State::Own(own) => (Some(self.cut(own)?), Ending::Within),
+            State::Own(own) => (Some(self.cut(own, cause)?), Ending::Within),
         };
         if let Some(verdict) = verdict {
             let _ = (self.taker)(self.number, Event::End(&verdict))?;
@@ -153,7 +163,7 @@ impl<'t> Jobs<'t> {
     }
 
     /// Hands on what there is of a job that is cut off; its verdict.
-    fn cut(&mut self, mut own: Own) -> Result<Verdict, Failure> {
+    fn cut(&mut self, mut own: Own, cause: Cause) -> Result<Verdict, Failure> {
         for mut block in std::mem::take(&mut own.held) {
             let left = own.told.map(|told| told.saturating_sub(own.length));
             let left = left.and_then(|left| usize::try_from(left).ok());
@@ -161,7 +171,8 @@ impl<'t> Jobs<'t> {
             own.add(&block);
             let _ = (self.taker)(self.number, Event::Data(&block))?;
         }
-        Ok(Verdict::Cut(Cut::behind(own.blocks, own.told)))
+        let cut = Cut::behind(own.blocks, own.told);
+        Ok(Verdict::Cut(cut.by(cause)))
     }
 
     fn take_block(&mut self, block: &[u8]) -> Result<ControlFlow<()>, Failure> {

@@ -3,12 +3,13 @@
 use adr_model::frame::{aux_of, number_at, Frame, Kind};
 use adr_model::header::fields_of;
 use adr_tape::{
-    header_addresses, newer, newest_header, Command, Delivery, Drive, HeaderError, ReadNext,
-    Reader, Refusal, Sense, BLOCK_LENGTH, FRAME_LENGTH,
+    header_addresses, newer, newest_header, Address, Command, Delivery, Drive, HeaderError,
+    ReadNext, Reader, Refusal, Sense, BLOCK_LENGTH, FRAME_LENGTH,
 };
 
 use super::aux_drive::AuxDrive;
 use super::spots::{Reading, Spot, Spots};
+use crate::cut_session::CutSession;
 use crate::failure::Failure;
 use crate::frame_checksums;
 use crate::image::Image;
@@ -95,24 +96,41 @@ fn mark_elements(
         Err(refusal) => return Ok(Reading::Stopped(refusal)),
     };
     let mut delivered = 0;
+    let mut cut = CutSession::of(header, Address(spots.last));
     loop {
         let (address, reply) = match reader.fetch() {
             Ok(ReadNext::Send(Command::Read(address))) => {
                 (address, drive.read(address, &mut frame)?)
             }
             Ok(ReadNext::Send(Command::Locate(address))) => (address, drive.locate(address)?),
-            Ok(ReadNext::Send(_) | ReadNext::End) => return Ok(whole(delivered, &frame)),
-            Err(refusal) => return Ok(Reading::Stopped(refusal)),
+            Ok(ReadNext::Send(_) | ReadNext::End) => {
+                return Ok(cut.map_or(whole(delivered, &frame), Reading::Cut))
+            }
+            Err(refusal) => return Ok(stopped(refusal, cut)),
         };
         let spot = match reader.reply(reply, &frame) {
             Ok(Delivery::Nothing) => continue,
             Ok(Delivery::Block(_)) => Spot::Block,
             Ok(Delivery::Filemark) => Spot::Filemark,
             Ok(Delivery::End) => Spot::End,
-            Err(refusal) => return Ok(Reading::Stopped(refusal)),
+            Err(refusal) => return Ok(stopped(refusal, cut)),
         };
+        match (&mut cut, spot) {
+            (None, _) => {}
+            (Some(session), Spot::End) => session.end(address),
+            (Some(session), _) => session.take(address, spot == Spot::Filemark),
+        }
         delivered += u64::from(spot != Spot::End);
         spots.known.insert(address.0, spot);
+    }
+}
+
+/// How a reading stopped that was refused, in a session that was not closed if it
+/// is one.
+fn stopped(refusal: Refusal, cut: Option<CutSession>) -> Reading {
+    match (refusal, cut) {
+        (Refusal::NotFound, Some(session)) => Reading::Cut(session),
+        _ => Reading::Stopped(refusal),
     }
 }
 

@@ -5,6 +5,7 @@ use std::collections::BTreeMap;
 use adr_tape::Refusal;
 
 use super::counts::Counts;
+use crate::cut_session::CutSession;
 
 /// What stands at an address, the worst first.
 #[derive(Clone, Copy, Debug, PartialEq, Eq, PartialOrd, Ord)]
@@ -53,6 +54,8 @@ pub enum Reading {
     Empty,
     /// Before it starts, for there are frames but no header.
     NoHeader,
+    /// Where the last session stops that was not closed.
+    Cut(CutSession),
     /// Before the end of data.
     Stopped(Refusal),
 }

@@ -65,9 +65,10 @@ pub fn heading(spots: &Spots, rows: &Rows) -> String {
 /// What is wrong with the cartridge.
 pub fn wrong(spots: &Spots) -> Vec<String> {
     let reading = match spots.reading {
-        Reading::Whole | Reading::GivenUp | Reading::Empty => None,
-        Reading::NoHeader => Some(String::from("the cartridge holds frames but no header")),
-        Reading::Stopped(refusal) => Some(format!("reading stopped: {refusal}")),
+        Reading::Whole | Reading::GivenUp | Reading::Empty => Vec::new(),
+        Reading::NoHeader => vec![String::from("the cartridge holds frames but no header")],
+        Reading::Cut(session) => session.told().to_vec(),
+        Reading::Stopped(refusal) => vec![format!("reading stopped: {refusal}")],
     };
     reading.into_iter().chain(damage(spots)).collect()
 }
@@ -96,7 +97,7 @@ pub fn remarks(spots: &Spots) -> Vec<String> {
         Reading::GivenUp => {
             Some("the tape was full: the last element was given up and still reads")
         }
-        Reading::Whole | Reading::NoHeader | Reading::Stopped(_) => None,
+        Reading::Whole | Reading::NoHeader | Reading::Cut(_) | Reading::Stopped(_) => None,
     };
     let remarks = plain.map(String::from).into_iter().chain(wrong(spots));
     remarks.map(|remark| sentence(&remark)).collect()

@@ -69,6 +69,18 @@ impl Place {
         names
     }
 
+    /// The directory holds files of these names and no others, as they are here.
+    #[track_caller]
+    pub fn has_copies(&self, directory: &str, names: &[&str]) {
+        let mut sorted = names.to_vec();
+        sorted.sort_unstable();
+        assert_eq!(self.names(directory), sorted);
+        for name in names {
+            let copy = self.read(&format!("{directory}/{name}"));
+            assert!(copy == self.read(name), "{name}");
+        }
+    }
+
     /// The tool with some words, not yet run.
     pub fn command(&self, words: &[&str]) -> Command {
         let mut command = Command::new(ADR);
