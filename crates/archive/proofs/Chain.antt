@@ -23,6 +23,7 @@ use Rattle.archive_lists.specs.Recordings.{Element, promised}
 use Rattle.archive.specs.Demand.{Readable}
 use Rattle.archive.specs.PowerCut.{EarlierFirst}
 use Rattle.archive.specs.Chain.{Start, fresh, added, earlierOf, OnItsNewest, AsItStands, NoneInTheWay, Read, Adds, Closed, Way, adding, wayOf, Chain, first, more, Together, one-more, none, acceptedIn, NoneGiven, ReadTogether, WithoutTails, Chains}
+use Rattle.archive_lists.proofs.reading.Facts.{finished-list}
 use Rattle.archive_lists.proofs.tape.FoldLaws.{fold-users}
 use Rattle.archive.proofs.Continued.{left-whole, readable, read-count, read-behind, leaves, start-kept, added-ended, continued}
 use Rattle.archive_lists.proofs.recording.Noted.{noted}
@@ -86,9 +87,6 @@ pub record Held (g : Geometry) (last : ℕ) (t : Tape) (xs : List Element) (ns :
   pub end-at : ℕ
   pub whole : (h : List ℕ) → Newest last t h → wholeOf (toldOf (headerOf h)) t ≡ finished (reads .elements) end-at
 
-finished-same : {xs ys : List Element} {a b : ℕ} → finished xs a ≡ finished ys b → xs ≡ ys
-finished-same e = cc
-
 -- one session behind others
 abbrev pub held-behind : (g : Geometry) (last : ℕ) (t : Tape) (xs : List Element) (ns : List recordings.Notes) (ys : List Element) (n : recordings.Notes) (m : ℕ) → Together xs ns ys → (NoneGiven ns → ys ≡ xs ++ acceptedIn ns) → Left g last t ys n m → Held g last t xs (ns ++ n ∷ [])
 held-behind g last t xs ns ys n m together whole l = record {
@@ -123,7 +121,7 @@ module _ (g : Geometry) (last : ℕ) (seg : g .segtrk < 2 ^ 16) (trk : g .trks <
   earlier-is t xs ns held s (added depth blocks tail u h r read op) is on same =
       let told = toldOf (headerOf h) in
       let x = added-ended g last seg trk e s depth blocks tail u h r read op in
-      finished-same (sym (x .ended .whole) ∙ fold-users told u t (subst (λ (n : ℕ). SameFrames n u t) (sym (valid-last last h (on .here .valid))) same) (headerOf h .last .0 + 1) ∙ held .whole h on)
+      finished-list (sym (x .ended .whole) ∙ fold-users told u t (subst (λ (n : ℕ). SameFrames n u t) (sym (valid-last last h (on .here .valid))) same) (headerOf h .last .0 + 1) ∙ held .whole h on)
 
   -- the frames read are those that the session before left
   pub as-left : (t v : Tape) (s : State) (b : Start g last s) → SameFrames last t v → AsItStands b v → AsItStands b t

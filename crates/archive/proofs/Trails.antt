@@ -43,7 +43,7 @@ use Rattle.archive_lists.proofs.tape.Basics.{some-same}
 use Rattle.archive_lists.proofs.tape.StandsLaws.{item-take}
 use Rattle.archive_lists.proofs.tape.Ended.{element-delivered}
 use Rattle.archive_lists.proofs.recording.Invariant.{Inv, live, rejecting, spent, over}
-use Rattle.archive_lists.proofs.recording.ContentMoves.{user-low}
+use Rattle.archive_lists.proofs.tape.Closed.{user-within}
 use Rattle.archive_lists.proofs.recording.Setting.{Leaves}
 use Rattle.archive_lists.proofs.recording.Start.{pass-is}
 use Rattle.archive_lists.proofs.recording.Noted.{noted}
@@ -91,7 +91,7 @@ module _ {last pass base : ℕ} {none-bears : Type 0} {t : Tape} {ps xs : List E
       let below = below-end a i f u r q element in
       let h =
       element-delivered told t (take count xs) (l .headers .end-at) (left-whole l (l .headers .header) (l .headers .newest)) a i f kind (subst (λ (n : ℕ). isUser n a ≡ true) (sym last-is) u)
-      (subst (λ (n : ℕ). a ≤ n) (sym last-is) (user-low last a large u)) below r
+      (subst (λ (n : ℕ). a ≤ n) (sym last-is) (user-within last a large u)) below r
       (found-told (telling last pass 0) told (sym last-is) (sym (l .headers .passes (l .headers .header) (l .headers .newest))) q) element in
       omega (arith, size)
 

@@ -19,7 +19,7 @@ use Rattle.archive_lists.specs.Readings.{World}
 use Rattle.archive_lists.specs.Faithful.{replyBound}
 use Rattle.archive_lists.specs.Fold.{going, finished, wholeOf, Standing, goes-on, at-end, stops, finds-no-end}
 use Rattle.archive_lists.proofs.tape.Closed.{take-take}
-use Rattle.archive_lists.proofs.reading.Facts.{Fits, ReadTape, going-finished}
+use Rattle.archive_lists.proofs.reading.Facts.{Fits, ReadTape, finished-list, finished-at, going-finished}
 use Rattle.archive_lists.proofs.reading.Invariant.{ReadInv}
 use Rattle.archive_lists.proofs.reading.Steady.{Only12, Steady, steady}
 use Rattle.archive_lists.proofs.reading.Promises.{standing}
@@ -29,12 +29,6 @@ use Rattle.archive_cuts.specs.Cuts.{FaithfulInPart}
 pub data Whole (told : Told) (t : Tape) (xs : List Element) (mayEnd : ℕ → Type 0) (j : ℕ) : Type 0 where
   without-end : (trail : Trail) → wholeOf told t ≡ going j (take j xs) trail → Whole told t xs mayEnd j
   with-end : (e : ℕ) → mayEnd e → wholeOf told t ≡ finished (take j xs) e → Whole told t xs mayEnd j
-
-finished-list : {u v : List Element} {c d : ℕ} → finished u c ≡ finished v d → u ≡ v
-finished-list e = cc
-
-finished-at : {u v : List Element} {c d : ℕ} → finished u c ≡ finished v d → c ≡ d
-finished-at e = cc
 
 going-list : {u v : List Element} {c d : ℕ} {p q : Trail} → going c u p ≡ going d v q → u ≡ v
 going-list e = cc

@@ -24,7 +24,8 @@ use Rattle.archive_lists.proofs.tape.StandsLaws.{item-more, stands-read, stands
 use Rattle.archive_lists.proofs.tape.FoldLaws.{fold-put, fold-put-other}
 use Rattle.archive_lists.proofs.tape.SeenLaws.{cartridge-put, seen-elsewhere, seen-writes, seen-fails}
 use Rattle.archive_lists.proofs.recording.Trailing.{Prior}
-use Rattle.archive_lists.proofs.recording.ContentMoves.{left-reads, user-low, header-low, not-user}
+use Rattle.archive_lists.proofs.tape.Closed.{user-within}
+use Rattle.archive_lists.proofs.recording.ContentMoves.{left-reads, header-low, not-user}
 use Rattle.archive_lists.proofs.recording.CopiesMoves.{rests-still}
 use Rattle.archive_cuts.proofs.View.{own, Fair}
 use Rattle.archive_cuts.proofs.HeldCopies.{OwnCopy, Traced, kept-or-new, traced-put, CopiesHeld, NoElements, at-rest, copies, goes-here, is-copy, own-copy, rest-held}
@@ -101,7 +102,7 @@ module _ {last pass : ℕ} {prior : Prior} {old : Tape} {xs : List Element} {t :
   -- an element or EOD
   element-tried : (ps : List Element) (k : ℕ) → Stands last pass (itemAt ps k) k f → isUser last a ≡ true → prior .start ≤ a → OnTape last pass prior old xs (put t a v)
   element-tried ps k s here ahead = record {
-    cartridge = put-cartridge (user-low last a large here) (stands-long s);
+    cartridge = put-cartridge (user-within last a large here) (stands-long s);
     few = l .few;
     traced = traced-put t a v f left (l .traced) (λ group. absurd (header-not-user last a group here));
     fair = λ b g low u q. ⊎-elim (λ x. l .fair b g low u x) (λ x. own (kindFor (itemAt ps k)) k (stands-read s (x .1) .found)) (kept-or-new t a v f left b g q);

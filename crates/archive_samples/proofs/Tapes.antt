@@ -25,16 +25,11 @@ use Rattle.archive_lists.specs.Conduct.{Drive}
 use Rattle.archive_lists.specs.Tape.{Tape, put, Cartridge}
 use Rattle.archive_lists.specs.Headers.{Newest, NoHeader}
 use Rattle.archive_lists.specs.Openings.{NoneBears}
+use Rattle.archive_lists.proofs.tape.Basics.{none-some, some-same}
 use Rattle.archive_lists.proofs.tape.FoldLaws.{put-same, put-other}
 use Rattle.archive_lists.proofs.tape.SeenLaws.{cartridge-put}
 use Rattle.archive_samples.proofs.Flush.{flushed}
 use Rattle.archive_samples.proofs.Headers.{groupWritten, headersWritten, lastCopyFailed}
-
-some-same : {f g : List ℕ} → _≡_ {A = Option (List ℕ)} (some f) (some g) → f ≡ g
-some-same e = cc
-
-none-some : {X : Type 0} {f : List ℕ} → _≡_ {A = Option (List ℕ)} none (some f) → X
-none-some e = let z : _≡_ {A = ℕ} 0 1 = cc in absurd (omega arith)
 
 -- ---- n frames f from an address on
 

@@ -42,6 +42,7 @@ use Rattle.archive_lists.specs.Headers.{Newest}
 use Rattle.archive_lists.specs.Recordings.{Element}
 use Rattle.archive_lists.specs.Fold.{going, finished, foldOf}
 use Rattle.archive.specs.Chain.{NoneAbove}
+use Rattle.archive_lists.proofs.tape.Basics.{some-same}
 use Rattle.archive_lists.proofs.tape.Seen.{has, Seen, Quiet, Clean}
 use Rattle.archive_lists.proofs.tape.Stands.{telling, unending}
 use Rattle.archive_lists.proofs.tape.StandsLaws.{ends-telling}
@@ -238,9 +239,6 @@ module _ (told : Told) (last : ℕ) (t : Tape) (r : Reading) (earlier : List Ele
     -- which is the frame there
     frame-at : (a : ℕ) (f : List ℕ) → end-at ≡ a → t a ≡ some f → here .frame ≡ f
     frame-at a f at e = some-same (sym (here .reads) ∙ ap t at ∙ e)
-      where
-        some-same : {x y : List ℕ} → some x ≡ some y → x ≡ y
-        some-same q = cc
 
     -- so a current marker stands below it
     pub marker-low : NoneAbove last t end-at (told .pass) → (j b : ℕ) (f : List ℕ) → isUser last b ≡ true → t b ≡ some f → FoundAs (telling last (told .pass) 0) (record { 0 = j }) Marker f → b < end-at

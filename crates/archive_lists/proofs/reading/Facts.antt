@@ -147,6 +147,12 @@ pub record ReadTape (told : Told) (t : Tape) : Type 0 where
   pub small : told .last .0 + 65 < 4294967296
   pub cartridge : Cartridge (told .last .0) t
 
+pub finished-list : {xs ys : List Element} {d e : ℕ} → finished xs d ≡ finished ys e → xs ≡ ys
+finished-list e = cc
+
+pub finished-at : {xs ys : List Element} {d e : ℕ} → finished xs d ≡ finished ys e → d ≡ e
+finished-at e = cc
+
 pub going-finished : {A : Type 0} {n e : ℕ} {got xs : List Element} {trail : Trail} → going n got trail ≡ finished xs e → A
 going-finished e = never (cc)
 

@@ -11,7 +11,7 @@ use Rattle.archive_lists.specs.Recordings.{Element}
 use Rattle.archive_lists.specs.Readings.{World}
 use Rattle.archive_lists.specs.Faithful.{Faithful, replyBound}
 use Rattle.archive_lists.specs.Fold.{finished, wholeOf, Standing, goes-on, at-end, stops, finds-no-end, IsFold}
-use Rattle.archive_lists.proofs.reading.Facts.{Fits, ReadTape}
+use Rattle.archive_lists.proofs.reading.Facts.{Fits, ReadTape, finished-list}
 use Rattle.archive_lists.proofs.reading.Invariant as invariant
 use Rattle.archive_lists.proofs.reading.Invariant.{Ended, ReadInv, under, over, halted}
 use Rattle.archive_lists.proofs.reading.Steady.{Only12, Steady, steady}
@@ -49,12 +49,9 @@ module _ {told : Told} {t : Tape} {xs : List Element} {end-at : ℕ} (k : ReadTa
       never-12 (inl z) = z
       never-12 (inr x) = absurd (x .1 xs end-at all)
 
-      finished-same : {got ys : List Element} {d e : ℕ} → finished got d ≡ finished ys e → got ≡ ys
-      finished-same e = cc
-
       complete : w .notes .end ≡ true → Standing told t w → w .notes .deliveries ≡ xs
       complete e (goes-on _ m _) = clash e m
-      complete e (at-end _ _ _ d) = finished-same (sym d ∙ all)
+      complete e (at-end _ _ _ d) = finished-list (sym d ∙ all)
       complete e (stops _ m _) = clash e m
       complete e (finds-no-end _ m _) = clash e m
 

@@ -10,7 +10,7 @@ use native.Mathlib.Omega.{arith}
 use lib.ListN.{length}
 use Rattle.geometry.specs.Cartridge.{isHeader, isUser}
 use Rattle.geometry.proofs.Impossible.{never}
-use Rattle.geometry.proofs.UserFrames.{ranges, user-ranges, header-not-user}
+use Rattle.geometry.proofs.UserFrames.{ranges, header-not-user}
 use Rattle.frame.specs.Header.{headerFrame}
 use Rattle.frame.specs.Sent.{ReadsAs}
 use Rattle.frame.specs.declared.header.Header.{Header}
@@ -24,6 +24,7 @@ use Rattle.recording_state.specs.declared.state.Stage.the-variants as S
 use Rattle.recording_state.proofs.Stages.{ElementStage}
 use Rattle.archive_lists.specs.Recordings.{World, Element, withDrive}
 use Rattle.archive_lists.specs.Filemarks.{Item, eod, itemAt}
+use Rattle.archive_lists.proofs.tape.Closed.{user-within}
 use Rattle.archive_lists.proofs.tape.Basics.{none-some, some-same}
 use Rattle.archive_lists.proofs.tape.Seen.{Seen, Clean}
 use Rattle.archive_lists.proofs.tape.FoldLaws.{put-same, put-other}
@@ -39,9 +40,6 @@ pub left-reads : {before : Option (List ℕ)} {sent f : List ℕ} {v : Option (L
 left-reads as-before e = inl e
 left-reads {sent = sent} (as-new _ (conduct.reads read r)) e = inr (subst (λ (x : List ℕ). ReadsAs sent x) (some-same e) r)
 left-reads not-at-all e = none-some e
-
-pub user-low : (last a : ℕ) → 3000 ≤ last → isUser last a ≡ true → a ≤ last
-user-low last a large u = ⊎-elim (λ h. let x = h .1 in omega arith) (λ h. h .1) (user-ranges last a u)
 
 -- ---- headers
 
@@ -177,7 +175,7 @@ module _ {last pass k : ℕ} (ps : List Element) (w : World) (f : List ℕ) (res
       long-left left g e = ⊎-elim (λ y. c .tape .long (w .drive .at) g y) (λ r. r .long ∙ stands-long (queued x .0)) (left-reads left e)
 
       cartridge-left : {v : Option (List ℕ)} → Left (w .drive .tape (w .drive .at)) f v → Cartridge last (put (w .drive .tape) (w .drive .at) v)
-      cartridge-left {v} left = cartridge-put last (w .drive .tape) (w .drive .at) v (user-low last (w .drive .at) large here) (long-left left) (c .tape)
+      cartridge-left {v} left = cartridge-put last (w .drive .tape) (w .drive .at) v (user-within last (w .drive .at) large here) (long-left left) (c .tape)
 
       pub content-written : (v : Option (List ℕ)) → Written f v → Content last pass ps (withDrive w (wrote (w .drive) rest v) (w .flight)) (k + 1) (w .drive .at + 1)
       content-written v (conduct.reads read r) = record {

@@ -34,7 +34,8 @@ use Rattle.archive_lists.proofs.tape.Basics.{none-sent, answered-sent}
 use Rattle.archive_lists.proofs.tape.FoldLaws.{put-other}
 use Rattle.archive_lists.proofs.tape.Marks.{isFilemark, kind-marker}
 use Rattle.archive_lists.proofs.tape.Stands.{telling}
-use Rattle.archive_lists.proofs.recording.ContentMoves.{left-reads, user-low}
+use Rattle.archive_lists.proofs.tape.Closed.{user-within}
+use Rattle.archive_lists.proofs.recording.ContentMoves.{left-reads}
 use Rattle.archive_lists.proofs.recording.ElementSteps.{Step}
 use Rattle.archive_lists.proofs.recording.Trailing.{Prior, MarkerBelow, Marked, Place, on-tape, to-come, NumberAt, NumberBelow, Traces, Says, Frames, TapeTrails, Buffered, holds, halted, Trailing}
 use Rattle.archive_lists.proofs.recording.TrailingLaws.{below-moves, below-put, marked-map, traces-map, says-map, frames-map, place-map, frames-more, says-read, number-put, written-moves, tape-moves, keeps-put, tape-tried, tape-upto, number-written, place-written, buffered-as, traces-on}
@@ -116,7 +117,7 @@ trailing-closed {last} {pass} {d = d} {edge = edge} large x = record {
   prefix = x .prefix;
   marked = x .marked;
   trail = traces-map (λ j b m. marked-map (keeps j b) m) (x .trail);
-  written = λ j l m. let y = x .written j l m in written-moves y (omega (arith, user-low last (y .place) large (y .there .user))) refl;
+  written = λ j l m. let y = x .written j l m in written-moves y (omega (arith, user-within last (y .place) large (y .there .user))) refl;
   behind = λ s. never (cc);
   queue = λ s. never (cc);
   sent = λ _ _ s. never (cc);
@@ -124,7 +125,7 @@ trailing-closed {last} {pass} {d = d} {edge = edge} large x = record {
 }
   where
     keeps : (j b : ℕ) → MarkerBelow last pass edge (d .tape) j b → MarkerBelow last pass (last + 1) (d .tape) j b
-    keeps j b m = record { frame = m .frame; user = m .user; low = omega (arith, user-low last b large (m .user)); reads = m .reads; found = m .found }
+    keeps j b m = record { frame = m .frame; user = m .user; low = omega (arith, user-within last b large (m .user)); reads = m .reads; found = m .found }
 
 -- a WRITE was taken
 pub trailing-taken : {last pass : ℕ} {prior : Prior} {xs ys : List Element} {st : Stage} {e : Elements} {d : Drive} {k edge : ℕ} (a : Address) (f : List ℕ) (r : Reply) → st ≡ S.Elements → e .locate ≡ false → e .outstanding < e .pending → e .first .0 + e .outstanding ≡ k + length (d .buffer)
@@ -198,8 +199,8 @@ module _ {last pass : ℕ} {prior : Prior} {xs ys : List Element} {st : Stage} {
     behind = λ _ j a l h q. by j a l q (eq-or-lt-of-le (let z : j ≤ k = omega arith in z));
     queue = λ _.
         let one = ap length b in
-        holds (omega (arith, held .0, one)) (frames-map last pass xs _ _ (k + 1) rest (place-written xs (d .tape) (d .at) k read here (user-low last (d .at) large here) found) (head .1));
-    sent = λ a h s q. says-map (place-written xs (d .tape) (d .at) k read here (user-low last (d .at) large here) found) (x .sent a h s q);
+        holds (omega (arith, held .0, one)) (frames-map last pass xs _ _ (k + 1) rest (place-written xs (d .tape) (d .at) k read here (user-within last (d .at) large here) found) (head .1));
+    sent = λ a h s q. says-map (place-written xs (d .tape) (d .at) k read here (user-within last (d .at) large here) found) (x .sent a h s q);
     tape = λ s t. tape-upto (tape-so (some read) (as-new (some read) (conduct.reads read r)) s t);
   }
     where
@@ -210,10 +211,10 @@ module _ {last pass : ℕ} {prior : Prior} {xs ys : List Element} {st : Stage} {
       one-more j l (inr h) = keeps-written (some read) j l h
       one-more j l (inl z) =
           subst (NumberBelow last pass xs (d .at + 1) (put (d .tape) (d .at) (some read))) (sym z)
-          (record { place = d .at; low = omega arith; there = number-written xs (d .tape) (d .at) k read here (user-low last (d .at) large here) found (d .at) refl })
+          (record { place = d .at; low = omega arith; there = number-written xs (d .tape) (d .at) k read here (user-within last (d .at) large here) found (d .at) refl })
 
       by : (j a : ℕ) → e .first .0 ≤ j → a + (k + 1) ≡ d .at + 1 + j → (j ≡ k) ⊎ (j < k) → NumberAt last pass xs (put (d .tape) (d .at) (some read)) j a
-      by j a l q (inl z) = subst (λ (n : ℕ). NumberAt last pass xs (put (d .tape) (d .at) (some read)) n a) (sym z) (number-written xs (d .tape) (d .at) k read here (user-low last (d .at) large here) found a (omega arith))
+      by j a l q (inl z) = subst (λ (n : ℕ). NumberAt last pass xs (put (d .tape) (d .at) (some read)) n a) (sym z) (number-written xs (d .tape) (d .at) k read here (user-within last (d .at) large here) found a (omega arith))
       by j a l q (inr h) = stays (some read) j a l h (omega arith)
 
 -- ---- the trail over outstanding elements
@@ -224,7 +225,7 @@ module _ {last pass : ℕ} {prior : Prior} {xs ys : List Element} {st : Stage} {
   marker-behind i a h q tried m =
       let n = x .behind is (e .first .0 + i) a (omega arith) h q in (
         record {
-          inside = user-low last a large (n .user);
+          inside = user-within last a large (n .user);
           there = λ _. record {
             frame = n .frame;
             user = n .user;
@@ -233,7 +234,7 @@ module _ {last pass : ℕ} {prior : Prior} {xs ys : List Element} {st : Stage} {
             found = subst (λ (c : Kind). FoundAs (telling last pass 0) (record { 0 = e .first .0 + i }) c (n .frame)) (kind-marker xs (e .first .0 + i) m) (n .found);
           };
         },
-        omega (arith, user-low last a large (n .user)),
+        omega (arith, user-within last a large (n .user)),
       )
 
   -- n more are confirmed
