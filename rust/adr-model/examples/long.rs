@@ -1,5 +1,5 @@
-//! Runs random cartridges and chains of recordings for a while:
-//! `long SECONDS SEED`.
+//! Runs random cartridges and chains of recordings for a while, with the power
+//! cut at every frame and without: `long SECONDS SEED`.
 
 use std::process::ExitCode;
 

@@ -4,12 +4,16 @@ pub mod case;
 pub mod chain;
 pub mod content;
 pub mod counts;
+mod elsewhere;
 pub mod ending;
 pub mod guarded;
+pub mod history;
 pub mod layer;
 pub mod longer;
 mod opening;
 pub mod plain;
+mod plain_reading;
+pub mod power_cut;
 pub mod reading_back;
 pub mod recorder;
 mod replies;
@@ -30,6 +34,7 @@ use ending::{Ending, Endings};
 use layer::RecordingCalls;
 use opening::{Opened, Opening};
 use plain::Recorded;
+use power_cut::CUTS;
 use reading_back::ReadBack;
 use recorder::Recorder;
 
@@ -58,6 +63,8 @@ pub struct Tally {
     pub reached: [u64; 2],
     /// How those that keep a tail came to their end.
     pub endings: Endings,
+    /// How often each [`power_cut::Cut`] came about.
+    pub cuts: [u64; CUTS],
     /// How often the drive did each [`crate::drive::Deed`].
     pub deeds: [u64; DEEDS],
 }
@@ -74,6 +81,7 @@ impl Tally {
         add_each(&mut self.refused, &other.refused);
         add_each(&mut self.reached, &other.reached);
         add_each(&mut self.endings.0, &other.endings.0);
+        add_each(&mut self.cuts, &other.cuts);
         add_each(&mut self.deeds, &other.deeds);
     }
 }
@@ -178,21 +186,41 @@ struct Ran<R> {
     end: Option<ReadBack<R>>,
 }
 
+/// A cartridge between two recordings.
+struct Left<R> {
+    tape: Tape,
+    /// The reading that the next recording is added at the end of.
+    end: Option<ReadBack<R>>,
+}
+
 fn run_to_end<L: Layer>(
+    case: &Case,
+    turns: Turns,
+    host: &Host<L>,
+) -> Result<Ran<L::Reading>, String> {
+    let last = case.geometry.last().ok_or("a geometry without frames")?;
+    let left = Left {
+        tape: case.cartridge(last),
+        end: None,
+    };
+    run_from(left, case, turns, host)
+}
+
+/// Runs a case on this cartridge.
+fn run_from<L: Layer>(
+    mut left: Left<L::Reading>,
     case: &Case,
     turns: Turns,
     host: &Host<L>,
 ) -> Result<Ran<L::Reading>, String> {
     let mut tally = Tally::default();
     let last = case.geometry.last().ok_or("a geometry without frames")?;
-    let mut tape = case.cartridge(last);
     let mut seed = case.seed;
-    let mut end = None;
     for (turn, calls) in case.recordings.iter().enumerate() {
         seed = seed.wrapping_add(1);
-        let opening = match end.take() {
+        let opening = match left.end.take() {
             Some(back) => Opening::AtEnd(back),
-            None => Opening::fresh(&mut tape, last),
+            None => Opening::fresh(&mut left.tape, last),
         };
         let setup = turns.setup(case, turn);
         let before = Before {
@@ -206,29 +234,55 @@ fn run_to_end<L: Layer>(
             astray: false,
             calls,
         };
-        let drive = drive_with(tape, case, seed);
-        let place = |wrong| format!("recording {turn}: {wrong}");
-        let (mut drive, recorded) = (host.record)(&before, drive, &mut tally).map_err(place)?;
-        tally.recordings += 1;
-        if recorded.done {
-            let every_copy = turns.adds();
-            let back =
-                reading_back::read_back::<L>(case, last, &mut drive, &recorded, seed, every_copy);
-            let back =
-                back.and_then(|back| finished(before, &recorded, back, &drive, host, &mut tally));
-            end = Some(back.map_err(place)?).filter(|_| turns.adds());
-        }
-        add_each(&mut tally.deeds, &drive.log().deeds);
-        tape = drive.eject();
+        let how = (turns.adds(), seed);
+        left = run_turn(before, left.tape, how, host, &mut tally)
+            .map_err(|wrong| format!("recording {turn}: {wrong}"))?;
     }
+    let end = left.end;
     Ok(Ran { tally, end })
+}
+
+/// Makes a recording, cuts the power at its frames if that is wanted, and reads
+/// it back if it reported done.
+fn run_turn<L: Layer>(
+    before: Before<L>,
+    tape: Tape,
+    (adds, seed): (bool, u64),
+    host: &Host<L>,
+    tally: &mut Tally,
+) -> Result<Left<L::Reading>, String> {
+    let (case, last) = (before.case, before.last);
+    let found = case.cuts.then(|| tape.clone());
+    let drive = drive_with(tape, case, seed);
+    let (mut drive, recorded) = (host.record)(&before, drive, tally)?;
+    tally.recordings += 1;
+    if let Some(found) = found {
+        let cuts = &mut tally.cuts;
+        if let Some(left) = power_cut::look(&before, &found, &recorded, (adds, seed), cuts)? {
+            add_each(&mut tally.deeds, &drive.log().deeds);
+            return Ok(left);
+        }
+    }
+    let mut end = None;
+    if recorded.done {
+        let back = reading_back::read_back::<L>(case, last, &mut drive, &recorded, seed, adds)?;
+        let back = finished(before, &recorded, back, &drive, host, tally)?;
+        end = Some(back).filter(|_| adds);
+    }
+    add_each(&mut tally.deeds, &drive.log().deeds);
+    let tape = drive.eject();
+    Ok(Left { tape, end })
 }
 
 fn drive_with(tape: Tape, case: &Case, seed: u64) -> Drive {
     // It has room for one more than it tells, which no sound session sends.
     let depth = case.depth.saturating_add(1);
     let depth = usize::try_from(depth).unwrap_or(usize::MAX);
-    Drive::new(tape, depth, case.hostility, seed)
+    let mut drive = Drive::new(tape, depth, case.hostility, seed);
+    if case.cuts {
+        drive.keep_acts();
+    }
+    drive
 }
 
 /// Counts a recording that was read back.
@@ -338,7 +392,9 @@ fn record<L: Layer>(
     drive: Drive,
     tally: &mut Tally,
 ) -> Result<(Drive, Recorded), String> {
-    let recorder = recorded_on(before, drive)?;
+    let mut recorder = recorded_on(before, drive)?;
+    let accepted = recorder.accepted.len();
+    recorder.history.note_held(&recorder.drive, accepted);
     let written = &recorder.drive.log().written;
     tally.crossed += u64::from(written.iter().any(|address| address.0 >= 3_000));
     match recorder.refused {
@@ -356,6 +412,7 @@ fn record<L: Layer>(
         accepted: recorder.accepted,
         done: recorder.done,
         kept: recorder.kept,
+        history: recorder.history,
     };
     let mut drive = recorder.drive;
     if !recorded.done {

@@ -69,6 +69,17 @@ impl Log {
     }
 }
 
+/// A frame that a drive went to write.
+#[derive(Clone, Debug, PartialEq, Eq)]
+pub struct Act {
+    /// Where.
+    pub address: Address,
+    /// The frame.
+    pub frame: Shared,
+    /// What the address read as behind it.
+    pub reads: Option<Shared>,
+}
+
 /// The drive, over a tape in memory or other storage.
 #[derive(Clone, Debug, PartialEq, Eq)]
 pub struct Drive<S = Tape> {
@@ -82,6 +93,8 @@ pub struct Drive<S = Tape> {
     /// Whether the oldest buffered frame failed.
     failed: bool,
     log: Log,
+    /// What was written and not asked for yet, if it is kept.
+    acts: Option<Vec<Act>>,
 }
 
 impl<S: Storage> Drive<S> {
@@ -104,7 +117,24 @@ impl<S: Storage> Drive<S> {
             failed: !buffer.is_empty(),
             buffer,
             log: Log::default(),
+            acts: None,
         }
+    }
+
+    /// Keeps every frame that it goes to write from now on.
+    pub fn keep_acts(&mut self) {
+        self.acts = Some(Vec::new());
+    }
+
+    /// Whether it does.
+    #[must_use]
+    pub fn keeps_acts(&self) -> bool {
+        self.acts.is_some()
+    }
+
+    /// The frames kept since the last time, in order.
+    pub fn take_acts(&mut self) -> Vec<Act> {
+        self.acts.as_mut().map(std::mem::take).unwrap_or_default()
     }
 
     /// The cartridge.
@@ -289,24 +319,46 @@ impl<S: Storage> Drive<S> {
             let Some(frame) = self.buffer.front().cloned() else {
                 return;
             };
-            self.log.written.push(self.front);
-            if self.fails() {
-                self.failed = true;
-                if self.random.chance(self.hostility.reads_new) {
-                    self.log.note(Deed::FailedAsNew);
-                    self.tape.store(self.front, frame);
-                } else if self.random.chance(self.hostility.reads_nothing) {
-                    self.log.note(Deed::FailedAsNothing);
-                    self.tape.spoil(self.front);
-                } else {
-                    self.log.note(Deed::FailedAsBefore);
-                }
-                self.tape.failed(self.front);
+            self.write(frame);
+        }
+    }
+
+    /// Writes what it holds up to a failure, as it may when the host says
+    /// nothing more.
+    pub fn write_held(&mut self) {
+        while let Some(frame) = self.buffer.front().filter(|_| !self.failed).cloned() {
+            self.write(frame);
+        }
+    }
+
+    /// Writes the oldest buffered frame, which is this one.
+    fn write(&mut self, frame: Shared) {
+        let address = self.front;
+        self.log.written.push(address);
+        if self.fails() {
+            self.failed = true;
+            if self.random.chance(self.hostility.reads_new) {
+                self.log.note(Deed::FailedAsNew);
+                self.tape.store(address, frame.clone());
+            } else if self.random.chance(self.hostility.reads_nothing) {
+                self.log.note(Deed::FailedAsNothing);
+                self.tape.spoil(address);
             } else {
-                self.tape.store(self.front, frame);
-                self.buffer.pop_front();
-                self.front = self.front.plus(1);
+                self.log.note(Deed::FailedAsBefore);
             }
+            self.tape.failed(address);
+        } else {
+            self.tape.store(address, frame.clone());
+            self.buffer.pop_front();
+            self.front = address.plus(1);
+        }
+        if let Some(acts) = &mut self.acts {
+            let reads = self.tape.frame(address);
+            acts.push(Act {
+                address,
+                frame,
+                reads,
+            });
         }
     }
 

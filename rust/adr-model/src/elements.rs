@@ -313,7 +313,13 @@ impl Elements {
                     self.confirm(self.outstanding);
                 }
             }
-            (Command::Write(_), Meaning::Good) => self.take(),
+            (Command::Write(_), Meaning::Good) => {
+                let early = self.fault == Fault::ClosedBeforeEod && self.due() == Some(Kind::Eod);
+                self.take();
+                if early {
+                    self.confirm(self.outstanding);
+                }
+            }
             (Command::Write(address), Meaning::EarlyEnd) => self.end = address.minus(1),
             (Command::ReadPosition, Meaning::Good) => {
                 let buffered = usize::try_from(reply.buffered).map_err(|_| 8)?;

@@ -64,6 +64,17 @@ pub enum Fault {
     /// A reading ends one below the expected number without a look at the
     /// other fields.
     ForeignOneBelowTaken,
+    /// The opening headers of what is added go on naming the old EOD, and no
+    /// old end.
+    OldEodNamed,
+    /// The closing headers are begun when the drive took EOD, be it on tape or
+    /// not.
+    ClosedBeforeEod,
+    /// Elements follow the opening headers that the drive took, be one on tape
+    /// or not.
+    ElementsBeforeHeaders,
+    /// The opening headers of a recording of its own keep the update count.
+    FreshCountNotRaised,
 }
 
 /// The faults that recordings of their own show.
@@ -107,3 +118,15 @@ pub const PLANTED_IN_TAIL: [Fault; 6] = [
 /// The faults in where a reading ends that no recording brings to light: they
 /// need frames of another making.
 pub const PLANTED_IN_ENDING: [Fault; 2] = [Fault::TwoBelowTaken, Fault::ForeignOneBelowTaken];
+
+/// The faults that a power cut brings to light. Without one, a look at every
+/// frame and command sent shows each; what a recording that reported done reads
+/// back as shows [`Fault::ClosedBeforeEod`] and no other. At a cut, that one and
+/// [`Fault::OldEodNamed`] show by a header that names an EOD which is no end, for
+/// no element is lost; the others by what is lost.
+pub const PLANTED_IN_CUTS: [Fault; 4] = [
+    Fault::OldEodNamed,
+    Fault::ClosedBeforeEod,
+    Fault::ElementsBeforeHeaders,
+    Fault::FreshCountNotRaised,
+];

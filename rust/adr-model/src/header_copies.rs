@@ -28,6 +28,8 @@ pub struct HeaderCopies {
     outstanding: usize,
     good: usize,
     located: bool,
+    /// Copies that the drive took count as good: a planted fault.
+    unawaited: bool,
 }
 
 impl HeaderCopies {
@@ -41,7 +43,13 @@ impl HeaderCopies {
             outstanding: 0,
             good: 0,
             located: false,
+            unawaited: false,
         }
+    }
+
+    /// Plants a fault: the walk goes on without waiting for copies taken.
+    pub fn plant_unawaited(&mut self) {
+        self.unawaited = true;
     }
 
     /// Where the walk stands.
@@ -113,9 +121,10 @@ impl HeaderCopies {
     }
 
     fn go_on(&mut self) -> Walk {
-        if self.copy < COPIES || self.outstanding > 0 {
+        if self.copy < COPIES || self.outstanding > 0 && !self.unawaited {
             return Walk::Goes;
         }
+        self.good += std::mem::take(&mut self.outstanding);
         self.group += 1;
         self.copy = 0;
         self.located = false;

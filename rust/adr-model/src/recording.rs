@@ -179,13 +179,25 @@ impl Recording {
         self.fault = fault;
         self.elements.plant(fault);
         let added = self.opening.old_end != Address(0);
-        if added && fault == Fault::CountNotRaised {
+        let not_raised = if added {
+            Fault::CountNotRaised
+        } else {
+            Fault::FreshCountNotRaised
+        };
+        if fault == not_raised {
             self.opening.update_count = self.opening.update_count.saturating_sub(1);
         }
-        if fault == Fault::OldEndNotNamed {
+        if fault == Fault::OldEodNamed {
+            self.opening.eod = self.opening.old_end;
+        }
+        if let Fault::OldEndNotNamed | Fault::OldEodNamed = fault {
             self.opening.old_end = Address(0);
         }
-        self.stage = Stage::OpeningHeaders(self.copies());
+        let mut copies = self.copies();
+        if fault == Fault::ElementsBeforeHeaders {
+            copies.plant_unawaited();
+        }
+        self.stage = Stage::OpeningHeaders(copies);
     }
 
     /// A walk over the header copies, not begun.

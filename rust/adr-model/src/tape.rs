@@ -57,6 +57,17 @@ impl Storage for Tape {
     }
 }
 
+/// A valid header on tape.
+#[derive(Clone, Debug, PartialEq, Eq)]
+pub struct HeaderCopy {
+    /// Where it stands.
+    pub at: Address,
+    /// Its frame.
+    pub frame: Shared,
+    /// What it says.
+    pub fields: HeaderFields,
+}
+
 /// A sparse tape: an address without a frame reads as nothing.
 #[derive(Clone, Debug, Default, PartialEq, Eq)]
 pub struct Tape {
@@ -73,6 +84,24 @@ impl Tape {
     /// Every address that reads as a frame, with the frame.
     pub fn frames(&self) -> impl Iterator<Item = (Address, &Shared)> {
         self.frames.iter().map(|(address, frame)| (*address, frame))
+    }
+
+    /// The same from one address on and below another.
+    pub fn frames_between(
+        &self,
+        from: Address,
+        below: Address,
+    ) -> impl Iterator<Item = (Address, &Shared)> {
+        let within = self.frames.range(from..below.max(from));
+        within.map(|(address, frame)| (*address, frame))
+    }
+
+    /// Makes an address read as this.
+    pub fn put(&mut self, address: Address, reads: Option<Shared>) {
+        match reads {
+            Some(frame) => self.write(address, frame),
+            None => self.spoil(address),
+        }
     }
 
     /// Writes a frame.
@@ -106,15 +135,26 @@ impl Tape {
     /// Every newest header.
     #[must_use]
     pub fn newest_headers(&self, last: Address) -> Vec<(Shared, HeaderFields)> {
-        let mut valid: Vec<(Shared, HeaderFields)> = HEADER_GROUPS
-            .iter()
-            .flatten()
-            .filter_map(|address| self.read(*address))
-            .filter_map(|frame| fields_of(frame, last).map(|fields| (frame.clone(), fields)))
-            .collect();
-        let highest = valid.iter().map(|(_, fields)| fields.update_count).max();
-        valid.retain(|(_, fields)| Some(fields.update_count) == highest);
+        let valid = self.headers(last);
+        let highest = valid.iter().map(|copy| copy.fields.update_count).max();
         valid
+            .into_iter()
+            .filter(|copy| Some(copy.fields.update_count) == highest)
+            .map(|copy| (copy.frame, copy.fields))
+            .collect()
+    }
+
+    /// Every valid header at the header groups.
+    #[must_use]
+    pub fn headers(&self, last: Address) -> Vec<HeaderCopy> {
+        let addresses = HEADER_GROUPS.iter().flatten().copied();
+        let copies = addresses.filter_map(|at| {
+            let frame = self.read(at)?;
+            let fields = fields_of(frame, last)?;
+            let frame = frame.clone();
+            Some(HeaderCopy { at, frame, fields })
+        });
+        copies.collect()
     }
 
     /// Makes every user frame that bears `pass` read as nothing.

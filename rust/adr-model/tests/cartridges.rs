@@ -46,6 +46,7 @@ fn long_case(elements: u16) -> Case {
         depth: 1,
         setup: Setup::of(8, 0),
         gives_up: true,
+        cuts: false,
         stale: 0,
         headers: 0,
         hostility: Hostility {

@@ -99,6 +99,41 @@ fn writing() {
     assert!(failures > 50, "{failures}");
 }
 
+/// What is kept of the frames written makes one tape of the other, each address
+/// reading as before, as the frame or as nothing; and a drive that is left alone
+/// writes all that it holds, or fails.
+#[test]
+fn the_frames_kept() {
+    let mut alone = 0;
+    for seed in 0..150 {
+        let case = Case::of_seed(seed, Fault::None);
+        let mut drive = Drive::new(case.cartridge(LAST), 6, case.hostility, seed);
+        let mut tape = drive.tape().clone();
+        drive.keep_acts();
+        let frame = [7; FRAME_LENGTH];
+        drive.record(Command::Locate(Address(10)), &frame);
+        for turn in 0..20 {
+            drive.record(Command::Write(drive.next()), &[turn; FRAME_LENGTH]);
+        }
+        let written = drive.log().written.len();
+        drive.write_held();
+        alone += drive.log().written.len() - written;
+        let acts = drive.take_acts();
+        assert_eq!(drive.take_acts(), []);
+        let addresses = acts.iter().map(|act| act.address);
+        assert!(addresses.eq(drive.log().written.iter().copied()));
+        for act in acts {
+            let new = act.reads.as_ref() == Some(&act.frame);
+            assert!(new || act.reads.is_none() || act.reads.as_ref() == tape.read(act.address));
+            tape.put(act.address, act.reads);
+        }
+        assert_eq!(&tape, drive.tape());
+        let failed = drive.log().deeds[..3].iter().sum::<u64>() > 0;
+        assert!(drive.buffered() == 0 || failed || case.hostility.stopped);
+    }
+    assert!(alone > 50, "{alone}");
+}
+
 /// A reply to a READ of `next` is true of the tape; its place in a count.
 fn true_of(tape: &Tape, next: Address, meaning: Meaning, frame: &[u8; FRAME_LENGTH]) -> usize {
     let blank_to = |end: u32| (next.0..end).all(|at| tape.read(Address(at)).is_none());

@@ -81,6 +81,7 @@ fn filling_case(depth: u32, window_blocks: u32, elements: u16) -> Case {
         depth,
         setup: Setup::of(window_blocks, 0),
         gives_up: true,
+        cuts: false,
         stale: 3,
         headers: 3,
         hostility: Hostility {

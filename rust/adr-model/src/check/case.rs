@@ -91,6 +91,8 @@ pub struct Case {
     pub setup: Setup,
     /// Whether the host closes a session that is spent.
     pub gives_up: bool,
+    /// Whether the power is cut at every frame.
+    pub cuts: bool,
     /// Frames of earlier passes and strangers on the cartridge.
     pub stale: u32,
     /// Header copies on the cartridge, some of them damaged.
@@ -181,6 +183,7 @@ impl Case {
             depth,
             setup: Setup::of(window_blocks, 0),
             gives_up: true,
+            cuts: false,
             stale: if random.chance(600) {
                 random.below(24)
             } else {
@@ -213,6 +216,12 @@ impl Case {
         }
         case.gives_up = random.chance(900);
         case
+    }
+
+    /// The same with the power cut at every frame.
+    #[must_use]
+    pub fn with_cuts(self) -> Case {
+        Case { cuts: true, ..self }
     }
 
     /// Makes the first frames that are written stand about where elements end,

@@ -1,10 +1,12 @@
 //! Recordings of one pass, each added at the end of the one before.
 
 use super::case::{calls_of_length, tail, Call, Case, Setup};
+use super::elsewhere::Elsewhere;
 use super::layer::{Layer, Model};
+use super::reading_back::{due_of, read};
 use super::{
-    drive_with, record_plainly, recorded_on, run_to_end, run_with, Before, Host, Opening, Tally,
-    Turns, PLAIN,
+    drive_with, record_plainly, recorded_on, run_from, run_to_end, run_with, Before, Host, Left,
+    Opening, Tally, Turns, PLAIN,
 };
 use crate::fault::Fault;
 use crate::random::Random;
@@ -47,6 +49,15 @@ impl Chain {
             }
         }
         chain
+    }
+
+    /// The same with the power cut at every frame.
+    #[must_use]
+    pub fn with_cuts(self) -> Chain {
+        Chain {
+            case: self.case.with_cuts(),
+            ..self
+        }
     }
 
     fn of_case(mut case: Case) -> Chain {
@@ -134,6 +145,32 @@ pub fn run_chain_demand_and_tape(chain: &Chain) -> Result<Tally, String> {
         ..PLAIN
     };
     run_with(&chain.case, Turns::Added(&chain.setups), &host)
+}
+
+/// Runs a chain whose first recording is added to what another program closed.
+/// What stands on tape besides what is delivered is not looked at.
+///
+/// # Errors
+/// What was found wrong.
+pub fn run_behind_others_on<L: Layer>(chain: &Chain) -> Result<Tally, String> {
+    let (case, turns) = (&chain.case, Turns::Added(&chain.setups));
+    let last = case.geometry.last().ok_or("a geometry without frames")?;
+    let others = Elsewhere::of_seed(case.seed, last);
+    let mut drive = drive_with(others.tape, case, case.seed);
+    let due = due_of(&others.elements);
+    let back = read::<L::Reading>(case, &others.newest, &mut drive, &due, case.seed)?;
+    if back.end != Some(back.header.eod) || back.elements != others.elements {
+        return Err("what others closed is not read as they recorded it".into());
+    }
+    let left = Left {
+        tape: drive.eject(),
+        end: Some(back),
+    };
+    let host = Host {
+        closely: false,
+        ..Host::<L>::EXACT
+    };
+    run_from(left, case, turns, &host).map(|ran| ran.tally)
 }
 
 /// Runs a chain, and then adds to another cartridge of the same geometry than

@@ -10,7 +10,7 @@ use crate::geometry::{Address, FIRST_USER};
 use crate::tape::{Shared, Tape};
 
 /// The highest update count that a recording opens on.
-const HIGHEST_COUNT: u32 = 4_294_967_293;
+pub(super) const HIGHEST_COUNT: u32 = 4_294_967_293;
 
 /// How a recording is opened.
 #[derive(Clone, Debug)]
@@ -31,6 +31,14 @@ impl<R> Opening<R> {
             .map_or(1, |(_, old)| old.pass.wrapping_add(1));
         tape.erase_pass(pass, last);
         Opening::Fresh(newest)
+    }
+
+    /// The header that it is opened on, and what that says.
+    pub(super) fn newest(&self) -> Option<(&Shared, &HeaderFields)> {
+        match self {
+            Opening::Fresh(newest) => newest.as_ref().map(|(frame, fields)| (frame, fields)),
+            Opening::AtEnd(back) => Some((&back.opened_on, &back.header)),
+        }
     }
 
     /// The elements before this recording.

@@ -3,6 +3,7 @@
 //! look at the frames sent besides.
 
 use super::content::{block, Element};
+use super::history::History;
 use super::opening::{self, Opened};
 use super::trail::Followed;
 use super::{Before, Call, Model};
@@ -24,6 +25,8 @@ pub struct Recorded {
     pub done: bool,
     /// The elements on tape, those before too, when the others were given up.
     pub kept: Option<usize>,
+    /// What the drive wrote, if it keeps that.
+    pub history: History,
 }
 
 impl Recorded {
@@ -78,8 +81,7 @@ pub(super) fn record(
         awaited: None,
         recorded: Recorded {
             accepted: before.opening.elements().to_vec(),
-            done: false,
-            kept: None,
+            ..Recorded::default()
         },
         ended: outcome != Outcome::Accepted,
         followed: frames.then(|| Followed::of(&Opened::of(before))),
@@ -97,7 +99,9 @@ pub(super) fn record(
     if let Some(wrong) = host.wrong {
         return Err(wrong);
     }
-    let recorded = host.recorded;
+    let mut recorded = host.recorded;
+    let accepted = recorded.accepted.len();
+    recorded.history.note_held(drive, accepted);
     let mut written = drive.log().written.iter();
     match written.find(|address| !address.is_header_copy() && !address.is_user_frame(before.last)) {
         Some(address) => Err(format!("{address:?} was written")),
@@ -166,6 +170,8 @@ impl Host<'_> {
                     self.look_at_frame(address);
                 }
                 self.awaited = Some(self.drive.record(command, &self.frame));
+                let accepted = self.recorded.accepted.len();
+                self.recorded.history.note(self.drive, accepted);
             }
             Answer::Done => self.recorded.done = true,
             Answer::Refused(number) => self.ended = self.ended || number > 7,

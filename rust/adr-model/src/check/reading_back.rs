@@ -13,16 +13,38 @@ use crate::geometry::{Address, FRAME_LENGTH, HEADER_GROUPS};
 use crate::header::check;
 use crate::random::Random;
 use crate::reply::{Meaning, Reply, GOOD};
+use crate::tape::Shared;
 
+/// The frames for which a reading takes in no reply, busy ones aside: headers
+/// and defect maps are twenty, but 10 and 3,000 are located besides.
+const NOT_REPLIED: u32 = 20 - 2;
 /// The LAST up to which a cartridge without an end is read.
-const FAR: u32 = 20_000;
+pub(super) const FAR: u32 = 20_000;
+
+/// Tells which element a delivery is, by its number, its kind and its frame; none
+/// if it is not due.
+pub(super) type Due<'a> = &'a dyn Fn(usize, ReadOutcome, &Frame) -> Option<Element>;
+
+/// The deliveries of what was accepted.
+pub(super) fn due_of(
+    accepted: &[Element],
+) -> impl Fn(usize, ReadOutcome, &Frame) -> Option<Element> + '_ {
+    |number, outcome, frame| {
+        let element = accepted.get(number);
+        element
+            .filter(|due| is_delivered(outcome, frame, due))
+            .copied()
+    }
+}
 
 /// What a reading came to.
 #[derive(Clone, Debug, PartialEq, Eq)]
 pub struct ReadBack<R> {
     /// The session.
     pub session: R,
-    /// What the header read says.
+    /// The header that it was opened on.
+    pub opened_on: Shared,
+    /// What that says.
     pub header: HeaderFields,
     /// What was delivered.
     pub elements: Vec<Element>,
@@ -85,7 +107,8 @@ pub fn read_back<L: Layer>(
             return Err("the newest header is not closed".into());
         }
         choice_agrees::<L>(case, drive, fields)?;
-        let back = read::<L::Reading>(case, header, drive, &recorded.accepted, seed)?;
+        let due = due_of(&recorded.accepted);
+        let back = read::<L::Reading>(case, header, drive, &due, seed)?;
         if back.end.is_none() || !recorded.may_read(back.elements.len()) {
             return Err(back.told());
         }
@@ -140,7 +163,8 @@ pub fn read_unfinished<L: Layer>(
     let Some((header, _)) = newest.filter(|(_, fields)| fields.pass == pass) else {
         return Ok(());
     };
-    let back = read::<L::Reading>(case, &header, drive, &recorded.accepted, seed)?;
+    let due = due_of(&recorded.accepted);
+    let back = read::<L::Reading>(case, &header, drive, &due, seed)?;
     let delivered = back.elements.len();
     let ends = recorded.may_read(delivered) || Some(delivered) == closed;
     if back.refused != Some(12) && (back.end.is_none() || !ends) {
@@ -149,15 +173,19 @@ pub fn read_unfinished<L: Layer>(
     opening::is_answered::<L>(&back)
 }
 
-fn read<S: ReadingCalls>(
+/// Reads a cartridge on a header; each delivery must be due.
+///
+/// # Errors
+/// What was found wrong.
+pub(super) fn read<S: ReadingCalls>(
     case: &Case,
-    header: &Frame,
+    opened_on: &Shared,
     drive: &mut Drive,
-    accepted: &[Element],
+    due: Due,
     seed: u64,
 ) -> Result<ReadBack<S>, String> {
-    let (mut session, outcome) = S::open(&case.geometry, header.as_slice());
-    let opened = check(&case.geometry, header.as_slice());
+    let (mut session, outcome) = S::open(&case.geometry, opened_on.as_slice());
+    let opened = check(&case.geometry, opened_on.as_slice());
     let (Outcome::Accepted, Ok(header)) = (outcome, opened) else {
         return Err(format!("the reading opened with {outcome:?}"));
     };
@@ -165,6 +193,7 @@ fn read<S: ReadingCalls>(
     let mut lent = Lent::new();
     let back = ReadBack {
         session,
+        opened_on: opened_on.clone(),
         header,
         elements: Vec::new(),
         places: Vec::new(),
@@ -174,7 +203,7 @@ fn read<S: ReadingCalls>(
         promised: 0,
         given_up: false,
     };
-    let back = read_with(back, &mut lent, case, drive, accepted, seed)?;
+    let back = read_with(back, &mut lent, case, drive, due, seed)?;
     lent.is_unaltered()?;
     back.session.wrong().map_or(Ok(back), Err)
 }
@@ -224,13 +253,12 @@ fn read_with<S: ReadingCalls>(
     lent: &mut Lent,
     case: &Case,
     drive: &mut Drive,
-    accepted: &[Element],
+    due: Due,
     seed: u64,
 ) -> Result<ReadBack<S>, String> {
     let mut random = Random::new(seed ^ 0x4EAD);
     let session = &mut back.session;
-    // Each address is read once at most, and located before that.
-    let mut bound = 2 * u64::from(case.geometry.frames()) + 2;
+    let mut bound = case.geometry.frames().saturating_sub(NOT_REPLIED);
     loop {
         let command = match fetched(session, drive, &mut random)? {
             Ok(command) => command,
@@ -259,12 +287,11 @@ fn read_with<S: ReadingCalls>(
                 return Ok(back);
             }
             outcome => {
-                let element = accepted.get(back.elements.len());
-                let Some(element) = element.filter(|due| is_delivered(outcome, &lent.held, due))
-                else {
-                    return Err(format!("{outcome:?} where {element:?} was due"));
+                let number = back.elements.len();
+                let Some(element) = due(number, outcome, &lent.held) else {
+                    return Err(format!("{outcome:?} for delivery {number} at {place:?}"));
                 };
-                back.elements.push(*element);
+                back.elements.push(element);
                 back.places.push(place);
             }
         }

@@ -7,6 +7,7 @@ use super::content::{block, Element};
 use super::counts::Counts;
 use super::ending::{Ending, Endings};
 use super::guarded::Guarded;
+use super::history::History;
 use super::layer::RecordingCalls;
 use super::opening::Opened;
 use super::replies::UNTOUCHED;
@@ -34,6 +35,8 @@ pub struct Recorder<R> {
     pub endings: Endings,
     /// What the drive answered, counted.
     pub counts: Counts,
+    /// What the drive wrote, if it keeps that.
+    pub history: History,
     pub(super) session: R,
     /// What the opening headers must say.
     pub(super) opening: HeaderFields,
@@ -105,6 +108,7 @@ impl<R: RecordingCalls> Recorder<R> {
             kept: None,
             endings: Endings::default(),
             counts,
+            history: History::default(),
             session,
             opening: opened.header,
             first: Some(opened.first),

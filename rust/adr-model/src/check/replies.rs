@@ -117,6 +117,7 @@ impl<R: RecordingCalls> Recorder<R> {
             Command::Read(_) => return Err("READ in a recording".into()),
         }
         let reply = self.drive.record(command, whole(&self.frame)?);
+        self.history.note(&mut self.drive, self.accepted.len());
         if let Command::Write(_) = command {
             self.frame.copy_from_slice(&UNTOUCHED);
         }

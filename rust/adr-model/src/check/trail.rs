@@ -155,7 +155,7 @@ fn is_marker(frame: &Frame, header: &HeaderFields, number: usize) -> bool {
 }
 
 /// Whether a frame of this kind is that of an element, or else EOD.
-fn is_of_element(frame: &Frame, kind: Kind, element: Option<&Element>) -> bool {
+pub(super) fn is_of_element(frame: &Frame, kind: Kind, element: Option<&Element>) -> bool {
     match element {
         Some(Element::Block(number)) => kind == Kind::Data && data_of(frame) == block(*number),
         Some(Element::Filemark) => kind == Kind::Marker,

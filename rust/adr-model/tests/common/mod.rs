@@ -1,6 +1,7 @@
 //! Helpers of the tests: sessions driven by hand.
 #![allow(dead_code)]
 
+pub mod bench;
 pub mod cartridge;
 
 use adr_model::frame::{fill_header, Frame, HeaderFields};
@@ -205,6 +206,17 @@ impl Host {
     #[track_caller]
     pub fn filemark(&mut self) {
         assert_eq!(self.session.accept_filemark(), ACCEPTED);
+    }
+
+    /// Accepts these, F for a filemark.
+    #[track_caller]
+    pub fn accept(&mut self, elements: &[u8]) {
+        for element in elements {
+            match element {
+                b'F' => self.filemark(),
+                byte => self.block(*byte),
+            }
+        }
     }
 
     #[track_caller]
