@@ -17,7 +17,6 @@ use Rattle.reading_state.specs.Open as reading
 use Rattle.reading_state.specs.Open.{toldOf}
 use Rattle.archive_lists.specs.Tape.{Tape, SameFrames}
 use Rattle.archive_lists.specs.Headers.{HeaderAt}
-use Rattle.archive_lists.specs.Recordings as recordings
 use Rattle.archive_lists.specs.Readings as readings
 use Rattle.archive_lists.specs.Openings.{on-header, on-none}
 use Rattle.archive_lists.specs.Fold.{foldOf, Standing, goes-on, at-end, stops, finds-no-end, IsFold, ReadingIsFold}
@@ -26,7 +25,7 @@ use Rattle.archive_lists.proofs.recording.Trailing.{Prior, priorOf}
 use Rattle.archive_lists.proofs.recording.Start.{renewed-count}
 use Rattle.archive_lists.proofs.recording.Completion.{opens-at}
 use Rattle.archive_lists.proofs.Fold.{reading-is-fold}
-use Rattle.archive_cuts.specs.Cuts.{Throughout}
+use Rattle.archive_cuts.proofs.Throughout.{throughout-as}
 use Rattle.archive_cuts.proofs.HeldCopies.{at-rest}
 use Rattle.archive_cuts.proofs.Untouched.{NoneOwn, Unchanged, unchanged}
 use Rattle.archive.specs.Chain.{Start, fresh, added, earlierOf, OnItsNewest, AsItStands, NoneInTheWay}
@@ -43,8 +42,8 @@ module _ (told : Told) (t u : Tape) (alike : (a : ℕ) → foldOf told t a ≡ f
   standing-alike (stops n m d) = stops n m (sym (alike (told .last .0 + 1)) ∙ d)
   standing-alike (finds-no-end n m d) = finds-no-end n m (sym (alike (told .last .0 + 1)) ∙ d)
 
-  fold-alike : {w : readings.World} → IsFold told t w → IsFold told u w
-  fold-alike x = record { standing = standing-alike (x .standing); faithful = λ xs e all. x .faithful xs e (alike (told .last .0 + 1) ∙ all) }
+  is-fold-alike : {w : readings.World} → IsFold told t w → IsFold told u w
+  is-fold-alike x = record { standing = standing-alike (x .standing); faithful = λ xs e all. x .faithful xs e (alike (told .last .0 + 1) ∙ all) }
 
 -- ---- a header that is not newer counts less than the session's own
 
@@ -60,11 +59,6 @@ none-own g last seg trk e s (fresh depth blocks tail (on-header h0) q) t none = 
 none-own g last seg trk e s (fresh depth blocks tail on-none q) t none = λ a h at. absurd (none a h at tt)
 none-own g last seg trk e s (added depth blocks tail u h0 r read q) t none = counts-less last h0 (s .copies .header .update) t (added-counts g last seg trk e s depth blocks tail u h0 r read q) (λ a h at newer. none a h at (omega arith))
 
-throughout-as : (P Q : Tape → Type 0) → ((t : Tape) → P t → Q t) → {w v : recordings.World} {calls : List recordings.Call} (r : recordings.Runs w calls v) → Throughout P r → Throughout Q r
-throughout-as P Q f {w} recordings.stop h = f (w .drive .tape) h
-throughout-as P Q f {w} (recordings.call c rest) h = (f (w .drive .tape) (h .0), throughout-as P Q f rest (h .1))
-throughout-as P Q f {w} (recordings.drive m rest) h = (f (w .drive .tape) (h .0), throughout-as P Q f rest (h .1))
-
 -- ---- the whole
 
 pub before-first-copy : BeforeFirstCopy
@@ -77,7 +71,7 @@ before-first-copy g last d s b window calls w seg trk e cart unwritten rest runs
   opens = opens;
   reads = λ a h at from read r runs2.
       let users = subst (λ (n : ℕ). SameFrames n (d .tape) (w .drive .tape)) (sym (valid-last last h (at .valid))) (y .users) in
-      fold-alike (toldOf (headerOf h)) (w .drive .tape) (d .tape) (λ n. sym (fold-users (toldOf (headerOf h)) (d .tape) (w .drive .tape) users n))
+      is-fold-alike (toldOf (headerOf h)) (w .drive .tape) (d .tape) (λ n. sym (fold-users (toldOf (headerOf h)) (d .tape) (w .drive .tape) users n))
       (reading-is-fold g last (w .drive .tape) h from read r seg trk e (y .cartridge) (opens a h at) runs2);
 }
   where

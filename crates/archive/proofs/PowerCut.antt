@@ -14,7 +14,6 @@ use lib.Seq.{getD-take}
 use Rattle.geometry.specs.Place.{address}
 use Rattle.geometry.specs.Cartridge.{lastOf, isUser}
 use Rattle.geometry.specs.declared.cartridge.Geometry.{Geometry}
-use Rattle.geometry.proofs.UserFrames.{User, user-ranges}
 use Rattle.frame.specs.declared.header.Header.{Header}
 use Rattle.header.specs.Valid.{headerOf}
 use Rattle.header.proofs.Facts.{valid-last}
@@ -37,14 +36,16 @@ use Rattle.archive_lists.proofs.tape.Seen.{Has, Seen}
 use Rattle.archive_lists.proofs.tape.SeenLaws.{seen-moves}
 use Rattle.archive_lists.proofs.tape.Stands.{unending}
 use Rattle.archive_lists.proofs.tape.StandsLaws.{ends-telling}
-use Rattle.archive_lists.proofs.tape.FoldLaws.{fold-none, fold-alike}
+use Rattle.archive_lists.proofs.tape.FoldLaws.{fold-alike}
+use Rattle.archive_lists.proofs.reading.Facts.{fold-low}
 use Rattle.archive_lists.proofs.recording.Trailing.{Prior, priorOf}
 use Rattle.archive_lists.proofs.recording.HeaderCopies.{Late}
 use Rattle.archive_lists.proofs.recording.Setting.{Setting}
 use Rattle.archive_lists.proofs.recording.ElementReplies.{seen-top}
 use Rattle.archive_lists.proofs.recording.Completion.{copy-fields, opens-at}
 use Rattle.archive_lists.proofs.Fold.{tape-read, reading-kept, reading-few}
-use Rattle.archive_cuts.specs.Cuts.{FaithfulInPart, Throughout}
+use Rattle.archive_cuts.specs.Cuts.{FaithfulInPart}
+use Rattle.archive_cuts.proofs.Throughout.{throughout-any}
 use Rattle.archive_cuts.proofs.HeldCopies.{OwnCopy, at-rest}
 use Rattle.archive_cuts.proofs.View as view
 use Rattle.archive_cuts.proofs.View.{Fair, alien, Viewed, view-whole}
@@ -72,16 +73,9 @@ module _ {last pass : ℕ} {prior : Prior} {old : Tape} (large : 3000 ≤ last) 
       go (no l) = seen-top large (omega arith) (b .in-drive .seen)
 
   module _ (told : Told) (last-is : told .last .0 ≡ last) (pass-is : told .pass ≡ pass) (late : (prior .start ≤ 10) ⊎ (prior .start ≤ endsFrom told)) where
-    none-low : (n c : ℕ) → c < 10 → User n c → ⊥
-    none-low n c u (inl h) = let x = h .0 in omega arith
-    none-low n c u (inr h) = let x = h .0 in omega arith
-
     -- below the start it goes with the open view
     agrees : (prior .start ≤ 10) ⊎ (prior .start ≤ endsFrom told) → foldOf told (d .tape) (prior .start) ≡ foldOf (unending last pass) (d .tape) (prior .start)
-    unfolding foldOf
-    agrees (inl low) =
-        fold-none told (d .tape) 0 (prior .start) (omega arith) (λ c f _ u w _. none-low (told .last .0) c (omega arith) (user-ranges (told .last .0) c w))
-        ∙ sym (fold-none (unending last pass) (d .tape) 0 (prior .start) (omega arith) (λ c f _ u w _. none-low last c (omega arith) (user-ranges last c w)))
+    agrees (inl low) = fold-low told (d .tape) (prior .start) low ∙ sym (fold-low (unending last pass) (d .tape) (prior .start) low)
     agrees (inr high) = fold-alike told (unending last pass) last-is pass-is (d .tape) (prior .start) (λ a l. (omega arith, omega (arith, ends-telling last pass (last + 1), start-low)))
 
     record Found : Type 0 where
@@ -154,11 +148,6 @@ module _ (g : Geometry) (last : ℕ) (seg : g .segtrk < 2 ^ 16) (trk : g .trks <
 
 -- ---- after every list
 
-anything : {w v : recordings.World} {calls : List recordings.Call} (r : recordings.Runs w calls v) → Throughout (λ _. Unit {0}) r
-anything recordings.stop = tt
-anything (recordings.call c rest) = (tt, anything rest)
-anything (recordings.drive m rest) = (tt, anything rest)
-
 -- what the open view has at the start
 seen-begun : {last pass at : ℕ} {earlier : List Element} {t : Tape} → Seen last pass earlier earlier (length earlier) at t → Has (earlier ++ []) (length earlier) (foldOf (unending last pass) t at)
 seen-begun {last} {pass} {at} {earlier} {t} h =
@@ -198,7 +187,7 @@ module _ (g : Geometry) (last : ℕ) (d : Drive) (s : State) (b : Start g last s
   intact =
       runs-kept last pass (OnItsNewest b (d .tape)) (AsItStands b (d .tape) × NoneInTheWay b (d .tape)) prior (begun .set)
       (keeps-intact last pass (OnItsNewest b (d .tape)) (AsItStands b (d .tape) × NoneInTheWay b (d .tape)) prior (same, none) (d .tape) (begun .set .large))
-      (earlierOf b) true (begun .whole) (λ _. first-intact) runs (anything runs) window-kept
+      (earlierOf b) true (begun .whole) (λ _. first-intact) runs (throughout-any (λ _. Unit {0}) (λ _. tt) runs) window-kept
 
   opens : (a : ℕ) (h : List ℕ) → HeaderAt last (w .drive .tape) a h → reading.openOf g h .number ≡ 0
   opens a h at = opens-at g last (w .drive .tape) a h e (intact .on-tape .cartridge) at

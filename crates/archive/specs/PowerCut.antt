@@ -42,7 +42,7 @@ pub record CopyOf (h copy : List ℕ) : Type 0 where
   pub count : updateOf copy ≡ updateOf h
   pub data-bytes : take dataLength copy ≡ take dataLength h
 
--- of the one that the session was opened on, where it adds. A fresh recording writes over what its old header tells of
+-- a copy of the one that the session was opened on, where it adds. A fresh recording writes over what its old header tells of
 abbrev pub IsCopy : {g : Geometry} {last : ℕ} {s : State} → Start g last s → List ℕ → Type 0
 IsCopy (fresh depth blocks tail o q) h = ⊥
 IsCopy (added depth blocks tail u old r read q) h = CopyOf old h

@@ -41,6 +41,7 @@ use Rattle.archive_lists.proofs.recording.Noted.{noted, calls-with, moves-with}
 use Rattle.archive_lists.proofs.recording.DriveMoves.{Does, alters-nothing, takes-frame, goes-to, does, keeps-move}
 use Rattle.archive_lists.proofs.recording.Calls.{keeps-call}
 use Rattle.archive_cuts.specs.Cuts.{Throughout}
+use Rattle.archive_cuts.proofs.Throughout.{at-first}
 use Rattle.archive_cuts.proofs.HeldCopies as held
 use Rattle.archive_cuts.proofs.HeldCopies.{NoElements, at-rest}
 use Rattle.archive_cuts.proofs.Intact.{OnTape, Holds, no-elements, elements, InDrive, Intact, intact-grows, intact-acts}
@@ -112,12 +113,6 @@ module _ {last pass : ℕ} {prior : Prior} (ps : List Element) (k edge : ℕ) wh
   writing-holds {s} {d} few total q (elements.under-way _ _ _ _ _ x) = wanted-holds (heldOf s) (s .elements .pending) d few total q x
   writing-holds {s} {d} few total q (elements.replied _ _ _ x) = replied-holds (heldOf s) (s .elements .pending) d few total q x
 
--- how a list's last tape is
-pub at-last : (Q : Tape → Type 0) {w v : World} {cs : List Call} (r : Runs w cs v) → Throughout Q r → Q (v .drive .tape)
-at-last holds recordings.stop h = h
-at-last holds (recordings.call c rest) h = at-last holds rest (h .1)
-at-last holds (recordings.drive m rest) h = at-last holds rest (h .1)
-
 module _ (last pass : ℕ) (on-newest none-bears : Type 0) (prior : Prior) where
   live-holds : none-bears → (w : World) → Live last pass on-newest none-bears prior w → w .notes .unaltered ≡ true → InDrive last pass prior (w .notes .accepted) (w .drive)
   live-holds quiet w l u = record {
@@ -158,19 +153,13 @@ module _ (last pass : ℕ) (on-newest none-bears : Type 0) (prior : Prior) where
     step-move w v i j holds (recordings.acts d a) p = keeps .act w d a p
     step-move w v i j holds (recordings.answers c frame r d q a) p = step-answer w c frame r d q i j holds (does a) p
 
-    -- the list's first tape
-    now : {w v : World} {cs : List Call} (r : Runs w cs v) → Throughout Q r → Q (w .drive .tape)
-    now recordings.stop h = h
-    now (recordings.call c rest) h = h .0
-    now (recordings.drive m rest) h = h .0
-
     pub runs-kept : (earlier : List Element) (kept : Bool) {w v : World} {cs : List Call} → Inv last pass on-newest none-bears prior (noted earlier kept w) → P (noted earlier kept w) → (r : Runs w cs v) → Throughout Q r → P (noted earlier kept v)
     runs-kept earlier kept i p recordings.stop h = p
     runs-kept earlier kept i p (recordings.call c rest) h = let y = calls-with earlier kept c in runs-kept earlier kept (keeps-call _ _ _ set i y) (keeps .call y p) rest (h .1)
     runs-kept earlier kept i p (recordings.drive m rest) h =
         let y = moves-with earlier kept m in
         let j = keeps-move _ _ set i y in
-        runs-kept earlier kept j (step-move _ _ i j (now rest (h .1)) y p) rest (h .1)
+        runs-kept earlier kept j (step-move _ _ i j (at-first Q rest (h .1)) y p) rest (h .1)
 
   -- ---- so a session and what was there before stay intact
 

@@ -2,7 +2,7 @@
 use Prim.Native.Nat.{ℕ, suc, _+_, _<_}
 use mathlib.Core.Path.{_≡_, sym, ap, subst, _∙_}
 use mathlib.Core.Bool.{true}
-use mathlib.Core.List.{List, _∷_}
+use mathlib.Core.List.{List, _∷_, head-eq-of-cons-eq, tail-eq-of-cons-eq}
 use mathlib.Core.Logic.{_⊎_, inl, inr, ⊎-elim}
 use mathlib.Core.Option.{Option, some}
 use native.Mathlib.Decide.{ℕ-discrete}
@@ -73,10 +73,7 @@ module _ {last pass : ℕ} {prior : Prior} {d : Drive} (x : CopiesHeld last pass
   goes-here = let e : d .at + 0 ≡ d .at = omega arith in subst (λ (a : ℕ). isHeader a ≡ true) e (x .placed 0 (omega (arith, size)))
 
   pub is-copy : f ≡ headerFrame (x .header)
-  is-copy = cons-head all-alike
-    where
-      cons-head : {y z : List ℕ} {u w : List (List ℕ)} → y ∷ u ≡ z ∷ w → y ≡ z
-      cons-head e = cc
+  is-copy = head-eq-of-cons-eq all-alike
 
   pub own-copy : (g : List ℕ) → ReadsAs f g → OwnCopy last pass prior g
   own-copy g r = record { header = x .header; spare = x .spare; carried = x .carried; as-sent = subst (λ (y : List ℕ). ReadsAs y g) is-copy r }
@@ -87,8 +84,5 @@ module _ {last pass : ℕ} {prior : Prior} {d : Drive} (x : CopiesHeld last pass
     spare = x .spare;
     carried = x .carried;
     placed = λ i low. let e : d .at + (i + 1) ≡ d .at + 1 + i = omega arith in subst (λ (a : ℕ). isHeader a ≡ true) e (x .placed (i + 1) (omega (arith, size)));
-    alike = cons-tail all-alike;
+    alike = tail-eq-of-cons-eq all-alike;
   }
-    where
-      cons-tail : {y z : List ℕ} {u w : List (List ℕ)} → y ∷ u ≡ z ∷ w → u ≡ w
-      cons-tail e = cc

@@ -7,7 +7,6 @@ use mathlib.Core.Logic.{_⊎_, ⊎-elim}
 use mathlib.Core.Option.{Option, some}
 use native.Mathlib.Omega.{arith}
 use lib.ListN.{length, length-append}
-use lib.Seq.{take-append-le}
 use Rattle.geometry.specs.Cartridge.{isUser, isHeader}
 use Rattle.geometry.proofs.UserFrames.{header-not-user}
 use Rattle.frame.specs.Sent.{ReadsAs}
@@ -17,15 +16,15 @@ use Rattle.archive_lists.specs.Conduct.{Drive, stopped, Acts, Left, as-new, wro
 use Rattle.archive_lists.specs.Tape.{Tape, Cartridge, put}
 use Rattle.archive_lists.specs.Recordings.{Element}
 use Rattle.archive_lists.specs.Filemarks.{itemAt, kindFor}
-use Rattle.archive_lists.specs.Fold.{Reader, going, foldOf}
-use Rattle.archive_lists.proofs.tape.Seen.{Has, has, Seen}
+use Rattle.archive_lists.specs.Fold.{foldOf}
+use Rattle.archive_lists.proofs.tape.Seen.{Has, Seen}
 use Rattle.archive_lists.proofs.tape.Stands.{unending, Stands, Queue}
-use Rattle.archive_lists.proofs.tape.StandsLaws.{item-more, stands-read, stands-long}
+use Rattle.archive_lists.proofs.tape.StandsLaws.{stands-read, stands-long}
 use Rattle.archive_lists.proofs.tape.FoldLaws.{fold-put, fold-put-other}
-use Rattle.archive_lists.proofs.tape.SeenLaws.{cartridge-put, seen-elsewhere, seen-writes, seen-fails}
+use Rattle.archive_lists.proofs.tape.SeenLaws.{has-more, seen-grows, seen-elsewhere, seen-writes, seen-fails}
 use Rattle.archive_lists.proofs.recording.Trailing.{Prior}
 use Rattle.archive_lists.proofs.tape.Closed.{user-within}
-use Rattle.archive_lists.proofs.recording.ContentMoves.{left-reads, header-low, not-user}
+use Rattle.archive_lists.proofs.recording.ContentMoves.{cartridge-tried, header-low, not-user}
 use Rattle.archive_lists.proofs.recording.CopiesMoves.{rests-still}
 use Rattle.archive_cuts.proofs.View.{own, Fair}
 use Rattle.archive_cuts.proofs.HeldCopies.{OwnCopy, Traced, kept-or-new, traced-put, CopiesHeld, NoElements, at-rest, copies, goes-here, is-copy, own-copy, rest-held}
@@ -57,24 +56,6 @@ pub record Intact (last pass : ℕ) (prior : Prior) (old : Tape) (xs : List Elem
 
 -- ---- one more is accepted
 
-has-more : (xs : List Element) (x : Element) (m : ℕ) {r : Reader} → m ≤ length xs → Has xs m r → Has (xs ++ x ∷ []) m r
-has-more xs x m top (has trail e) = has trail (e ∙ ap (λ (got : List Element). going m got trail) (sym (take-append-le m xs (x ∷ []) top)))
-
-seen-grows : {last pass k edge : ℕ} {ps xs : List Element} {t : Tape} (x : Element) → Seen last pass ps xs k edge t → Seen last pass ps (xs ++ x ∷ []) k edge t
-seen-grows {xs = xs} x h = record {
-  base = h .base;
-  m = h .m;
-  floor = h .floor;
-  low = h .low;
-  high = h .high;
-  most = h .most;
-  top = omega (arith, length-append xs (x ∷ []), h .top);
-  few = omega (arith, length-append xs (x ∷ []), h .few);
-  prefix = λ i l. h .prefix i l ∙ sym (item-more xs (x ∷ []) i (omega (arith, h .few)));
-  seen = has-more xs x (h .m) (h .top) (h .seen);
-  quiet = h .quiet;
-}
-
 pub intact-grows : {last pass : ℕ} {prior : Prior} {old : Tape} {xs : List Element} {d : Drive} (x : Element) → Intact last pass prior old xs d → Intact last pass prior old (xs ++ x ∷ []) d
 intact-grows {prior = prior} {xs = xs} x b = record {
   on-tape = let l = b .on-tape in record { cartridge = l .cartridge; few = omega (arith, length-append xs (x ∷ []), l .few); traced = l .traced; fair = l .fair; begun = has-more xs x (prior .base) (l .few) (l .begun) };
@@ -84,15 +65,12 @@ intact-grows {prior = prior} {xs = xs} x b = record {
 -- ---- a frame is tried
 
 module _ {last pass : ℕ} {prior : Prior} {old : Tape} {xs : List Element} {t : Tape} (large : 3000 ≤ last) (a : ℕ) (v : Option (List ℕ)) (f : List ℕ) (left : Left (t a) f v) (l : OnTape last pass prior old xs t) where
-  put-cartridge : a ≤ last → length f ≡ 33280 → Cartridge last (put t a v)
-  put-cartridge low long = cartridge-put last t a v low (λ g x. ⊎-elim (λ y. l .cartridge .long a g y) (λ r. r .long ∙ long) (left-reads left x)) (l .cartridge)
-
   -- a header
   header-tried : isHeader a ≡ true → length f ≡ 33280 → ((g : List ℕ) → ReadsAs f g → OwnCopy last pass prior g) → OnTape last pass prior old xs (put t a v)
   header-tried here long copy =
       let other : isUser last a ≡ false = not-user last a here (isUser last a) refl in
       record {
-        cartridge = put-cartridge (header-low last a large here) long;
+        cartridge = cartridge-tried a v left (header-low last a large here) long (l .cartridge);
         few = l .few;
         traced = traced-put t a v f left (l .traced) (λ _. copy);
         fair = λ b g low u q. ⊎-elim (λ x. l .fair b g low u x) (λ x. absurd (true≢false (sym u ∙ ap (isUser last) (x .0) ∙ other))) (kept-or-new t a v f left b g q);
@@ -102,7 +80,7 @@ module _ {last pass : ℕ} {prior : Prior} {old : Tape} {xs : List Element} {t :
   -- an element or EOD
   element-tried : (ps : List Element) (k : ℕ) → Stands last pass (itemAt ps k) k f → isUser last a ≡ true → prior .start ≤ a → OnTape last pass prior old xs (put t a v)
   element-tried ps k s here ahead = record {
-    cartridge = put-cartridge (user-within last a large here) (stands-long s);
+    cartridge = cartridge-tried a v left (user-within last a large here) (stands-long s) (l .cartridge);
     few = l .few;
     traced = traced-put t a v f left (l .traced) (λ group. absurd (header-not-user last a group here));
     fair = λ b g low u q. ⊎-elim (λ x. l .fair b g low u x) (λ x. own (kindFor (itemAt ps k)) k (stands-read s (x .1) .found)) (kept-or-new t a v f left b g q);

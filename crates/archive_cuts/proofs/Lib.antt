@@ -1,3 +1,4 @@
+pub mod Throughout
 pub mod HeldCopies
 pub mod View
 pub mod Intact

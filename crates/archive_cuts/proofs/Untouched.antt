@@ -21,19 +21,19 @@ use Rattle.archive_lists.specs.Headers.{HeaderAt}
 use Rattle.archive_lists.specs.Recordings as recordings
 use Rattle.archive_lists.specs.Recordings.{World, Call, Calls, Runs, Element, withDrive}
 use Rattle.archive_lists.proofs.tape.FoldLaws.{put-other}
-use Rattle.archive_lists.proofs.tape.SeenLaws.{cartridge-put}
 use Rattle.archive_lists.proofs.recording.Trailing.{Prior}
 use Rattle.archive_lists.proofs.recording.HeaderCopies.{Carried}
 use Rattle.archive_lists.proofs.recording.Setting.{Setting}
-use Rattle.archive_lists.proofs.recording.ContentMoves.{left-reads, header-low}
+use Rattle.archive_lists.proofs.recording.ContentMoves.{cartridge-tried, header-low}
 use Rattle.archive_lists.proofs.recording.CopiesMoves.{rests-still}
 use Rattle.archive_lists.proofs.recording.Completion.{copy-valid, copy-update}
 use Rattle.archive_lists.proofs.recording.Noted.{noted}
 use Rattle.archive_lists.proofs.recording.Invariant as inv
 use Rattle.archive_lists.proofs.recording.Invariant.{Course, Live, Inv}
 use Rattle.archive_cuts.specs.Cuts.{Throughout}
+use Rattle.archive_cuts.proofs.Throughout.{at-last}
 use Rattle.archive_cuts.proofs.HeldCopies.{Traced, traced-put, CopiesHeld, NoElements, at-rest, copies, goes-here, is-copy, own-copy, rest-held}
-use Rattle.archive_cuts.proofs.CutLists.{Keeps, copying-holds, runs-kept, at-last}
+use Rattle.archive_cuts.proofs.CutLists.{Keeps, copying-holds, runs-kept}
 
 -- every valid header counts less than the session's own
 abbrev pub NoneOwn : ℕ → ℕ → Tape → Type 0
@@ -50,9 +50,8 @@ module _ {last pass : ℕ} {prior : Prior} {old : Tape} {d : Drive} (large : 300
   copy-tried : (f : List ℕ) (rest : List (List ℕ)) → d .buffer ≡ f ∷ rest → CopiesHeld last pass prior d → (v : Option (List ℕ)) → Left (d .tape (d .at)) f v → (e : Drive) → e .tape ≡ put (d .tape) (d .at) v → NoElements last pass prior e → Untouched last pass prior old e
   copy-tried f rest q c v left e is holds =
       let here = goes-here c f rest q in
-      let long : length f ≡ 33280 = ap length (is-copy c f rest q) ∙ header-length (c .header) in
       record {
-        cartridge = subst (Cartridge last) (sym is) (cartridge-put last (d .tape) (d .at) v (header-low last (d .at) large here) (λ g y. ⊎-elim (λ z. x .cartridge .long (d .at) g z) (λ r. r .long ∙ long) (left-reads left y)) (x .cartridge));
+        cartridge = subst (Cartridge last) (sym is) (cartridge-tried (d .at) v left (header-low last (d .at) large here) (ap length (is-copy c f rest q) ∙ header-length (c .header)) (x .cartridge));
         users = λ a u. x .users a u ∙ sym (put-other (d .tape) (d .at) v a (λ z. header-not-user last (d .at) here (ap (isUser last) (sym z) ∙ u))) ∙ ap (λ (t : Tape). t a) (sym is);
         traced = subst (Traced last pass prior old) (sym is) (traced-put (d .tape) (d .at) v f left (x .traced) (λ _. own-copy c f rest q));
         holds = holds;
@@ -77,8 +76,8 @@ module _ (last pass : ℕ) (on-newest none-bears : Type 0) (prior : Prior) (old 
       let less = none a f (record { group = group; reads = q; valid = copy-valid set h c r }) in
       omega (arith, copy-update set h c r, c .newer)
 
-  live-holds : (w : World) → Live last pass on-newest none-bears prior w → None (w .drive .tape) → NoElements last pass prior (w .drive)
-  live-holds w l none = go (l .course)
+  live-untouched : (w : World) → Live last pass on-newest none-bears prior w → None (w .drive .tape) → NoElements last pass prior (w .drive)
+  live-untouched w l none = go (l .course)
     where
       go : Course last (length (l .list)) w (l .k) (l .edge) → NoElements last pass prior (w .drive)
       go (inv.opening s _ _ a) = copying-holds (a .counts) _ (l .carried) (a .copying)
@@ -104,7 +103,7 @@ module _ (last pass : ℕ) (on-newest none-bears : Type 0) (prior : Prior) (old 
       cartridge = subst (Cartridge last) (sym same) (x .cartridge);
       users = subst (SameFrames last old) (sym same) (x .users);
       traced = subst (Traced last pass prior old) (sym same) (x .traced);
-      holds = live-holds (withDrive w d f) l none;
+      holds = live-untouched (withDrive w d f) l none;
     };
   }
 

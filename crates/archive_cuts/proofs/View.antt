@@ -1,4 +1,4 @@
--- A reading on any header of the pass that ends from the start of a session on goes with the open view, or ends at an EOD from there on. Assumes nothing.
+-- A reading on a header of the pass under which no EOD below a session's start ends a reading goes with the open view, or ends at an EOD from there on. Assumes nothing.
 use Prim.Native.Nat.{ℕ, zero, suc, _+_, _-_, _≤_, _<_}
 use mathlib.Core.Path.{_≡_, refl, sym, ap, subst, _∙_}
 use mathlib.Core.Bool.{Bool, true, false, not, true≢false}

@@ -26,6 +26,7 @@ pub record FaithfulInPart (last : ℕ) (earlier accepted : List Element) (mayEnd
   pub only-12 : (w .notes .refused ≡ 0) ⊎ (w .notes .refused ≡ 12)
   -- at its end, and at 12, everything earlier is delivered
   pub whole : (w .notes .end ≡ true) ⊎ (w .notes .refused ≡ 12) → length earlier ≤ length (w .notes .deliveries)
+  -- it ends at one of those addresses
   pub ends-where : w .notes .end ≡ true → mayEnd (endOf (w .session) .0)
   -- until then each fetch with no reply awaited gives a command, or 12
   pub goes-on : w .notes .end ≡ false → w .notes .refused ≡ 0 → w .flight ≡ readings.no-command
@@ -40,6 +41,7 @@ pub record FaithfulInPart (last : ℕ) (earlier accepted : List Element) (mayEnd
   pub alone : (w .flight ≡ readings.no-command → ⊥) → readings.refusal (w .session) readings.fetching ≡ 7
   -- the replies taken in are bounded as every reading's, busy ones aside
   pub bounded : w .notes .replies ≤ replyBound last
+  -- after the end a fetch says so again
   pub says-again : w .notes .end ≡ true → fetch.fetchOf (w .session) .said ≡ fetch.end
 
 -- a property of every tape from the start of a list on. The last tape alone would not tell of a time in it

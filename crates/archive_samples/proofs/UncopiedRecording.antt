@@ -1,4 +1,5 @@
--- The same session cut before its first new header copy: the first fails, and nothing reads there. BeforeFirstCopy speaks of it. Assumes nothing.
+-- The sample session that adds to what the first recording left, cut while its first header copy is being written, where nothing reads then:
+-- BeforeFirstCopy speaks of it. Assumes nothing.
 use Prim.Native.Nat.{ℕ, _<_}
 use mathlib.Core.Path.{_≡_, refl, sym, ap, _∙_}
 use mathlib.Core.Bool.{true, false}

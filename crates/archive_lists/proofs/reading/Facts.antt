@@ -156,12 +156,13 @@ finished-at e = cc
 pub going-finished : {A : Type 0} {n e : ℕ} {got xs : List Element} {trail : Trail} → going n got trail ≡ finished xs e → A
 going-finished e = never (cc)
 
-module _ {told : Told} {t : Tape} (k : ReadTape told t) where
-  -- nothing of the user's is below 10, from 2,990 to 2,999 or above LAST
-  none-low : (c : ℕ) → c < 10 → User (told .last .0) c → ⊥
-  none-low c u (inl h) = let x = h .0 in omega arith
-  none-low c u (inr h) = let x = h .0 in omega arith
+-- nothing of the user's is below 10
+pub fold-low : (told : Told) (t : Tape) (a : ℕ) → a ≤ 10 → foldOf told t a ≡ going 0 [] noTrail
+unfolding foldOf
+fold-low told t a low = fold-none told t 0 a (omega arith) (λ c f l u w _. let high = user-high (told .last .0) c w in omega arith)
 
+module _ {told : Told} {t : Tape} (k : ReadTape told t) where
+  -- nor from 2,990 to 2,999 or above LAST
   none-between : (c : ℕ) → 2990 ≤ c → c < 3000 → User (told .last .0) c → ⊥
   none-between c l h (inl x) = let y = x .1 in omega arith
   none-between c l h (inr x) = let y = x .0 in omega arith
@@ -171,8 +172,7 @@ module _ {told : Told} {t : Tape} (k : ReadTape told t) where
   none-above c l (inr h) = let x = h .1 in omega arith
 
   pub fold-begins : foldOf told t 10 ≡ going 0 [] noTrail
-  unfolding foldOf
-  fold-begins = fold-none told t 0 10 (omega arith) (λ c f l u w _. none-low c u (user-ranges (told .last .0) c w))
+  fold-begins = fold-low told t 10 (le-refl 10)
 
   pub fold-crosses : foldOf told t 3000 ≡ foldOf told t 2990
   fold-crosses = fold-none told t 2990 3000 (omega arith) (λ c f l u w _. none-between c l u (user-ranges (told .last .0) c w))

@@ -41,6 +41,10 @@ left-reads as-before e = inl e
 left-reads {sent = sent} (as-new _ (conduct.reads read r)) e = inr (subst (λ (x : List ℕ). ReadsAs sent x) (some-same e) r)
 left-reads not-at-all e = none-some e
 
+-- and so a cartridge stays one
+pub cartridge-tried : {last : ℕ} {t : Tape} {f : List ℕ} (a : ℕ) (v : Option (List ℕ)) → Left (t a) f v → a ≤ last → length f ≡ 33280 → Cartridge last t → Cartridge last (put t a v)
+cartridge-tried {last} {t} a v left low long c = cartridge-put last t a v low (λ g x. ⊎-elim (λ y. c .long a g y) (λ r. r .long ∙ long) (left-reads left x)) c
+
 -- ---- headers
 
 below-put : (last : ℕ) (h : Header) (t : Tape) (a : ℕ) (v : Option (List ℕ)) → ((f : List ℕ) → v ≡ some f → (t a ≡ some f) ⊎ ReadsAs (headerFrame h) f) → Below last h t → Below last h (put t a v)
@@ -87,7 +91,7 @@ module _ {last pass k : ℕ} (ps : List Element) (w : World) (e : Drive) (v : Op
       let a = w .drive .at in
       let t = w .drive .tape in
       record {
-        tape = subst (Cartridge last) (sym q) (cartridge-put last t a v (header-low last a large at) (λ f x. ⊎-elim (λ y. c .tape .long a f y) (λ r. r .long ∙ header-length (w .session .copies .header)) (left-reads left x)) (c .tape));
+        tape = subst (Cartridge last) (sym q) (cartridge-tried a v left (header-low last a large at) (header-length (w .session .copies .header)) (c .tape));
         seen = subst (λ x. Seen last pass ps (w .notes .accepted) k edge x) (sym q) (seen-elsewhere a v (not-user last a at (isUser last a) refl) (c .seen));
         stored = c .stored;
       }
@@ -171,11 +175,8 @@ module _ {last pass k : ℕ} (ps : List Element) (w : World) (f : List ℕ) (res
       within : k ≤ length ps
       within = omega (arith, most (w .session .elements .eod) (length ps))
 
-      long-left : {v : Option (List ℕ)} → Left (w .drive .tape (w .drive .at)) f v → (g : List ℕ) → v ≡ some g → length g ≡ 33280
-      long-left left g e = ⊎-elim (λ y. c .tape .long (w .drive .at) g y) (λ r. r .long ∙ stands-long (queued x .0)) (left-reads left e)
-
       cartridge-left : {v : Option (List ℕ)} → Left (w .drive .tape (w .drive .at)) f v → Cartridge last (put (w .drive .tape) (w .drive .at) v)
-      cartridge-left {v} left = cartridge-put last (w .drive .tape) (w .drive .at) v (user-within last (w .drive .at) large here) (long-left left) (c .tape)
+      cartridge-left {v} left = cartridge-tried (w .drive .at) v left (user-within last (w .drive .at) large here) (stands-long (queued x .0)) (c .tape)
 
       pub content-written : (v : Option (List ℕ)) → Written f v → Content last pass ps (withDrive w (wrote (w .drive) rest v) (w .flight)) (k + 1) (w .drive .at + 1)
       content-written v (conduct.reads read r) = record {

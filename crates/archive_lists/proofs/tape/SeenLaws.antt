@@ -23,10 +23,14 @@ use Rattle.archive_lists.specs.Filemarks.{Item, itemAt}
 use Rattle.archive_lists.proofs.tape.Basics.{none-some}
 use Rattle.archive_lists.proofs.tape.Seen.{Has, has, Seen, Quiet, Clean, NoneFrom}
 use Rattle.archive_lists.proofs.tape.Stands.{unending, Stands}
-use Rattle.archive_lists.proofs.tape.StandsLaws.{item-past, item-take, stands-read, ends-telling}
+use Rattle.archive_lists.proofs.tape.StandsLaws.{item-past, item-take, item-more, stands-read, ends-telling}
 use Rattle.archive_lists.proofs.tape.FoldLaws.{put-same, put-other, look-quiet, look-next, look-again, look-eod, fold-put-other, fold-put-at, fold-quiet}
 
 -- ---- one element more
+
+-- one more is accepted
+pub has-more : (xs : List Element) (x : Element) (m : ℕ) {r : Reader} → m ≤ length xs → Has xs m r → Has (xs ++ x ∷ []) m r
+has-more xs x m top (has trail e) = has trail (e ∙ ap (λ (got : List Element). going m got trail) (sym (take-append-le m xs (x ∷ []) top)))
 
 module _ {last pass k edge : ℕ} {ps xs : List Element} {t : Tape} where
   pub seen-accept : (x : Element) → ps ≡ xs → k ≤ length ps → Seen last pass ps xs k edge t → Seen last pass (ps ++ x ∷ []) (xs ++ x ∷ []) k edge t
@@ -40,12 +44,25 @@ module _ {last pass k edge : ℕ} {ps xs : List Element} {t : Tape} where
     top = omega (arith, length-append xs (x ∷ []), h .top);
     few = omega (arith, length-append ps (x ∷ []), length-append xs (x ∷ []), h .few);
     prefix = λ i _. ap (λ (ys : List Element). itemAt (ys ++ x ∷ []) i) all;
-    seen = more (h .seen);
+    seen = has-more xs x (h .m) (h .top) (h .seen);
     quiet = h .quiet;
   }
-    where
-      more : {r : Reader} → Has xs (h .m) r → Has (xs ++ x ∷ []) (h .m) r
-      more (has trail e) = has trail (e ∙ ap (λ (got : List Element). going (h .m) got trail) (sym (take-append-le (h .m) xs (x ∷ []) (h .top))))
+
+-- the same with what is promised left as it is
+pub seen-grows : {last pass k edge : ℕ} {ps xs : List Element} {t : Tape} (x : Element) → Seen last pass ps xs k edge t → Seen last pass ps (xs ++ x ∷ []) k edge t
+seen-grows {xs = xs} x h = record {
+  base = h .base;
+  m = h .m;
+  floor = h .floor;
+  low = h .low;
+  high = h .high;
+  most = h .most;
+  top = omega (arith, length-append xs (x ∷ []), h .top);
+  few = omega (arith, length-append xs (x ∷ []), h .few);
+  prefix = λ i l. h .prefix i l ∙ sym (item-more xs (x ∷ []) i (omega (arith, h .few)));
+  seen = has-more xs x (h .m) (h .top) (h .seen);
+  quiet = h .quiet;
+}
 
 -- giving up shortens the promise to what is on tape
 pub seen-gives : {last pass k edge : ℕ} {ps xs : List Element} {t : Tape} → ps ≡ xs → k ≤ length xs → Seen last pass ps xs k edge t → Seen last pass (take k xs) xs k edge t
