@@ -12,4 +12,5 @@ fn main() {
     edge_tails::play_all();
     edge_given_up::play_all();
     edge_frames::play_all();
+    edge_cuts::play_all();
 }
