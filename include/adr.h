@@ -219,12 +219,16 @@
    old end failed, the old EOD may still read, and the reading ends there. So
    record again all that was accepted, or what is missing of it. All this needs
    what a reading after ADR_DONE needs, too: that the session was opened as WRITE
-   PASSES and adr_record_open_at_end want it.
+   PASSES and adr_record_open_at_end want it, and that the window was lent each
+   time as it was last left.
 
    What can be done next is told by the newest header. Its update count (bytes
    32,780 to 32,783, the high byte first) is one above that of the header that
    the session was opened on if it is an opening header of the session, and two
-   above if a closing one; where there was no header these counts are 0 and 1.
+   above if a closing one; where there was no header these counts are 0 and 1. So
+   note that count before an opening, and before the first WRITE to a user frame
+   that it goes out, where a power cut does not reach the notes. Without them
+   take it that there was such a WRITE, and add nothing.
      - An opening header: its EOD address (bytes 32 to 35) is 0, and nothing can
        be added. adr_record_open_at_end refuses it, with 13, or with 7 where the
        reading was refused with 12. Read what is to be kept, then record afresh,
@@ -232,12 +236,12 @@
      - A closing header: EOD and all that was accepted and not given up are on
        tape, and a reading comes to its end. The cartridge may be added to as if
        the session had come to ADR_DONE.
-     - The header that the session was opened on, and none of the commands was a
-       WRITE to a user frame: the cartridge is as it was, and may be added to as
-       before.
-     - That header though there was such a WRITE, or an older one: the headers of
-       the session are lost, and its frames may not be. Add nothing, and see
-       WRITE PASSES before anything is recorded.
+     - The header that the session was opened on, or none where there was none,
+       and none of the commands was a WRITE to a user frame: the cartridge is as
+       it was but for copies of its header, and may be added to as before.
+     - That header though there was such a WRITE, or an older one, or none any
+       more: the headers of the session are lost, and its frames may not be. Add
+       nothing, and see WRITE PASSES before anything is recorded.
    c/record.c cuts an addition short behind each of its frames and reads it.
 
    WRITE PASSES. A reading knows the frames of a recording by their write pass:
@@ -265,9 +269,9 @@
    There are none where the last session on the cartridge came to ADR_DONE and
    met none itself: a recording of a pass that no user frame bore, or an
    addition above whose old end there were none. The same holds where it left a
-   closing header, or had written to no user frame (see CUT SHORT). Where it did
-   not, add nothing before the cartridge has been recorded afresh, as is said
-   here. */
+   closing header and met none. Where it had written to no user frame, what held
+   before it still holds (see CUT SHORT). Else add nothing before the cartridge
+   has been recorded afresh, as is said here. */
 #ifndef ADR_H
 #define ADR_H
 

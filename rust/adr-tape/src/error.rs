@@ -21,8 +21,9 @@ pub enum HeaderError<D> {
 
 /// Why a recording did not become whole.
 ///
-/// But for [`RecordError::Full`] it was cut short, as where the mains go. What
-/// stands on tape can be read on the newest header that reads:
+/// But for [`RecordError::Full`], and for an opening that was refused, where
+/// nothing was written, it was cut short, as where the mains go. What stands on
+/// tape can be read on the newest header that reads:
 ///
 /// * Of a recording that was added, while a copy of the header that it was opened
 ///   on or a newer one reads: everything that was there before, then elements of
@@ -33,13 +34,15 @@ pub enum HeaderError<D> {
 /// Nothing else is delivered, and the reading comes to an end or is refused with
 /// [`Refusal::NotFound`], never with [`Refusal::Reply`], [`Refusal::Missing`] or
 /// [`Refusal::Foreign`]. How many elements of this recording come is not promised.
+/// All this needs what a reading of a whole recording needs, too: that it was opened
+/// as it should be, on the newest header and over no left-over frames.
 ///
 /// Then look at the newest header. Where it names no end, nothing can be added:
 /// read what is to be kept, and record afresh, here or on another cartridge. Where
 /// it is a closing header of this recording, all of it is on tape, and the
 /// cartridge may be added to. Where it is the header that the recording was opened
-/// on, the cartridge is as it was if no element had been sent, and is else not to
-/// be added to. `include/adr.h` tells more (CUT SHORT, WRITE PASSES).
+/// on, the cartridge is as it was, but for copies of its header, if nothing had been
+/// sent to a user frame, and is else not to be added to. `include/adr.h` tells more (CUT SHORT, WRITE PASSES).
 ///
 /// It is shown as what failed; [`Error::source`] gives the error in it.
 #[derive(Clone, Debug, PartialEq, Eq)]

@@ -71,7 +71,7 @@ impl WriteError {
 
 /// What came of a recording.
 pub struct Recorded {
-    /// Counts of it, up to where the mains went if they did.
+    /// Counts of it; none where the mains went.
     pub summary: Summary,
     /// How many of its elements are on tape, if the tape was full before all were.
     pub full: Option<u64>,
@@ -249,22 +249,19 @@ impl Cartridge {
         &mut self,
         opened: Result<Recorder, Refusal>,
         elements: impl Iterator<Item = Result<Element<'static>, Failure>>,
-        mut progress: impl FnMut(&Summary),
+        progress: impl FnMut(&Summary),
     ) -> Result<Recorded, Failure> {
         self.image_mut().give_back_leavings();
         let cut_after = self.cut_after;
         self.drive.tape_mut().cut_after(cut_after);
-        let mut latest = Summary::default();
-        let update = |summary: &Summary| {
-            latest = *summary;
-            progress(summary);
-        };
         let opened = opened.map_err(RecordError::from);
-        let recorded = opened.and_then(|recorder| record_with(self, recorder, elements, update));
+        let recorded = opened.and_then(|recorder| record_with(self, recorder, elements, progress));
         let (summary, full) = match recorded {
             Ok(summary) => (summary, None),
             Err(RecordError::Full(full)) => (full.summary, Some(full.on_tape)),
-            Err(RecordError::Drive(_)) if self.drive.tape().are_gone() => (latest, None),
+            Err(RecordError::Drive(_)) if self.drive.tape().are_gone() => {
+                (Summary::default(), None)
+            }
             Err(error) => return Err(self.unrecorded(error)),
         };
         Ok(Recorded {

@@ -110,6 +110,11 @@ impl Image {
         self.damaged.iter().copied()
     }
 
+    /// Whether no frame that was read was found damaged.
+    pub fn is_undamaged(&self) -> bool {
+        self.damaged.is_empty()
+    }
+
     /// Where no copy of the header reads: tells a cartridge whose header is
     /// damaged from one that has none.
     pub fn require_blank_headers(&self) -> Result<(), Failure> {

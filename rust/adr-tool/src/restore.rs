@@ -72,7 +72,7 @@ pub fn run(arguments: &Arguments) -> Result<(), Failure> {
     session.tell(path);
     finished.and(Err(Failure::new(format!(
         "{}: the jobs asked for are restored as far as they are whole; \
-         what else the last session was to hold is not on the cartridge",
+         the last session was not closed, and whether it was to hold more is not known",
         path.display()
     ))))
 }

@@ -87,8 +87,9 @@ in force, its other jobs are whole. Names that come again are told.
 --cut-after N is for trying out what a power cut leaves: N frames of this
 session reach the tape, header copies among them, and then the drive is silent.
 Unlike after a power cut of this computer, the image then holds what the tape
-holds, and with --overwrite the jobs that were there are lost. The exit status
-is 1. A session that is done with fewer frames is not cut, and that is told.
+holds: with --overwrite the jobs that were there are lost, and with --append
+nothing can be added behind them any more, as a rule. The exit status is 1. A
+session that is done with fewer frames is not cut, and that is told.
 
   --append        record behind the jobs on the cartridge
   --overwrite     replace the jobs on the cartridge

@@ -2,6 +2,7 @@
 
 mod place;
 
+use place::image::frame_at;
 use place::{bytes, Place, Ran, ADR};
 
 const BLOCK: usize = 32_768;
@@ -269,7 +270,7 @@ fn restores(place: &Place, expected: &Expected) {
             });
             let last = part.unwrap_or(
                 "the jobs asked for are restored as far as they are whole; \
-                 what else the last session was to hold is not on the cartridge\n",
+                 the last session was not closed, and whether it was to hold more is not known\n",
             );
             let end = format!("{}adr: a.adr: {last}", lines(told));
             assert!(restored.error.ends_with(&end), "{}", restored.error);
@@ -487,4 +488,22 @@ fn the_example() {
         lines.for_each(|line| printed.push_str(&format!("# {line}\n")));
     }
     assert_eq!(printed, example);
+}
+
+/// Where a frame of a session that was not closed is damaged, nobody can tell
+/// what it was: no command says that all stands.
+#[test]
+fn damage_behind_a_cut() {
+    let place = monday("cut-damage");
+    cut(&place, &["--append"], COPIES + 2).failed();
+    let image = place.read("a.adr");
+    let address = 10 + elements_of(MONDAY.1);
+    let mut damaged = image.clone();
+    damaged[frame_at(&image, address) + 100] ^= 1;
+    place.write("a.adr", &damaged);
+    for command in ["list", "check", "map"] {
+        let ran = place.adr(&[command, "a.adr"]).failed();
+        let told = format!("{}{}", ran.output_text(), ran.error);
+        assert!(!told.contains(&NOT_CLOSED[1..]), "{command}: {told}");
+    }
 }

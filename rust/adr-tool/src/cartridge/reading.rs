@@ -197,7 +197,7 @@ impl Cartridge {
             Err(ReadError::Sink(failure)) => Err(failure),
             Err(ReadError::Drive(failure)) => Err(found.jobs.place(failure)),
             Err(ReadError::Refused(Refusal::NotFound))
-                if found.cut.is_some() && self.is_undamaged() =>
+                if found.cut.is_some() && self.image().is_undamaged() =>
             {
                 found.end_of_cut_session(reader)
             }
@@ -207,10 +207,5 @@ impl Cartridge {
             }
             Ok(summary) => found.end(reader, &summary, self.latest_number),
         }
-    }
-
-    /// Whether every frame that was read so far is whole.
-    fn is_undamaged(&self) -> bool {
-        self.image().damaged().next().is_none()
     }
 }

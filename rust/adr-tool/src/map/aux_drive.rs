@@ -25,6 +25,11 @@ impl AuxDrive<'_> {
         self.image.geometry()
     }
 
+    /// Whether no frame was found damaged so far.
+    pub fn is_undamaged(&self) -> bool {
+        self.image.is_undamaged()
+    }
+
     /// Reads the frame at the next address, without its block unless it is a
     /// header.
     fn fill(&mut self, frame: &mut [u8]) -> bool {

@@ -97,6 +97,8 @@ fn mark_elements(
     };
     let mut delivered = 0;
     let mut cut = CutSession::of(header, Address(spots.last));
+    // A damaged frame may be the end that is missing.
+    let undamaged = drive.is_undamaged();
     loop {
         let (address, reply) = match reader.fetch() {
             Ok(ReadNext::Send(Command::Read(address))) => {
@@ -106,14 +108,14 @@ fn mark_elements(
             Ok(ReadNext::Send(_) | ReadNext::End) => {
                 return Ok(cut.map_or(whole(delivered, &frame), Reading::Cut))
             }
-            Err(refusal) => return Ok(stopped(refusal, cut)),
+            Err(refusal) => return Ok(stopped(refusal, cut.filter(|_| undamaged))),
         };
         let spot = match reader.reply(reply, &frame) {
             Ok(Delivery::Nothing) => continue,
             Ok(Delivery::Block(_)) => Spot::Block,
             Ok(Delivery::Filemark) => Spot::Filemark,
             Ok(Delivery::End) => Spot::End,
-            Err(refusal) => return Ok(stopped(refusal, cut)),
+            Err(refusal) => return Ok(stopped(refusal, cut.filter(|_| undamaged))),
         };
         match (&mut cut, spot) {
             (None, _) => {}
