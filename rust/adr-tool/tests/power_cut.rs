@@ -497,7 +497,8 @@ fn damage_behind_a_cut() {
     let place = monday("cut-damage");
     cut(&place, &["--append"], COPIES + 2).failed();
     let image = place.read("a.adr");
-    let address = 10 + elements_of(MONDAY.1);
+    // The last frame that stands: behind it there is nothing that could be missed.
+    let address = 10 + elements_of(MONDAY.1) + 1;
     let mut damaged = image.clone();
     damaged[frame_at(&image, address) + 100] ^= 1;
     place.write("a.adr", &damaged);
