@@ -154,7 +154,7 @@ pub read-behind : {last pass : ℕ} {none-bears : Type 0} (earlier : List Elemen
     → take (l .reads .count) (earlier ++ w .notes .accepted) ≡ earlier ++ take (l .reads .count - length earlier) (w .notes .accepted)
 read-behind earlier w l = let floor = l .floor in let least = l .reads .least in take-behind earlier (w .notes .accepted) (l .reads .count) (omega arith)
 
-reads-back : {none-bears : Type 0} (g : Geometry) (last pass : ℕ) (earlier : List Element) (w : recordings.World) → g .segtrk < 2 ^ 16 → g .trks < 2 ^ 16 → lastOf g ≡ address last
+pub reads-back : {none-bears : Type 0} (g : Geometry) (last pass : ℕ) (earlier : List Element) (w : recordings.World) → g .segtrk < 2 ^ 16 → g .trks < 2 ^ 16 → lastOf g ≡ address last
     → Leaves last pass (length earlier) none-bears (w .drive .tape) (promised (noted earlier true w .notes)) (earlier ++ w .notes .accepted) → ReadsBack g last earlier w
 reads-back g last pass earlier w seg trk e l = record {
   count = l .reads .count - length earlier;
@@ -171,7 +171,7 @@ all-read g last earlier w none b =
     subst (λ (xs : List Element). Readable g last (w .drive .tape) (earlier ++ xs)) (ap (λ (n : ℕ). take n (w .notes .accepted)) all ∙ take-length (w .notes .accepted)) (b .readable)
 
 -- above the EOD that they name nothing bears the pass
-left-clear : {last pass n : ℕ} {none-bears : Type 0} {t : Tape} → none-bears → HeadersLeft last pass none-bears n t → (h : List ℕ) → Newest last t h → NoneAbove last t (headerOf h .eod .0) (headerOf h .pass)
+pub left-clear : {last pass n : ℕ} {none-bears : Type 0} {t : Tape} → none-bears → HeadersLeft last pass none-bears n t → (h : List ℕ) → Newest last t h → NoneAbove last t (headerOf h .eod .0) (headerOf h .pass)
 left-clear none l h n a f u above there bears = l .ends .above none a f (omega (arith, l .names h n)) u there (bears ∙ l .passes h n)
 
 -- ---- a reading that has come to its end
@@ -206,7 +206,7 @@ pub record Kept (last pass : ℕ) (on-newest as-it-stands none-in-the-way : Type
   pub whole : Inv last pass on-newest (as-it-stands × none-in-the-way) prior (noted earlier true w)
   pub frames : Inv last pass on-newest none-in-the-way prior (noted earlier false w)
 
-kept-on : {last pass : ℕ} {on-newest as-it-stands none-in-the-way : Type 0} {prior : Prior} {earlier : List Element} {w v : recordings.World} {calls : List recordings.Call}
+pub kept-on : {last pass : ℕ} {on-newest as-it-stands none-in-the-way : Type 0} {prior : Prior} {earlier : List Element} {w v : recordings.World} {calls : List recordings.Call}
     → Kept last pass on-newest as-it-stands none-in-the-way prior earlier w → recordings.Runs w calls v → Kept last pass on-newest as-it-stands none-in-the-way prior earlier v
 kept-on {earlier = earlier} k r = record { set = k .set; whole = runs-keep (k .set) (k .whole) (runs-with earlier true r); frames = runs-keep (k .set) (k .frames) (runs-with earlier false r) }
 

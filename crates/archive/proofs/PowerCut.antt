@@ -164,7 +164,7 @@ module _ (g : Geometry) (last : ℕ) (d : Drive) (s : State) (b : Start g last s
   abbrev prior : Prior
   prior = priorOf last (s .copies .header) (earlierOf b) (startOf b) (d .tape) (AsItStands b (d .tape))
 
-  begun : Kept last pass (OnItsNewest b (d .tape)) (AsItStands b (d .tape)) (NoneInTheWay b (d .tape)) prior (earlierOf b) (recordings.started s window d)
+  pub begun : Kept last pass (OnItsNewest b (d .tape)) (AsItStands b (d .tape)) (NoneInTheWay b (d .tape)) prior (earlierOf b) (recordings.started s window d)
   begun = start-begins g last seg trk e d window cart unwritten rest s b
 
   seen : Seen last pass (earlierOf b) (earlierOf b) (length (earlierOf b)) (startOf b) (d .tape)
@@ -183,7 +183,7 @@ module _ (g : Geometry) (last : ℕ) (d : Drive) (s : State) (b : Start g last s
     };
   }
 
-  intact : Intact last pass prior (d .tape) (earlierOf b ++ w .notes .accepted) (w .drive)
+  pub intact : Intact last pass prior (d .tape) (earlierOf b ++ w .notes .accepted) (w .drive)
   intact =
       runs-kept last pass (OnItsNewest b (d .tape)) (AsItStands b (d .tape) × NoneInTheWay b (d .tape)) prior (begun .set)
       (keeps-intact last pass (OnItsNewest b (d .tape)) (AsItStands b (d .tape) × NoneInTheWay b (d .tape)) prior (same, none) (d .tape) (begun .set .large))

@@ -11,6 +11,7 @@ use Rattle.archive.proofs.Trails.{writes-name-markers, chains-name-mark
 use Rattle.archive.proofs.WorstCase.{worst-case}
 use Rattle.archive.proofs.WorstReached.{worst-reached, worst-on-blank}
 use Rattle.archive.proofs.PowerCut.{power-cut}
+use Rattle.archive.proofs.ClosingCopy.{closing-copy}
 use Rattle.archive.proofs.BeforeFirstCopy.{before-first-copy}
 use Rattle.archive.proofs.SentCommands.{commands-sent}
 use Rattle.archive.proofs.RepliesRefused.{replies-refused}
@@ -37,5 +38,6 @@ promises = record {
   worst-on-blank = worst-on-blank;
   power-cut = power-cut;
   earlier-first = earlier-first;
+  closing-copy = closing-copy;
   before-first-copy = before-first-copy;
 }

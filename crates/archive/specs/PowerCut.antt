@@ -3,7 +3,7 @@
 -- all (archive_lists specs/Conduct: Left). A session that a refusal ended is cut too, and the drive may go on with what it holds.
 use Prim.Native.Nat.{ℕ, _^_, _<_}
 use mathlib.Core.Path.{_≡_}
-use mathlib.Core.Bool.{true}
+use mathlib.Core.Bool.{true, false}
 use mathlib.Core.List.{List, [], _++_}
 use mathlib.Core.Logic.{_⊎_}
 use lib.ListN.{take}
@@ -11,6 +11,7 @@ use Rattle.geometry.specs.Place.{address}
 use Rattle.geometry.specs.Cartridge.{lastOf}
 use Rattle.geometry.specs.declared.cartridge.Geometry.{Geometry}
 use Rattle.frame.specs.Lengths.{dataLength}
+use Rattle.drive.specs.declared.reply.Reply.{Reply}
 use Rattle.header.specs.Valid.{headerOf, updateOf}
 use Rattle.recording_state.specs.declared.state.State.{State}
 use Rattle.reading_state.specs.State.{endOf}
@@ -26,7 +27,7 @@ use Rattle.archive_lists.specs.Openings.{on-header, on-none}
 use Rattle.archive_lists.specs.Fold.{IsFold}
 use Rattle.archive_cuts.specs.Cuts.{FaithfulInPart, Throughout}
 use Rattle.archive.specs.Chain.{Start, fresh, added, earlierOf, OnItsNewest, AsItStands, NoneInTheWay, Way, adding, wayOf}
-use Rattle.archive.specs.Chain.{Chain, Together, acceptedIn, NoneGiven}
+use Rattle.archive.specs.Chain.{ReadsBack, NoneAbove, Chain, Together, acceptedIn, NoneGiven}
 
 -- ---- on which header the later reading is opened
 
@@ -96,6 +97,31 @@ EarlierFirst =
     → g .segtrk < 2 ^ 16 → g .trks < 2 ^ 16 → lastOf g ≡ address last
     → Chain g last begun t xs ns → wayOf b ≡ adding → OnItsNewest b t → AsItStands b t
     → Together xs ns (earlierOf b) × (NoneGiven ns → earlierOf b ≡ xs ++ acceptedIn ns)
+
+-- ---- a closing header that reads
+
+-- the session goes on: no refusal of 8 or more has ended it, and the reply that is on the way, if one is, will not be refused with 8
+pub record GoesOn (w : recordings.World) : Type 0 where
+  pub going : w .session .ended ≡ false
+  pub lawful : (r : Reply) → w .flight ≡ recordings.answered r → recordings.refusal (w .session) (recordings.reply r) ≡ 8 → ⊥
+
+-- as after a close that reported done: a reading gives what was there before, and then what is promised and at most one more; the header is a newest
+-- one, and above the EOD that it names no user frame bears the pass, so that whoever adds next finds none in the way
+pub record AsDone (g : Geometry) (last : ℕ) (s : State) (b : Start g last s) (w : recordings.World) (h : List ℕ) : Type 0 where
+  pub reads-back : ReadsBack g last (earlierOf b) w
+  pub newest : Newest last (w .drive .tape) h
+  pub clear : NoneAbove last (w .drive .tape) (headerOf h .eod .0) (headerOf h .pass)
+
+-- where the power goes and a newer header reads that names an EOD, though done was never answered
+unfoldable pub ClosingCopy : Type 0
+ClosingCopy =
+    (g : Geometry) (last : ℕ) (d : Drive) (s : State) (b : Start g last s) (window : List ℕ) (calls : List recordings.Call) (w : recordings.World)
+    → g .segtrk < 2 ^ 16 → g .trks < 2 ^ 16 → lastOf g ≡ address last
+    → Cartridge last (d .tape) → d .written ≡ [] → AtRest d
+    → recordings.Runs (recordings.started s window d) calls w
+    → OnItsNewest b (d .tape) → AsItStands b (d .tape) → NoneInTheWay b (d .tape) → WindowKept w → GoesOn w
+    → (a : ℕ) (h : List ℕ) → HeaderAt last (w .drive .tape) a h → IsNewer b h → (headerOf h .eod .0 ≡ 0 → ⊥)
+    → AsDone g last s b w h
 
 -- ---- before the first new copy of a header
 

@@ -8,7 +8,7 @@ use Rattle.archive_lists.specs.Fold.{ReadingIsFold, FoldOfUserFrames}
 use Rattle.archive.specs.Chain.{Adds, Chains}
 use Rattle.archive.specs.Trails.{WritesNameMarkers, ChainsNameMarkers}
 use Rattle.archive.specs.WorstCase.{WorstCase, WorstReached, WorstOnBlank}
-use Rattle.archive.specs.PowerCut.{PowerCut, EarlierFirst, BeforeFirstCopy}
+use Rattle.archive.specs.PowerCut.{PowerCut, EarlierFirst, ClosingCopy, BeforeFirstCopy}
 use Rattle.archive.specs.Exchanges.{CommandsSent, RepliesRefused}
 use Rattle.archive_lists.specs.Refusals.{RefusedCalls}
 
@@ -37,7 +37,9 @@ pub record Promises : Type 0 where
   pub worst-case : WorstCase
   pub worst-reached : WorstReached
   pub worst-on-blank : WorstOnBlank
-  -- 02, Card 14: what is read of a cartridge wherever the power went, and what behind closed sessions; before the first new header copy, what was
+  -- 02, Card 14: what is read of a cartridge wherever the power went, behind closed sessions, and where a closing header reads; before the first new
+  -- header copy, what was
   pub power-cut : PowerCut
   pub earlier-first : EarlierFirst
+  pub closing-copy : ClosingCopy
   pub before-first-copy : BeforeFirstCopy

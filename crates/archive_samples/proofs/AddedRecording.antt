@@ -41,12 +41,12 @@ use Rattle.archive_lists.specs.Openings.{on-none}
 use Rattle.archive.specs.Demand.{Readable}
 use Rattle.archive.specs.Chain as chain
 use Rattle.archive.specs.Chain.{NoneAbove, Adds, Continued, Chain, acceptedIn, NoneGiven, ReadTogether, Chains}
-use Rattle.archive_samples.specs.Sample.{geometry, depth, blocks, good, stopped, older, firstOpening, window, firstElements, firstBlock, firstFilemark, firstEod, firstClosing, firstCalls, firstReading, addedOpening, addedElements, addedError, addedFilemark, addedEod, addedClosing, addedCalls}
+use Rattle.archive_samples.specs.Sample.{geometry, depth, blocks, good, stopped, older, firstOpening, window, firstElements, firstBlock, firstFilemark, firstEod, firstClosing, firstCalls, firstReading, addedOpening, addedElements, addedError, addedFilemark, addedEod, addedClosing, throughEod, addedCalls}
 use Rattle.archive_lists.proofs.tape.Basics.{none-some}
 use Rattle.archive_lists.proofs.tape.FoldLaws.{put-other}
-use Rattle.archive_samples.proofs.Exchange.{Step, reported}
+use Rattle.archive_samples.proofs.Exchange.{Step, between, reported}
 use Rattle.archive_samples.proofs.Flush.{buffered, startingOn}
-use Rattle.archive_samples.proofs.Headers.{writing, ending, finished, headersWritten, opening-written-at, closing-written}
+use Rattle.archive_samples.proofs.Headers.{writing, ending, closing, finished, headersWritten, opening-written-at, closing-written}
 use Rattle.archive_samples.proofs.Tapes.{empty, same-reads, headers-elsewhere, headers-newest}
 use Rattle.archive_samples.proofs.Elements.{element-failed}
 use Rattle.archive_samples.proofs.Filemark.{reaches, located, eodDue, eodOnTape, filemark-begun, filemark-taken, filemark-written, eod-written}
@@ -84,10 +84,10 @@ unfolding decisionOf dueOf replyOf replyBy reply.confirmedOf settledOf meaningIn
 filemark-relocated = record { free = refl; sized = refl; decided = refl; replied = refl }
 
 -- and is then written, with EOD behind it
-abbrev marks : List Bool
+abbrev pub marks : List Bool
 marks = located 11999 46 2 firstTrail .marks
 
-abbrev eodWritten : Elements
+abbrev pub eodWritten : Elements
 eodWritten = eodOnTape 11999 80 2 80 firstTrail marks
 
 -- ---- the tape, by what was written
@@ -129,9 +129,10 @@ eod-frame : writtenFrame (ending 0 addedOpening (eodDue 11999 80 2 80 firstTrail
 unfolding writtenFrame writtenElement elementOf elementFrame reply.confirmedOf trailOf
 eod-frame = refl
 
-pub added-runs : (b : List ℕ) → Runs (started addedState window (addedStart b)) addedCalls (addedEnd b)
+-- up to its closing headers
+pub through-eod : (b : List ℕ) {cs : List Call} {u : World} → Runs (between window addedElements (closing 0 addedClosing eodWritten) (addedWritten b)) cs u → Runs (started addedState window (addedStart b)) (throughEod cs) u
 unfolding reply.confirmedOf trailOf
-added-runs b =
+through-eod b rest =
     let t : Tape = addedOpened b .tape in
     let past : List ℕ = addedOpened b .written in
     opening-written-at 0 window window-long addedOpening (asAddress 46) (record { 0 = 2 }) firstTrail (addedStart b)
@@ -139,7 +140,10 @@ added-runs b =
     (element-failed window window-long addedElements t past 46 34 80 (filemark-taken 11999 46 2 46 firstTrail marks addedOpening reaches (lit< tt) (Locate (asAddress 46))) filemark-failed filemark-relocated
     (filemark-written 11999 80 2 80 firstTrail marks addedOpening reaches (lit< tt) addedElements (afterError t) (46 ∷ past) (elementFrame addedFilemark blank) (Locate (asAddress 80)) filemark-frame
     (eod-written 11999 80 2 80 firstTrail marks addedOpening reaches (lit< tt) addedElements (afterMark t) (80 ∷ 46 ∷ past) (elementFrame addedEod blank) eod-frame
-    (closing-written 0 window window-long addedElements eodWritten addedClosing (addedWritten b))))))
+    rest))))
+
+pub added-runs : (b : List ℕ) → Runs (started addedState window (addedStart b)) addedCalls (addedEnd b)
+added-runs b = through-eod b (closing-written 0 window window-long addedElements eodWritten addedClosing (addedWritten b))
 
 -- ---- the premises
 

@@ -15,6 +15,7 @@ pub mod AddedReading
 pub mod CutRecording
 pub mod CutReading
 pub mod UncopiedRecording
+pub mod UnreportedRecording
 pub mod ThirdRecording
 pub mod ThirdReading
 pub mod ThirdTrails

@@ -91,7 +91,7 @@ module _ {last pass : ℕ} {prior : Prior} {spare : ℕ} (set : Setting last pas
     here : HeaderAt last t (y .address) (y .frame)
     here = record { group = y .group; reads = y .reads; valid = copy-valid (y .as-sent) }
 
-    copy-newest : Newest last t (y .frame)
+    pub copy-newest : Newest last t (y .frame)
     copy-newest = record {
       address = y .address;
       here = here;
@@ -108,48 +108,58 @@ module _ {last pass : ℕ} {prior : Prior} {spare : ℕ} (set : Setting last pas
     newest-eod : (f : List ℕ) → Newest last t f → headerOf f .eod .0 ≡ h .eod .0
     newest-eod f n = copy-eod (newest-copy f n)
 
--- ---- done
+behind : {last pass k edge : ℕ} {ps xs : List Element} {t : Tape} (n : ℕ) → k ≡ n + 1 → edge ≡ last + 1 → Seen last pass ps xs k edge t → Seen last pass ps xs (n + 1) (last + 1) t
+behind {last} {pass} {k} {ps = ps} {xs} {t} n q e h = subst (λ (i : ℕ). Seen last pass ps xs i (last + 1) t) q (subst (λ (a : ℕ). Seen last pass ps xs k a t) e h)
 
-module _ {last pass : ℕ} {on-newest none-bears : Type 0} {prior : Prior} {w : World} (set : Setting last pass) (l : Live last pass on-newest none-bears prior w) (done : w .session .stage ≡ S.Done) where
-  headers-left : on-newest → Course last (length (l .list)) w (l .k) (l .edge) → HeadersLeft last pass none-bears (length (l .list)) (w .drive .tape)
-  headers-left p (opening s _ _ _) = never (cc)
-  headers-left p (writing s _ _) = never (cc)
-  headers-left p (closing s _ _ _ _ _) = never (cc)
-  headers-left p (finished s _ _ _ _ _ _ _ _ copy) = record {
+-- ---- a copy of the closing header is on tape
+
+module _ {last pass : ℕ} {on-newest none-bears : Type 0} {prior : Prior} {w : World} (set : Setting last pass) (l : Live last pass on-newest none-bears prior w) (shut : (w .session .stage ≡ S.ClosingHeaders) ⊎ (w .session .stage ≡ S.Done))
+    {bound : ℕ} (copy : Copy (w .session .copies .header) (w .drive .tape) bound) where
+  headers-left : on-newest → HeadersLeft last pass none-bears (length (l .list)) (w .drive .tape)
+  headers-left p = record {
     header = copy .frame;
     newest = copy-newest set (w .session .copies .header) (l .carried) copy (l .below p);
     passes = newest-pass set (w .session .copies .header) (l .carried) copy (l .below p);
     end-at = w .session .copies .header .eod .0;
     names = newest-eod set (w .session .copies .header) (l .carried) copy (l .below p);
-    ends = l .eod-place .named (inr s);
+    ends = l .eod-place .named shut;
   }
 
   -- all that is promised is seen, and EOD behind it
   all-seen : Content last pass (l .list) w (l .k) (l .edge) → Course last (length (l .list)) w (l .k) (l .edge) → Seen last pass (l .list) (w .notes .accepted) (length (l .list) + 1) (last + 1) (w .drive .tape)
-  all-seen content (opening s _ _ _) = never (cc)
-  all-seen content (writing s _ _) = never (cc)
-  all-seen content (closing s _ _ _ _ _) = never (cc)
-  all-seen content (finished _ v _ k edge _ _ _ _ _) =
-      subst (λ (n : ℕ). Seen last pass (l .list) (w .notes .accepted) n (last + 1) (w .drive .tape)) k (subst (λ (n : ℕ). Seen last pass (l .list) (w .notes .accepted) (l .k) n (w .drive .tape)) edge (content .seen))
+  all-seen content (opening s _ _ _) = ⊎-elim (λ z. never (cc)) (λ z. never (cc)) shut
+  all-seen content (writing s _ _) = ⊎-elim (λ z. never (cc)) (λ z. never (cc)) shut
+  all-seen content (closing _ _ _ k edge _) = behind (length (l .list)) k edge (content .seen)
+  all-seen content (finished _ _ _ k edge _ _ _ _ _) = behind (length (l .list)) k edge (content .seen)
+
+  pub completes-so : on-newest → none-bears → w .notes .unaltered ≡ true → Leaves last pass (prior .base) none-bears (w .drive .tape) (promised (w .notes)) (w .notes .accepted)
+  completes-so newest none unaltered =
+      let content = l .content none unaltered in
+      let headers = headers-left newest in
+      let at = headers .ends in
+      subst (λ (xs : List Element). Leaves last pass (prior .base) none-bears (w .drive .tape) xs (w .notes .accepted)) (l .promises .is) (record {
+        cartridge = content .tape;
+        headers = headers;
+        reads = seen-closed (set .large) (headers .end-at) (at .frame) (at .user) (at .reads) (at .stands) (all-seen content (l .course));
+        floor = l .floor .1;
+      })
+
+-- so it is once done
+done-copy : {last n : ℕ} (w : World) {k edge : ℕ} → w .session .stage ≡ S.Done → Course last n w k edge → Copy (w .session .copies .header) (w .drive .tape) (last + 1)
+done-copy w done (opening s _ _ _) = never (cc)
+done-copy w done (writing s _ _) = never (cc)
+done-copy w done (closing s _ _ _ _ _) = never (cc)
+done-copy w done (finished _ _ _ _ _ _ _ _ _ copy) = copy
 
 module _ {last pass : ℕ} {on-newest none-bears : Type 0} {prior : Prior} (w : World) (set : Setting last pass) where
   pub closes : Inv last pass on-newest none-bears prior w → on-newest → w .notes .reported ≡ true → HeadersLeft last pass none-bears (length (promised (w .notes))) (w .drive .tape)
-  closes (live _ l) newest reported = subst (λ (xs : List Element). HeadersLeft last pass none-bears (length xs) (w .drive .tape)) (l .promises .is) (headers-left set l (l .reported reported) newest (l .course))
+  closes (live _ l) newest reported = subst (λ (xs : List Element). HeadersLeft last pass none-bears (length xs) (w .drive .tape)) (l .promises .is) (headers-left set l (inr (l .reported reported)) (done-copy w (l .reported reported) (l .course)) newest)
   closes (rejecting _ d) newest reported = absurd (true≢false (sym reported ∙ d .unreported))
   closes (spent _ x) newest reported = absurd (true≢false (sym reported ∙ x .unreported))
   closes (over _ o) newest reported = absurd (true≢false (sym reported ∙ o .unreported))
 
   pub completes : Inv last pass on-newest none-bears prior w → on-newest → none-bears → w .notes .unaltered ≡ true → w .notes .reported ≡ true → Leaves last pass (prior .base) none-bears (w .drive .tape) (promised (w .notes)) (w .notes .accepted)
-  completes (live wr l) newest none unaltered reported =
-      let content = l .content none unaltered in
-      let headers = headers-left set l (l .reported reported) newest (l .course) in
-      let at = headers .ends in
-      subst (λ (xs : List Element). Leaves last pass (prior .base) none-bears (w .drive .tape) xs (w .notes .accepted)) (l .promises .is) (record {
-        cartridge = content .tape;
-        headers = headers;
-        reads = seen-closed (set .large) (headers .end-at) (at .frame) (at .user) (at .reads) (at .stands) (all-seen set l (l .reported reported) content (l .course));
-        floor = l .floor .1;
-      })
+  completes (live wr l) newest none unaltered reported = completes-so set l (inr (l .reported reported)) (done-copy w (l .reported reported) (l .course)) newest none unaltered
   completes (rejecting _ d) newest none unaltered reported = absurd (true≢false (sym reported ∙ d .unreported))
   completes (spent _ x) newest none unaltered reported = absurd (true≢false (sym reported ∙ x .unreported))
   completes (over _ o) newest none unaltered reported = absurd (true≢false (sym reported ∙ o .unreported))

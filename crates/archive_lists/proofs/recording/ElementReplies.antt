@@ -204,6 +204,8 @@ module _ {last pass : ℕ} {on-newest none-bears : Type 0} {prior : Prior} (w : 
               count-fits = let h = l .carried .count-fits in omega (arith, count-up, ap spareOf st);
               late = inr (subst (λ (n : ℕ). prior .start ≤ n) (sym (from-named (toldOf (closingHeader stepped)) (user-some last (e .next .0 - 1) (on-tape .2)))) end-late);
               newer = omega (arith, l .carried .newer, count-up);
+              counts = omega (arith, l .carried .counts, count-up, ap spareOf st);
+              unnamed = λ spare. absurd (omega arith);
             };
             course = inv.closing refl (s .eod-is ∙ v) closed all-on refl (record {
               counts = start-counts (closingHeader stepped);

@@ -30,6 +30,9 @@ pub record Carried (last pass : ℕ) (prior : Prior) (spare : ℕ) (h : Header) 
   pub count-fits : h .update + spare < 2 ^ 32
   pub late : Late (prior .start) h
   pub newer : prior .least ≤ h .update
+  -- an opening header has one count to spare, and names no EOD
+  pub counts : h .update + spare ≡ prior .least + 1
+  pub unnamed : spare ≡ 1 → h .eod .0 ≡ 0
 
 -- a copy of the header reads at a header's address below a bound
 pub record Copy (h : Header) (t : Tape) (bound : ℕ) : Type 0 where

@@ -284,6 +284,8 @@ begins last d window earlier kept at s x on-newest none-bears same set unwritten
         count-fits = x .count-fits;
         late = x .late;
         newer = le-refl (x .header .update);
+        counts = refl;
+        unnamed = λ _. x .eod-zero;
       });
       course = subst (λ (r : State). inv.Course last (length (earlier ++ [])) (noted earlier kept (recordings.started r window d)) (length earlier) (at)) (x .is)
           (inv.opening refl refl (record { first-is = x .number-is; none-out = refl; relocates = refl; target-is = refl; roof = x .roof; zone = x .zone; spread = x .spread }) (record {
