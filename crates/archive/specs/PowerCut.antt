@@ -100,19 +100,20 @@ EarlierFirst =
 
 -- ---- a closing header that reads
 
--- the session goes on: no refusal of 8 or more has ended it, and the reply that is on the way, if one is, will not be refused with 8
+-- the session goes on: it is not ended, or a close has taken it up again behind a 9 (request 6); and the reply that the drive has given and nobody has
+-- brought, if there is one, will not be refused with 8
 pub record GoesOn (w : recordings.World) : Type 0 where
   pub going : w .session .ended ≡ false
   pub lawful : (r : Reply) → w .flight ≡ recordings.answered r → recordings.refusal (w .session) (recordings.reply r) ≡ 8 → ⊥
 
--- as after a close that reported done: a reading gives what was there before, and then what is promised and at most one more; the header is a newest
--- one, and above the EOD that it names no user frame bears the pass, so that whoever adds next finds none in the way
+-- three things that hold after a close that reported done: a reading gives what was there before, and then what is promised and at most one more; the
+-- header is a newest one; and above the EOD that it names no user frame bears the pass, so that whoever adds next finds none in the way
 pub record AsDone (g : Geometry) (last : ℕ) (s : State) (b : Start g last s) (w : recordings.World) (h : List ℕ) : Type 0 where
   pub reads-back : ReadsBack g last (earlierOf b) w
   pub newest : Newest last (w .drive .tape) h
   pub clear : NoneAbove last (w .drive .tape) (headerOf h .eod .0) (headerOf h .pass)
 
--- where the power goes and a newer header reads that names an EOD, though done was never answered
+-- under the conditions of PowerCut, of a session that goes on: where a newer header reads that names an EOD, whether done was answered or not
 unfoldable pub ClosingCopy : Type 0
 ClosingCopy =
     (g : Geometry) (last : ℕ) (d : Drive) (s : State) (b : Start g last s) (window : List ℕ) (calls : List recordings.Call) (w : recordings.World)
@@ -142,8 +143,8 @@ pub record AsBefore (g : Geometry) (last : ℕ) (old t : Tape) : Type 0 where
       → IsFold (toldOf (headerOf h)) old r
 
 -- as long as no tape from the opening on held a newer header. The last tape alone would not tell: closing headers may spoil the only new copy when user
--- frames are long written. That the header opened on was a newest one is the first case of this; opened on none, there was none. Nothing is asked of
--- the window, nor of what the frames on the tape bear
+-- frames are long written. That none counted higher than the header opened on is part of this, for the tape at the opening is one of them; opened on none,
+-- there was none. Nothing is asked of the window, nor of what the frames on the tape bear
 unfoldable pub BeforeFirstCopy : Type 0
 BeforeFirstCopy =
     (g : Geometry) (last : ℕ) (d : Drive) (s : State) (b : Start g last s) (window : List ℕ) (calls : List recordings.Call) (w : recordings.World)

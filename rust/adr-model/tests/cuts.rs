@@ -95,12 +95,14 @@ fn planted_faults_are_found() {
 
 /// How each shows. An opening header that names the old EOD, and a closing one
 /// without an EOD on tape, lose nothing that a cut must leave: they show in that
-/// the header names an end which is none.
+/// the header names an end which is none; a closing one that counts as high as
+/// the opening ones, in that these are as new.
 #[test]
 fn what_shows_them() {
     for (fault, shown) in [
         (Fault::OldEodNamed, "the EOD named is not the end"),
         (Fault::ClosedBeforeEod, "the EOD named is not the end"),
+        (Fault::UpdateCountKept, "another header counts as high"),
         (
             Fault::ElementsBeforeHeaders,
             "altered before a newer header",

@@ -8,8 +8,9 @@
 //! cartridge is as it was.
 //!
 //! Beyond that, a newer header that names an EOD is one of a recording that is
-//! whole on tape: a reading comes to that EOD and gives all that was promised.
-//! So no recording is added at an end that frames of a cut one stand behind.
+//! whole on tape: a reading comes to that EOD and gives all that was promised, no
+//! other header counts as high, and no frame above that EOD bears the pass. So no recording
+//! is added at an end that frames of a cut one stand behind.
 
 use std::collections::BTreeSet;
 use std::sync::Arc;
@@ -214,7 +215,8 @@ impl<'a, L: Layer> Looked<'a, L> {
         let later: Vec<&HeaderCopy> = later.collect();
         for copy in unlike(later.iter().copied()) {
             let came_to = self.read(copy.fields, place)?;
-            self.may_come_to(&copy.fields, came_to, place.accepted)
+            self.may_come_to(came_to, place.accepted)
+                .and_then(|()| self.is_as_done(&copies, &copy.fields, came_to))
                 .map_err(|wrong| format!("{wrong}: {came_to:?} on {:?}", copy.fields))?;
         }
         if self.random.chance(CALLED) {
@@ -251,12 +253,7 @@ impl<'a, L: Layer> Looked<'a, L> {
         kept.finish(tape, &mut due)
     }
 
-    fn may_come_to(
-        &mut self,
-        header: &HeaderFields,
-        came_to: CameTo,
-        accepted: usize,
-    ) -> Result<(), String> {
+    fn may_come_to(&mut self, came_to: CameTo, accepted: usize) -> Result<(), String> {
         let opening = &self.before.opening;
         if !(opening.elements().len()..=accepted).contains(&came_to.delivered) {
             return Err(format!("{accepted} accepted, other deliveries"));
@@ -268,9 +265,29 @@ impl<'a, L: Layer> Looked<'a, L> {
             _ => return Err("another end".into()),
         };
         self.note(how);
-        let whole = came_to.end == Some(header.eod) && self.recorded.may_read(came_to.delivered);
-        if self.is_newer(header) && header.eod != Address(0) && !whole {
+        Ok(())
+    }
+
+    /// On a newer header that names an EOD the tape is as after a close that
+    /// reported done.
+    fn is_as_done(
+        &self,
+        copies: &[HeaderCopy],
+        header: &HeaderFields,
+        came_to: CameTo,
+    ) -> Result<(), String> {
+        if !self.is_newer(header) || header.eod == Address(0) {
+            return Ok(());
+        }
+        if came_to.end != Some(header.eod) || !self.recorded.may_read(came_to.delivered) {
             return Err("the EOD named is not the end of all that was promised".into());
+        }
+        let mut others = copies.iter().filter(|copy| copy.fields != *header);
+        if others.any(|copy| copy.fields.update_count >= header.update_count) {
+            return Err("another header counts as high as one that names an EOD".into());
+        }
+        if !none_above(&self.tape, header) {
+            return Err("a frame above the EOD named bears the pass".into());
         }
         Ok(())
     }
