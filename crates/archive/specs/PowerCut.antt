@@ -120,7 +120,8 @@ ClosingCopy =
     → g .segtrk < 2 ^ 16 → g .trks < 2 ^ 16 → lastOf g ≡ address last
     → Cartridge last (d .tape) → d .written ≡ [] → AtRest d
     → recordings.Runs (recordings.started s window d) calls w
-    → OnItsNewest b (d .tape) → AsItStands b (d .tape) → NoneInTheWay b (d .tape) → WindowKept w → GoesOn w
+    → OnItsNewest b (d .tape) → AsItStands b (d .tape) → NoneInTheWay b (d .tape)
+    → WindowKept w → GoesOn w
     → (a : ℕ) (h : List ℕ) → HeaderAt last (w .drive .tape) a h → IsNewer b h → (headerOf h .eod .0 ≡ 0 → ⊥)
     → AsDone g last s b w h
 
