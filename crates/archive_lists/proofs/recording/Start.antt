@@ -118,29 +118,36 @@ module _ (g : Geometry) (last depth blocks tail : ℕ) (s : State) (e : lastOf g
       let x = or-false (leb 65534 (headerOf h .pass)) (ltb 4294967293 (headerOf h .update)) (o .with .2) in
       (leb-false 65534 (headerOf h .pass) (x .0), ltb-false 4294967293 (headerOf h .update) (x .1))
 
+  -- a recording of its own, by the header that it goes out with
+  started-afresh : 3000 ≤ last → (x : Header) → fresh (setupOf depth blocks tail) x ≡ s → Fitting depth blocks
+      → x .last .0 ≡ last → x .pass ≤ 65534 → x .eod .0 ≡ 0 → x .old .0 ≡ 0 → x .update + 1 < 2 ^ 32 → Started last [] 10 s
+  started-afresh large x is sizes last-is pass-low eod-zero old-zero count-fits = record {
+    setup = setupOf depth blocks tail;
+    header = x;
+    number = asSeq 0;
+    trail = noTrail;
+    is = is;
+    narrow = let y = sizes .few in omega arith;
+    last-is = last-is;
+    pass-low = pass-low;
+    eod-zero = eod-zero;
+    old-low = omega (arith, old-zero);
+    number-is = refl;
+    roof = omega arith;
+    zone = inl (omega arith);
+    spread = le-refl 10;
+    late = inl (le-refl 10);
+    count-fits = count-fits;
+  }
+
   started-header : 3000 ≤ last → (h : List ℕ) → OnHeader h → Started last [] 10 s
   started-header large h o =
       let x = fresh-counts h o in
       let small : (headerOf h .pass + 1) % 2 ^ 16 ≡ headerOf h .pass + 1 = mod-eq-of-lt (let y = x .0 in omega arith) in
       let few : (headerOf h .update + 1) % 2 ^ 32 ≡ headerOf h .update + 1 = mod-eq-of-lt (let y = x .1 in omega arith) in
-      record {
-        setup = setupOf depth blocks tail;
-        header = renewed (headerOf h);
-        number = asSeq 0;
-        trail = noTrail;
-        is = o .with .0;
-        narrow = let y = o .with .1 .few in omega arith;
-        last-is = valid-last last h (o .valid);
-        pass-low = let y = x .0 in omega (arith, small);
-        eod-zero = refl;
-        old-low = omega arith;
-        number-is = refl;
-        roof = omega arith;
-        zone = inl (omega arith);
-        spread = le-refl 10;
-        late = inl (le-refl 10);
-        count-fits = let y = x .1 in omega (arith, few);
-      }
+      let pass-low : renewed (headerOf h) .pass ≤ 65534 = let y = x .0 in omega (arith, small) in
+      let count-fits : renewed (headerOf h) .update + 1 < 2 ^ 32 = let y = x .1 in omega (arith, few) in
+      started-afresh large (renewed (headerOf h)) (o .with .0) (o .with .1) (valid-last last h (o .valid)) pass-low refl refl count-fits
 
   blank-with : openBlankOf g depth blocks tail ≡ accepting s → (fresh (setupOf depth blocks tail) (openingHeader (asAddress last) 1 0) ≡ s) × Fitting depth blocks × (false ≡ false)
   unfolding openBlankOf
@@ -149,24 +156,7 @@ module _ (g : Geometry) (last depth blocks tail : ℕ) (s : State) (e : lastOf g
   started-none : 3000 ≤ last → openBlankOf g depth blocks tail ≡ accepting s → Started last [] 10 s
   started-none large q =
       let o = blank-with q in
-      record {
-        setup = setupOf depth blocks tail;
-        header = openingHeader (asAddress last) 1 0;
-        number = asSeq 0;
-        trail = noTrail;
-        is = o .0;
-        narrow = let y = o .1 .few in omega arith;
-        last-is = refl;
-        pass-low = omega arith;
-        eod-zero = refl;
-        old-low = omega arith;
-        number-is = refl;
-        roof = omega arith;
-        zone = inl (omega arith);
-        spread = le-refl 10;
-        late = inl (le-refl 10);
-        count-fits = omega arith;
-      }
+      started-afresh large (openingHeader (asAddress last) 1 0) (o .0) (o .1) refl (omega arith) refl refl (omega arith)
 
   pub started-as : 3000 ≤ last → (o : Opening) → opened g depth blocks tail o ≡ accepting s → Started last [] 10 s
   started-as large (on-header h) q = started-header large h (on-header-view h q)
