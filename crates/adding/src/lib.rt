@@ -4,9 +4,9 @@ ghost use Rattle.recording.specs.Recording.{outcomeSaid};
 ghost use Rattle.recording_state.specs.Open.{openRefused};
 ghost use Rattle.adding_opening.specs.AtEnd.{openAtEndOf};
 use geometry::Refusal;
-use opening::refuse_opening;
 use reading::Reading;
 use recording::Outcome;
+use recording_opening::refuse_opening;
 
 // At the end of a reading, for a drive that buffers `depth` frames, with a window of `blocks` blocks, the last `tail` frames kept for EOD. The reading is
 // not used up.

@@ -5,11 +5,11 @@ ghost use Rattle.adding_opening.specs.AtEnd.{endsElsewhere, addedSession
 use carried_headers::add_to;
 use carried_headers::is_counted_out;
 use geometry::Refusal;
-use opening::is_misfit;
-use opening::refuse_opening;
-use opening::session_at;
-use opening::setup_of;
 use reading_state;
+use recording_opening::is_misfit;
+use recording_opening::refuse_opening;
+use recording_opening::session_at;
+use recording_opening::setup_of;
 use recording_state::Outcome;
 use recording_state::Setup;
 use recording_state::State;

@@ -63,14 +63,14 @@ impl Recording {
     pub fn open(g: Geometry, depth: u8, blocks: u8, tail: u8, header: &[u8]) -> Outcome
         ensures { λ r. ⌜ outcomeSaid r ≡ openOf g depth blocks tail (now (header .entry)) ⌝ }
     {
-        Outcome::of(opening::open(g, depth, blocks, tail, header))
+        Outcome::of(recording_opening::open(g, depth, blocks, tail, header))
     }
 
     // On a cartridge that holds no valid header.
     pub fn open_blank(g: Geometry, depth: u8, blocks: u8, tail: u8) -> Outcome
         ensures { λ r. ⌜ outcomeSaid r ≡ openBlankOf g depth blocks tail ⌝ }
     {
-        Outcome::of(opening::open_blank(g, depth, blocks, tail))
+        Outcome::of(recording_opening::open_blank(g, depth, blocks, tail))
     }
 
     // Accepts a filemark.
@@ -78,7 +78,7 @@ impl Recording {
         ensures { λ r. ⌜ outcomeSaid r ≡ filemarkOf (self .state) ⌝ }
     {
         let s = self.state;
-        Outcome::of(accepting::accept_filemark(s))
+        Outcome::of(recording_accepting::accept_filemark(s))
     }
 
     // Accepts a block and stores it in the window, where it stays until it is known to be on tape.
@@ -86,7 +86,7 @@ impl Recording {
         ensures { λ r. ⌜ storedSaid r (now (window .exit)) ≡ blockOf (self .state) (now (block .entry)) (now (window .entry)) ⌝ }
     {
         let s = self.state;
-        Outcome::of(storing::accept_block(s, block, window))
+        Outcome::of(recording_accepting::accept_block(s, block, window))
     }
 
     // No element is accepted any more; EOD and the closing headers follow. After a 9 for an element, where a tail is kept, it may be called
@@ -95,7 +95,7 @@ impl Recording {
         ensures { λ r. ⌜ outcomeSaid r ≡ closeOf (self .state) ⌝ }
     {
         let s = self.state;
-        Outcome::of(accepting::close(s))
+        Outcome::of(recording_accepting::close(s))
     }
 
     // The next command, or idle, or done. The window is lent as the accepts left it; the frame is written only for a WRITE, and then all of it.
@@ -103,7 +103,7 @@ impl Recording {
         ensures { λ r. ⌜ fetchedSaid r (now (frame .exit)) ≡ fetchOf (self .state) (now (window .entry)) (now (frame .entry)) ⌝ }
     {
         let s = self.state;
-        Fetched::of(fetching::fetch(s, window, frame))
+        Fetched::of(recording_fetching::fetch(s, window, frame))
     }
 
     // Brings the reply to the last command.
@@ -111,6 +111,6 @@ impl Recording {
         ensures { λ r. ⌜ outcomeSaid r ≡ replyOf (self .state) reply ⌝ }
     {
         let s = self.state;
-        Outcome::of(replying::reply(s, reply))
+        Outcome::of(recording_replying::reply(s, reply))
     }
 }
