@@ -122,7 +122,7 @@ static void no_session(void)
     struct adr_read_fetched rf = adr_read_fetch(r);
     expect("refused with 7", rf.answer == ADR_REFUSED && rf.number == ADR_WRONG_PHASE);
     same_reading(rf.session, r);
-    struct adr_read_taken rt = adr_read_reply(r, reply, frame, sizeof frame);
+    struct adr_read_replied rt = adr_read_reply(r, reply, frame, sizeof frame);
     expect("refused with 7", rt.answer == ADR_REFUSED && rt.number == ADR_WRONG_PHASE);
     same_reading(rt.session, r);
 }
@@ -389,10 +389,10 @@ static struct adr_reading reading(void)
 }
 
 /* A reply to a reading is answered so, and alters it to what is expected. */
-static void taken(struct adr_reading s, struct adr_reply reply, const uint8_t *frame,
-                  uint8_t answer, uint8_t number, struct adr_reading expected)
+static void replied_to(struct adr_reading s, struct adr_reply reply, const uint8_t *frame,
+                       uint8_t answer, uint8_t number, struct adr_reading expected)
 {
-    struct adr_read_taken t = adr_read_reply(s, reply, frame, ADR_FRAME_LENGTH);
+    struct adr_read_replied t = adr_read_reply(s, reply, frame, ADR_FRAME_LENGTH);
     expect("a reading's reply", t.answer == answer && t.number == number);
     same_reading(t.session, expected);
 }
@@ -422,7 +422,7 @@ static void located(void)
 
     struct adr_reading expected = s;
     expected.exchange.awaiting = expected.position.locate = 0;
-    taken(s, sense(0, 0, 0), frame, ADR_NOTHING, 0, expected);
+    replied_to(s, sense(0, 0, 0), frame, ADR_NOTHING, 0, expected);
 }
 
 static void delivered(void)
@@ -433,15 +433,15 @@ static void delivered(void)
     expected.expected = 1001;
     expected.trail.filemarks++;
     expected.trail.marker = 500;
-    taken(s, sense(0, 0, 0), frame, ADR_FILEMARK, 0, expected);
+    replied_to(s, sense(0, 0, 0), frame, ADR_FILEMARK, 0, expected);
 
     expected = s;
     expected.ended = 1;
-    taken(s, sense(0x00, 0x00, 0x02), frame, ADR_REFUSED, ADR_NOT_FOUND, expected);
+    replied_to(s, sense(0x00, 0x00, 0x02), frame, ADR_REFUSED, ADR_NOT_FOUND, expected);
 }
 
 /* An EOD at 500 ends a reading if the header names an end up to there: its EOD
-   or, where that is 0, the end that was added at. */
+   or, if it names none, the end that was added at. */
 static void end_named(uint32_t eod, uint32_t old, int ends)
 {
     static uint8_t frame[ADR_FRAME_LENGTH];
@@ -451,7 +451,7 @@ static void end_named(uint32_t eod, uint32_t old, int ends)
     written_frame(1, frame);
     expected = passed(s);
     expected.finished = ends;
-    taken(s, sense(0, 0, 0), frame, ends ? ADR_END : ADR_NOTHING, 0, expected);
+    replied_to(s, sense(0, 0, 0), frame, ends ? ADR_END : ADR_NOTHING, 0, expected);
 }
 
 static void ends(void)

@@ -2,7 +2,7 @@
 #   adr_trail: filemarks u32, marker u32
 # A line of a struct that is not understood is written as it is, so that it agrees with no other. A crate's struct crosses to C if it is marked so; any other is passed over.
 
-# AdrReadTaken and ReadTaken as adr_read_taken.
+# AdrReadReplied and ReadReplied as adr_read_replied.
 function c_name(name) {
     if (name ~ /^adr_/)
         return name

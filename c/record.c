@@ -436,15 +436,15 @@ static struct delivered deliver(struct drive *drive, struct adr_reading *session
         if (fetched.answer != ADR_COMMAND)
             return delivered;
         struct adr_reply reply = send(drive, fetched.command, frame);
-        struct adr_read_taken taken =
+        struct adr_read_replied replied =
             adr_read_reply(fetched.session, reply, frame, sizeof frame);
-        *session = taken.session;
-        delivered.number = taken.number;
-        if (taken.answer == ADR_REFUSED)
+        *session = replied.session;
+        delivered.number = replied.number;
+        if (replied.answer == ADR_REFUSED)
             return delivered;
-        if (taken.answer != ADR_BLOCK && taken.answer != ADR_FILEMARK)
+        if (replied.answer != ADR_BLOCK && replied.answer != ADR_FILEMARK)
             continue;
-        if (!is_as_recorded(taken.answer, frame, first + delivered.count, turn)) {
+        if (!is_as_recorded(replied.answer, frame, first + delivered.count, turn)) {
             delivered.number = NOT_AS_RECORDED;
             return delivered;
         }

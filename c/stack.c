@@ -54,7 +54,7 @@ static int record(struct adr_record_outcome o, uint32_t bad_spot)
 static int read_back(int count)
 {
     struct adr_read_opened o = adr_read_open(geometry, tape[HEADER], sizeof tape[HEADER]);
-    struct adr_read_taken t = { o.session, ADR_NOTHING, o.number };
+    struct adr_read_replied t = { o.session, ADR_NOTHING, o.number };
     int blocks = 0, filemarks = 0;
     while (!t.number) {
         struct adr_read_fetched f = adr_read_fetch(t.session);

@@ -104,7 +104,7 @@
    A READING. The replies deliver the elements, and there is nothing to close:
 
        struct adr_read_opened o = adr_read_open(g, header, sizeof header);
-       struct adr_read_taken t = { o.session, ADR_NOTHING, o.number };
+       struct adr_read_replied t = { o.session, ADR_NOTHING, o.number };
        while (!t.number) {
            struct adr_read_fetched f = adr_read_fetch(t.session);
            t.number = f.number;
@@ -120,12 +120,12 @@
 
    After it t.number is 0 if everything was read, else the refusal.
 
-   ADDING. A recording may begin at the end that a reading on the newest header
-   has found, behind what the cartridge holds. What the reading delivers need
+   ADDING. A recording may begin where a reading on the newest header has come to
+   its end, behind what the cartridge holds. What the reading delivers need
    not be looked at:
 
        struct adr_read_opened r = adr_read_open(g, header, sizeof header);
-       struct adr_read_taken t = { r.session, ADR_NOTHING, r.number };
+       struct adr_read_replied t = { r.session, ADR_NOTHING, r.number };
        while (!t.number && t.answer != ADR_END) {
            struct adr_read_fetched f = adr_read_fetch(t.session);
            t.number = f.number;
@@ -199,24 +199,24 @@
 
    CUT SHORT. A recording is cut short where the mains go, where a reply can't be
    had, where the host leaves the session, and where 8, 9 or 12 ended it; a 9
-   only if no close after it came to ADR_DONE. The frame that was being written
-   then reads as before, as the new one or not at all, and the drive may still
-   write what it holds. What stands can be read: find the newest header again and
-   open a reading on it.
-     - Of an addition, while a copy of the header that it was opened on or a
-       newer one reads: the reading first delivers everything that the sessions
-       before it hold, and then elements of the one that was cut short, from its
-       first on and in order.
+   only if no close after it came to ADR_DONE. At the address that was being
+   written the old frame, the new one or nothing is read then, and the drive may
+   still write what it holds. What stands can be read: find the newest header
+   again and open a reading on it.
+     - Of an addition, if that header is a copy of the one that it was opened on,
+       or newer: the reading first delivers everything that the sessions before
+       it hold, and then elements of the one that was cut short, from its first
+       on and in order.
      - Of a fresh recording, on a header copy of its own: the same, with nothing
        before it, though frames of an earlier recording may stand. Before its
-       first copy was written the cartridge reads as it did, while a copy of its
-       newest header does.
+       first copy was written the reading delivers what it did before, if a
+       copy of the header that told of it is left.
    Nothing else is delivered, and the reading is never refused with 8, 10 or 11.
    It comes to ADR_END where the addition began or at an EOD that was written in
    the session; or it is refused with 12, as no end is found, and then what was
    delivered is as good as before ADR_END. How many elements of the session come
    is not promised, not even of those known to be on tape: where the write at the
-   old end failed, the old EOD may still read, and the reading ends there. So
+   old end failed and the old EOD still reads, the reading ends there. So
    record again all that was accepted, or what is missing of it. All this needs
    what a reading after ADR_DONE needs, too: that the session was opened as WRITE
    PASSES and adr_record_open_at_end want it, and that the window was lent each
@@ -288,7 +288,7 @@ extern "C" {
 #define ADR_VERSION_MINOR 1
 #define ADR_VERSION_PATCH 0
 
-/* Lengths in bytes. A frame is 32,768 bytes of data, then 512 of AUX. A window
+/* Lengths in bytes. A frame has as many data bytes as a block, then 512 of AUX. A window
    of W blocks is W times a block. */
 #define ADR_BLOCK_LENGTH 32768
 #define ADR_FRAME_LENGTH 33280
@@ -307,7 +307,7 @@ extern "C" {
 #define ADR_MISSING 10       /* an element is missing on tape */
 #define ADR_FOREIGN 11       /* a frame was not written in this format */
 #define ADR_NOT_FOUND 12     /* no header copy could be written; no end was found */
-#define ADR_END_ELSEWHERE 13 /* the header does not name the end that a reading found */
+#define ADR_END_ELSEWHERE 13 /* the header does not name the end at which the reading is */
 
 /* Answers of fetches and of a reading's replies: the member 'answer'. */
 #define ADR_REFUSED 0  /* 'number' says why */
@@ -414,7 +414,7 @@ struct adr_copies {
     struct adr_header header; /* what the copies say */
     uint8_t group;            /* the group of the next copy, 0 or 1 */
     uint8_t copy;             /* its number in the group; 5 behind the last */
-    uint8_t outstanding;      /* of this group: taken by the drive, not known on tape */
+    uint8_t outstanding;      /* of this group: taken by the drive and not confirmed */
     uint8_t confirmed;        /* of both groups: known on tape */
     uint8_t locate;           /* a LOCATE of the next copy's address comes first */
 };
@@ -501,11 +501,14 @@ struct adr_read_fetched {
     uint8_t number;
 };
 
-struct adr_read_taken {
+struct adr_read_replied {
     struct adr_reading session;
     uint8_t answer; /* ADR_NOTHING, ADR_BLOCK, ADR_FILEMARK, ADR_END or ADR_REFUSED */
     uint8_t number;
 };
+
+/* The name that this struct had before, for programs that use it. */
+#define adr_read_taken adr_read_replied
 
 /* THE CARTRIDGE */
 
@@ -523,8 +526,8 @@ uint8_t adr_is_user(uint32_t last, uint32_t address);
    modulo 5, groups modulo 2. */
 uint32_t adr_header_address(uint32_t group, uint32_t copy);
 
-/* The newer of two header frames, each of ADR_FRAME_LENGTH bytes. An invalid
-   one gives way to a valid one; of equal ones the first is taken. A header
+/* The newer of two header frames, each of ADR_FRAME_LENGTH bytes. If one is
+   not valid the other is the newer; of equal ones the first is. A header
    given twice is refused with 3 only if it is not valid. Refused with 1, 2,
    or 3 where neither is valid or both have the same update count and unlike
    data.
@@ -686,8 +689,8 @@ struct adr_read_fetched adr_read_fetch(struct adr_reading s);
    ADR_FRAME_LENGTH bytes. A reply that brings no frame is lent a buffer of
    that length all the same, whose bytes are not looked at. Refused with 7
    (none is awaited), 1, 8, 10, 11 or 12. */
-struct adr_read_taken adr_read_reply(struct adr_reading s, struct adr_reply reply,
-                                     const uint8_t *frame, size_t frame_length);
+struct adr_read_replied adr_read_reply(struct adr_reading s, struct adr_reply reply,
+                                       const uint8_t *frame, size_t frame_length);
 
 /* IN WORDS. Constant strings, for messages and logs. */
 
@@ -891,10 +894,10 @@ ADR_OFFSET(adr_read_fetched, command, 56);
 ADR_OFFSET(adr_read_fetched, answer, 64);
 ADR_OFFSET(adr_read_fetched, number, 65);
 
-ADR_SIZE(adr_read_taken, 60);
-ADR_OFFSET(adr_read_taken, session, 0);
-ADR_OFFSET(adr_read_taken, answer, 56);
-ADR_OFFSET(adr_read_taken, number, 57);
+ADR_SIZE(adr_read_replied, 60);
+ADR_OFFSET(adr_read_replied, session, 0);
+ADR_OFFSET(adr_read_replied, answer, 56);
+ADR_OFFSET(adr_read_replied, number, 57);
 
 #undef ADR_OFFSET
 #undef ADR_SIZE

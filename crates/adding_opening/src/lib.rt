@@ -1,4 +1,4 @@
-// Opening a recording at the end that a reading found, on the states of both sessions.
+// Opening a recording behind what a reading has delivered, on the states of both sessions.
 ghost use mathlib.Core.Path.{_≡_};
 ghost use Rattle.recording_state.specs.State.{outcomeSaid};
 ghost use Rattle.adding_opening.specs.AtEnd.{endsElsewhere, addedSession, openAtEndOf};
@@ -42,8 +42,8 @@ fn added_session(setup: Setup, reading: reading_state::State) -> State
     )
 }
 
-// At the end of a reading, for a drive that buffers `depth` frames, with a window of `blocks` blocks, the last `tail` frames kept for EOD. The reading is
-// not used up.
+// Opens a recording at the end of a reading, for a drive that buffers `depth` frames, with a window of `blocks` blocks and the last `tail`
+// frames kept for EOD. The reading is not used up.
 pub fn open_at_end(reading: reading_state::State, depth: u8, blocks: u8, tail: u8) -> Outcome
     ensures { λ r. ⌜ outcomeSaid r ≡ openAtEndOf reading depth blocks tail ⌝ }
 {

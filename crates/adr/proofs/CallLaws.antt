@@ -13,13 +13,13 @@ use Rattle.recording.specs.declared.recording.Outcome.{Outcome}
 use Rattle.recording.specs.declared.recording.Fetched as recording-fetched
 use Rattle.recording.specs.Recording as recording
 use Rattle.recording_twins.specs.declared.recording_numbers.AdrRecording.{AdrRecording}
-use Rattle.recording_twins.specs.Recording.{isRecording, recordingOf, recordingTwin}
+use Rattle.recording_twins.specs.Recording.{isRecording, recordingStateOf, recordingStateTwin}
 use Rattle.recording_answers.specs.declared.recording_answers.AdrRecordOutcome.{AdrRecordOutcome}
 use Rattle.recording_answers.specs.declared.recording_answers.AdrRecordFetched.{AdrRecordFetched}
 use Rattle.recording_answers.specs.Recording.{outcomeTwin, unknown, fetchedTwin, unknownFetch}
 use Rattle.adr.specs.Record.{through, stored, storedTwin, blockThrough, fetched, lentTwin, fetchThrough}
 
-pub through-known : (call : State → OutcomeSaid) (s : AdrRecording) → isRecording s ≡ true → through call s ≡ outcomeTwin (call (recordingOf s))
+pub through-known : (call : State → OutcomeSaid) (s : AdrRecording) → isRecording s ≡ true → through call s ≡ outcomeTwin (call (recordingStateOf s))
 unfolding through
 through-known call s h = pick-t _ h
 
@@ -27,7 +27,7 @@ pub through-unknown : (call : State → OutcomeSaid) (s : AdrRecording) → isRe
 unfolding through
 through-unknown call s h = pick-f _ h
 
-pub block-known : (s : AdrRecording) (block window : List ℕ) → isRecording s ≡ true → blockThrough s block window ≡ storedTwin (blockOf (recordingOf s) block window)
+pub block-known : (s : AdrRecording) (block window : List ℕ) → isRecording s ≡ true → blockThrough s block window ≡ storedTwin (blockOf (recordingStateOf s) block window)
 unfolding blockThrough
 block-known s block window h = pick-t _ h
 
@@ -35,7 +35,7 @@ pub block-unknown : (s : AdrRecording) (block window : List ℕ) → isRecording
 unfolding blockThrough
 block-unknown s block window h = pick-f _ h
 
-pub fetch-known : (s : AdrRecording) (window frame : List ℕ) → isRecording s ≡ true → fetchThrough s window frame ≡ lentTwin (fetchOf (recordingOf s) window frame)
+pub fetch-known : (s : AdrRecording) (window frame : List ℕ) → isRecording s ≡ true → fetchThrough s window frame ≡ lentTwin (fetchOf (recordingStateOf s) window frame)
 unfolding fetchThrough
 fetch-known s window frame h = pick-t _ h
 
@@ -47,5 +47,5 @@ fetch-unknown s window frame h = pick-f _ h
 pub stored-as : {r : AdrRecordOutcome} {window : List ℕ} {x : StoredSaid} (o : Outcome) → r ≡ outcomeTwin (recording.outcomeSaid o) → recording.storedSaid o window ≡ x → stored r window ≡ storedTwin x
 stored-as {r} {window} {x} o h k = ap (λ (q : AdrRecordOutcome). stored q window) h ∙ ap storedTwin k
 
-pub fetched-as : {r : AdrRecordFetched} {frame : List ℕ} {x : FetchedSaid} (f : recording-fetched.Fetched) → r ≡ fetchedTwin (answerSaid (f .answer)) (recordingTwin (f .session .state)) → recording.fetchedSaid f frame ≡ x → fetched r frame ≡ lentTwin x
+pub fetched-as : {r : AdrRecordFetched} {frame : List ℕ} {x : FetchedSaid} (f : recording-fetched.Fetched) → r ≡ fetchedTwin (answerSaid (f .answer)) (recordingStateTwin (f .session .state)) → recording.fetchedSaid f frame ≡ x → fetched r frame ≡ lentTwin x
 fetched-as {r} {frame} {x} f h k = ap (λ (q : AdrRecordFetched). fetched q frame) h ∙ ap lentTwin k

@@ -4,9 +4,10 @@ use Rattle.geometry.specs.Pick.{pick}
 use Rattle.recording_state.specs.Open.{openRefused}
 use Rattle.adding_opening.specs.AtEnd.{openAtEndOf}
 use Rattle.reading_twins.specs.declared.reading_numbers.AdrReading.{AdrReading}
-use Rattle.reading_twins.specs.Reading.{isReading, readingOf}
+use Rattle.reading_twins.specs.Reading.{isReading, readingStateOf}
 use Rattle.recording_answers.specs.declared.recording_answers.AdrRecordOutcome.{AdrRecordOutcome}
 use Rattle.recording_answers.specs.Recording.{outcomeTwin}
 
+-- the opening at the end of the reading that these numbers are
 unfoldable pub atEndThrough : AdrReading → ℕ → ℕ → ℕ → AdrRecordOutcome
-atEndThrough r depth blocks tail = outcomeTwin (pick (isReading r) (openAtEndOf (readingOf r) depth blocks tail) (openRefused 7))
+atEndThrough r depth blocks tail = outcomeTwin (pick (isReading r) (openAtEndOf (readingStateOf r) depth blocks tail) (openRefused 7))

@@ -6,13 +6,15 @@ use Rattle.drive.specs.declared.reply.Reply.{Reply}
 use Rattle.reading_state.specs.Fetch.{fetchOf}
 use Rattle.reading_state.specs.Reply.{replyOf}
 use Rattle.reading_twins.specs.declared.reading_numbers.AdrReading.{AdrReading}
-use Rattle.reading_twins.specs.Reading.{isReading, readingOf}
+use Rattle.reading_twins.specs.Reading.{isReading, readingStateOf}
 use Rattle.reading_answers.specs.declared.reading_answers.AdrReadFetched.{AdrReadFetched}
-use Rattle.reading_answers.specs.declared.reading_answers.AdrReadTaken.{AdrReadTaken}
-use Rattle.reading_answers.specs.Reading.{fetchedTwin, unknownFetch, takenTwin, unknownReply}
+use Rattle.reading_answers.specs.declared.reading_answers.AdrReadReplied.{AdrReadReplied}
+use Rattle.reading_answers.specs.Reading.{fetchedTwin, unknownFetch, repliedTwin, unknownReply}
 
+-- a fetch
 unfoldable pub fetchThrough : AdrReading → AdrReadFetched
-fetchThrough s = pick (isReading s) (fetchedTwin (fetchOf (readingOf s))) (unknownFetch s)
+fetchThrough s = pick (isReading s) (fetchedTwin (fetchOf (readingStateOf s))) (unknownFetch s)
 
-unfoldable pub replyThrough : AdrReading → Reply → List ℕ → AdrReadTaken
-replyThrough s r frame = pick (isReading s) (takenTwin (replyOf (readingOf s) r frame)) (unknownReply s)
+-- a reply
+unfoldable pub replyThrough : AdrReading → Reply → List ℕ → AdrReadReplied
+replyThrough s r frame = pick (isReading s) (repliedTwin (replyOf (readingStateOf s) r frame)) (unknownReply s)

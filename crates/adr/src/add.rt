@@ -10,6 +10,7 @@ use reading_twins::AdrReading;
 use reading_twins::is_reading;
 use recording_answers::AdrRecordOutcome;
 
+// Opens a recording at the end of a reading, which is not used up.
 #[no_mangle]
 pub extern "C" fn adr_record_open_at_end(
     reading: AdrReading,

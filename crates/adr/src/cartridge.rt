@@ -7,6 +7,8 @@ ghost use Rattle.numbers.specs.Arguments.{geometryOf};
 ghost use Rattle.numbers.specs.Places.{placeTwin, choiceTwin};
 use exchange_twins::flag_number;
 use geometry::Address;
+use geometry::GROUP_COPIES;
+use geometry::HEADER_GROUPS;
 use geometry::header_address;
 use geometry::is_user;
 use header_choice::decide;
@@ -43,7 +45,10 @@ pub extern "C" fn adr_is_user(last: u32, address: u32) -> u8
 pub extern "C" fn adr_header_address(group: u32, copy: u32) -> u32
     ensures { λ r. ⌜ r ≡ headerAddress group copy ⌝ }
 {
-    header_address((group % 2) as u8, (copy % 5) as u8).0
+    header_address(
+        (group % (HEADER_GROUPS as u32)) as u8,
+        (copy % (GROUP_COPIES as u32)) as u8,
+    ).0
 }
 
 // The newer of two header frames.

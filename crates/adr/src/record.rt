@@ -3,7 +3,7 @@ ghost use mathlib.Core.Path.{_≡_};
 ghost use Rattle.recording_state.specs.Open.{openOf, openBlankOf};
 ghost use Rattle.recording_state.specs.Accept.{filemarkOf, closeOf};
 ghost use Rattle.recording_state.specs.Reply.{replyOf};
-ghost use Rattle.recording_twins.specs.Recording.{recordingOf};
+ghost use Rattle.recording_twins.specs.Recording.{recordingStateOf};
 ghost use Rattle.numbers.specs.Arguments.{geometryOf, fittingOf, fittingDepth, asReply};
 ghost use Rattle.recording_answers.specs.Recording.{outcomeTwin};
 ghost use Rattle.adr.specs.Record.{through, stored, blockThrough, fetched, fetchThrough};
@@ -15,16 +15,17 @@ use recording_answers::AdrRecordFetched;
 use recording_answers::AdrRecordOutcome;
 use recording_twins::AdrRecording;
 use recording_twins::is_recording;
-use recording_twins::recording_of;
+use recording_twins::recording_state_of;
 
 // The session of these numbers.
 fn session_of(s: AdrRecording) -> Recording
-    ensures { λ r. ⌜ r .state ≡ recordingOf s ⌝ }
+    ensures { λ r. ⌜ r .state ≡ recordingStateOf s ⌝ }
 {
-    let state = recording_of(s);
+    let state = recording_state_of(s);
     Recording { state: state }
 }
 
+// Opens a recording on the newest header of the cartridge.
 #[no_mangle]
 pub extern "C" fn adr_record_open(
     g: AdrGeometry,
@@ -39,6 +40,7 @@ pub extern "C" fn adr_record_open(
     AdrRecordOutcome::of(Recording::open(g.geometry(), s.depth, s.blocks, s.tail, header))
 }
 
+// Opens one on a cartridge that holds no valid header.
 #[no_mangle]
 pub extern "C" fn adr_record_open_blank(
     g: AdrGeometry,
@@ -52,6 +54,7 @@ pub extern "C" fn adr_record_open_blank(
     AdrRecordOutcome::of(Recording::open_blank(g.geometry(), s.depth, s.blocks, s.tail))
 }
 
+// Accepts a filemark.
 #[no_mangle]
 pub extern "C" fn adr_record_filemark(s: AdrRecording) -> AdrRecordOutcome
     ensures { λ r. ⌜ r ≡ through filemarkOf s ⌝ }
@@ -62,6 +65,7 @@ pub extern "C" fn adr_record_filemark(s: AdrRecording) -> AdrRecordOutcome
     AdrRecordOutcome::unknown(s)
 }
 
+// Accepts a block and copies it into the window.
 #[no_mangle]
 pub extern "C" fn adr_record_block(
     s: AdrRecording,
@@ -76,6 +80,7 @@ pub extern "C" fn adr_record_block(
     AdrRecordOutcome::unknown(s)
 }
 
+// Ends the accepts; after a full tape gives up what is not on it.
 #[no_mangle]
 pub extern "C" fn adr_record_close(s: AdrRecording) -> AdrRecordOutcome
     ensures { λ r. ⌜ r ≡ through closeOf s ⌝ }
@@ -86,6 +91,7 @@ pub extern "C" fn adr_record_close(s: AdrRecording) -> AdrRecordOutcome
     AdrRecordOutcome::unknown(s)
 }
 
+// Brings the drive's reply.
 #[no_mangle]
 pub extern "C" fn adr_record_reply(s: AdrRecording, reply: AdrReply) -> AdrRecordOutcome
     ensures { λ r. ⌜ r ≡ through (λ t. replyOf t (asReply reply)) s ⌝ }
@@ -96,6 +102,7 @@ pub extern "C" fn adr_record_reply(s: AdrRecording, reply: AdrReply) -> AdrRecor
     AdrRecordOutcome::unknown(s)
 }
 
+// The next command of a recording, with the frame of a WRITE, or idle, or done.
 #[no_mangle]
 pub extern "C" fn adr_record_fetch(
     s: AdrRecording,

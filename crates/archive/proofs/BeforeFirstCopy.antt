@@ -1,4 +1,4 @@
--- Before the first new header copy the old cartridge reads as it did. Assumes nothing.
+-- Until a new header copy is on tape nothing of the old cartridge is lost. Assumes nothing.
 use Prim.Native.Nat.{ℕ, _+_, _^_, _≤_, _<_}
 use mathlib.Core.Path.{_≡_, refl, sym, subst, _∙_}
 use mathlib.Core.Bool.{false}
@@ -63,7 +63,7 @@ none-own g last seg trk e s (added depth blocks tail u h0 r read q) t none = cou
 
 pub before-first-copy : BeforeFirstCopy
 unfolding BeforeFirstCopy ReadingIsFold
-before-first-copy g last d s b window calls w seg trk e cart unwritten rest runs none = record {
+before-first-copy g last d s b w recorded none = record {
   cartridge = y .cartridge;
   user-frames = y .users;
   headers = y .headers;
@@ -72,18 +72,27 @@ before-first-copy g last d s b window calls w seg trk e cart unwritten rest runs
   reads = λ a h at from read r runs2.
       let users = subst (λ (n : ℕ). SameFrames n (d .tape) (w .drive .tape)) (sym (valid-last last h (at .valid))) (y .users) in
       is-fold-alike (toldOf (headerOf h)) (w .drive .tape) (d .tape) (λ n. sym (fold-users (toldOf (headerOf h)) (d .tape) (w .drive .tape) users n))
-      (reading-is-fold g last (w .drive .tape) h from read r seg trk e (y .cartridge) (opens a h at) runs2);
+      (reading-is-fold g last (w .drive .tape) h from read r (recorded .sized) (y .cartridge) (opens a h at) runs2);
 }
   where
     prior : Prior
     prior = priorOf last (s .copies .header) (earlierOf b) (startOf b) (d .tape) (AsItStands b (d .tape))
 
-    y : Unchanged last (s .copies .header .pass) (OnItsNewest b (d .tape)) (NoneInTheWay b (d .tape)) prior (d .tape) (start-begins g last seg trk e d window cart unwritten rest s b .set) (w .drive .tape)
+    seg : g .segtrk < 2 ^ 16
+    seg = recorded .sized .segtrk
+
+    trk : g .trks < 2 ^ 16
+    trk = recorded .sized .trks
+
+    e : lastOf g ≡ address last
+    e = recorded .sized .is-last
+
+    y : Unchanged last (s .copies .header .pass) (OnItsNewest b (d .tape)) (NoneInTheWay b (d .tape)) prior (d .tape) (start-begins g last seg trk e d (recorded .window) (recorded .cartridge) (recorded .unwritten) (recorded .rests) s b .set) (w .drive .tape)
     y =
-        let k = start-begins g last seg trk e d window cart unwritten rest s b in
+        let k = start-begins g last seg trk e d (recorded .window) (recorded .cartridge) (recorded .unwritten) (recorded .rests) s b in
         unchanged last (s .copies .header .pass) (OnItsNewest b (d .tape)) (NoneInTheWay b (d .tape)) prior (d .tape) (k .set) (earlierOf b) false (k .frames)
-        (record { cartridge = cart; users = λ a u. refl; traced = λ a f at. inl (at .reads); holds = at-rest rest }) runs
-        (throughout-as (NoneNewer b) (NoneOwn last (s .copies .header .update)) (none-own g last seg trk e s b) runs none)
+        (record { cartridge = recorded .cartridge; users = λ a u. refl; traced = λ a f at. inl (at .reads); holds = at-rest (recorded .rests) }) (recorded .runs)
+        (throughout-as (NoneNewer b) (NoneOwn last (s .copies .header .update)) (none-own g last seg trk e s b) (recorded .runs) none)
 
     opens : (a : ℕ) (h : List ℕ) → HeaderAt last (w .drive .tape) a h → reading.openOf g h .number ≡ 0
     opens a h at = opens-at g last (w .drive .tape) a h e (y .cartridge) at

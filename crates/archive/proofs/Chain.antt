@@ -20,6 +20,7 @@ use Rattle.archive_lists.specs.Headers.{Newest}
 use Rattle.archive_lists.specs.Fold.{finished, wholeOf}
 use Rattle.archive_lists.specs.Recordings as recordings
 use Rattle.archive_lists.specs.Recordings.{Element, promised}
+use Rattle.archive.specs.Recorded.{HasRecorded}
 use Rattle.archive.specs.Demand.{Readable}
 use Rattle.archive.specs.PowerCut.{EarlierFirst}
 use Rattle.archive.specs.Chain.{Start, fresh, added, earlierOf, OnItsNewest, AsItStands, NoneInTheWay, Read, Adds, Closed, Way, adding, wayOf, Chain, first, more, Together, one-more, none, acceptedIn, NoneGiven, ReadTogether, WithoutTails, Chains}
@@ -137,7 +138,10 @@ module _ (g : Geometry) (last : ℕ) (seg : g .segtrk < 2 ^ 16) (trk : g .trks <
 
   -- without a tail nothing is given up in it
   ungiven : (d : Drive) (s : State) (b : Start g last s) (w : recordings.World) → Cartridge last (d .tape) → Closed g last d s b w → s .setup .tail ≡ 0 → w .notes .givenUp ≡ 0
-  ungiven d s b w cart c untailed = continued g last d s b (c .window) (c .calls) w seg trk e cart (c .unwritten) (c .rests) (c .runs) .untailed untailed .ungiven
+  ungiven d s b w cart c untailed = continued g last d s b w recorded .untailed untailed .ungiven
+    where
+      recorded : HasRecorded g last d s w
+      recorded = record { sized = record { segtrk = seg; trks = trk; is-last = e }; cartridge = cart; unwritten = c .unwritten; rests = c .rests; window = c .window; calls = c .calls; runs = c .runs }
 
   none-given : {begun : Way} {t : Tape} {xs : List Element} {ns : List recordings.Notes} (c : Chain g last begun t xs ns) → WithoutTails c → NoneGiven ns
   unfolding WithoutTails
@@ -146,13 +150,20 @@ module _ (g : Geometry) (last : ℕ) (seg : g .segtrk < 2 ^ 16) (trk : g .trks <
 
 pub chains : Chains
 unfolding Chains
-chains g last begun t xs ns seg trk e c = (chain-held g last seg trk e c .reads, none-given g last seg trk e c)
+chains g last begun t xs ns sized c =
+    let seg = sized .segtrk in
+    let trk = sized .trks in
+    let e = sized .is-last in
+    (chain-held g last seg trk e c .reads, none-given g last seg trk e c)
 
 -- ---- and a session behind it
 
 pub earlier-first : EarlierFirst
 unfolding EarlierFirst
-earlier-first g last begun t xs ns s b seg trk e c is on same =
+earlier-first g last begun t xs ns s b sized c is on same =
+    let seg = sized .segtrk in
+    let trk = sized .trks in
+    let e = sized .is-last in
     let h = chain-held g last seg trk e c in
     let q = sym (earlier-is g last seg trk e t xs ns h s b is on same) in
     (subst (Together xs ns) q (h .reads .together), λ none. sym q ∙ h .reads .whole none)

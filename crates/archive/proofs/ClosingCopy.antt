@@ -1,14 +1,12 @@
 -- Where a closing header of a session that goes on reads, the tape is as after done. Assumes nothing.
-use Prim.Native.Nat.{ℕ, _+_, _^_, _≤_, _<_}
-use mathlib.Core.Path.{_≡_, refl, sym, ap, subst, _∙_}
-use mathlib.Core.Bool.{true, false}
-use mathlib.Core.List.{List, _++_}
+use Prim.Native.Nat.{ℕ, _+_, _<_}
+use mathlib.Core.Path.{_≡_, ap, _∙_}
+use mathlib.Core.Bool.{true}
+use mathlib.Core.List.{List}
 use mathlib.Core.Logic.{_⊎_, inl, inr, ⊎-elim}
-use mathlib.Core.Option.{some}
 use native.Mathlib.Omega.{arith}
 use lib.ListN.{length}
 use Rattle.geometry.specs.Place.{address}
-use Rattle.geometry.specs.Cartridge.{lastOf}
 use Rattle.geometry.specs.declared.cartridge.Geometry.{Geometry}
 use Rattle.geometry.proofs.Impossible.{clash}
 use Rattle.frame.specs.Header.{headerFrame}
@@ -18,10 +16,8 @@ use Rattle.header.specs.Valid.{headerOf, updateOf}
 use Rattle.recording_state.specs.declared.state.State.{State}
 use Rattle.recording_state.specs.declared.state.Stage.the-variants as S
 use Rattle.recording_state.proofs.ListedReplies.{unlisted-refused}
-use Rattle.archive_lists.specs.Tape.{Tape, Cartridge}
-use Rattle.archive_lists.specs.Conduct.{Drive, AtRest}
+use Rattle.archive_lists.specs.Tape.{Tape}
 use Rattle.archive_lists.specs.Headers.{HeaderAt, Newest}
-use Rattle.archive_lists.specs.Recordings as recordings
 use Rattle.archive_lists.specs.Recordings.{World, promised}
 use Rattle.archive_lists.specs.Openings.{on-header, on-none}
 use Rattle.archive_lists.proofs.recording.Trailing.{Prior}
@@ -34,7 +30,7 @@ use Rattle.archive_lists.proofs.recording.ContentMoves.{header-low}
 use Rattle.archive_lists.proofs.recording.Completion.{copy-update, copy-fields, copy-newest, completes-so}
 use Rattle.archive_cuts.proofs.HeldCopies.{OwnCopy}
 use Rattle.archive.specs.Chain.{Start, fresh, added, OnItsNewest, earlierOf}
-use Rattle.archive.specs.PowerCut.{IsNewer, GoesOn, AsDone, ClosingCopy}
+use Rattle.archive.specs.PowerCut.{IsNewer, GoesOn, ClosingCopy}
 use Rattle.archive.proofs.Continued.{kept-on, reads-back, left-clear}
 use Rattle.archive.proofs.PowerCut.{begun, intact}
 
@@ -97,9 +93,9 @@ left-by w set (over _ o) on p q u a h at own named = clash (o .ended) (on .going
 
 pub closing-copy : ClosingCopy
 unfolding ClosingCopy
-closing-copy g last d s b window calls w seg trk e cart unwritten rest runs newest same none kept on a h at newer named =
-    let k = kept-on (begun g last d s b window calls w seg trk e cart unwritten rest runs newest same none kept) runs in
-    let traced = intact g last d s b window calls w seg trk e cart unwritten rest runs newest same none kept .on-tape .traced a h at in
+closing-copy g last d s b w recorded newest same none kept on a h at newer named =
+    let k = kept-on (begun g last d s b w recorded newest same none kept) (recorded .runs) in
+    let traced = intact g last d s b w recorded newest same none kept .on-tape .traced a h at in
     let own = ⊎-elim (λ q. absurd (not-old b (d .tape) newest a h (record { group = at .group; reads = q; valid = at .valid }) newer)) (λ c. c) traced in
     let x = left-by (noted (earlierOf b) true w) (k .set) (k .whole) (record { going = on .going; lawful = on .lawful }) newest (same, none) kept a h at own named in
-    record { reads-back = reads-back g last (s .copies .header .pass) (earlierOf b) w seg trk e (x .leaves); newest = x .newest; clear = left-clear (same, none) (x .leaves .headers) h (x .newest) }
+    record { reads-back = reads-back g last (s .copies .header .pass) (earlierOf b) w (recorded .sized .segtrk) (recorded .sized .trks) (recorded .sized .is-last) (x .leaves); newest = x .newest; clear = left-clear (same, none) (x .leaves .headers) h (x .newest) }

@@ -1,4 +1,4 @@
--- What holds after every list of a recording's calls, however the session was opened: by the invariant. Assumes nothing.
+-- What holds after any calls of a recording, however the session was opened: by the invariant. Assumes nothing.
 use Prim.Native.Nat.{ℕ, zero, suc, _+_, _-_, _^_, _≤_, _<_}
 use mathlib.Core.Path.{_≡_, refl, sym, ap, subst, _∙_}
 use mathlib.Core.Bool.{Bool, true, false, not, true≢false}
@@ -44,8 +44,9 @@ use Rattle.archive_lists.specs.Recordings.{Element, promised}
 use Rattle.archive_lists.specs.Readings as readings
 use Rattle.archive_lists.specs.Openings.{Opening, opened, newPass, OnNewest, NoneBears}
 use Rattle.archive_lists.specs.Faithful.{Faithful}
+use Rattle.archive.specs.Recorded.{HasRecorded}
 use Rattle.archive.specs.Demand.{Readable}
-use Rattle.archive.specs.Chain.{HasRead, HasRecorded, Start, fresh, added, earlierOf, OnItsNewest, AsItStands, NoneAbove, NoneInTheWay, Read, ReadsBack, Continued}
+use Rattle.archive.specs.Chain.{HasRead, Start, fresh, added, earlierOf, OnItsNewest, AsItStands, NoneAbove, NoneInTheWay, Read, ReadsBack, Continued}
 use Rattle.archive.specs.WorstCase.{startOf}
 use Rattle.archive.specs.EndNamed.{EndsAt}
 use Rattle.archive_lists.proofs.tape.Basics.{promised-all}
@@ -104,7 +105,7 @@ readable g last pass base t ps xs seg trk e l = record {
   opens = opens g last t (l .headers .header) e (l .cartridge) (l .headers .newest);
   reads = λ h at calls w n r.
       subst (λ (x : ℕ). Faithful x (take (l .reads .count) xs) w) (valid-last last h (n .here .valid))
-      (reading-is-fold g last t h at calls w seg trk e (l .cartridge) (opens g last t h e (l .cartridge) n) r .faithful (take (l .reads .count) xs) (l .headers .end-at) (left-whole l h n));
+      (reading-is-fold g last t h at calls w (record { segtrk = seg; trks = trk; is-last = e }) (l .cartridge) (opens g last t h e (l .cartridge) n) r .faithful (take (l .reads .count) xs) (l .headers .end-at) (left-whole l h n));
 }
 
 -- ---- what was there before comes first
@@ -337,10 +338,10 @@ pub start-kept : (g : Geometry) (last : ℕ) → g .segtrk < 2 ^ 16 → g .trks 
     (priorOf last (s .copies .header) (earlierOf b) (startOf b) (d .tape) (AsItStands b (d .tape))) (earlierOf b) w
 start-kept g last seg trk e d window calls w cart unwritten rest s b r = kept-on (start-begins g last seg trk e d window cart unwritten rest s b) r
 
-pub kept-after : (g : Geometry) (last : ℕ) → g .segtrk < 2 ^ 16 → g .trks < 2 ^ 16 → lastOf g ≡ address last → (d : Drive) (w : recordings.World) (s : State) (b : Start g last s) → HasRecorded last d s w
+pub kept-after : (g : Geometry) (last : ℕ) (d : Drive) (w : recordings.World) (s : State) (b : Start g last s) → HasRecorded g last d s w
     → Kept last (s .copies .header .pass) (OnItsNewest b (d .tape)) (AsItStands b (d .tape)) (NoneInTheWay b (d .tape))
     (priorOf last (s .copies .header) (earlierOf b) (startOf b) (d .tape) (AsItStands b (d .tape))) (earlierOf b) w
-kept-after g last seg trk e d w s b x = start-kept g last seg trk e d (x .window) (x .calls) w (x .cartridge) (x .unwritten) (x .rests) s b (x .runs)
+kept-after g last d w s b x = start-kept g last (x .sized .segtrk) (x .sized .trks) (x .sized .is-last) d (x .window) (x .calls) w (x .cartridge) (x .unwritten) (x .rests) s b (x .runs)
 
 module _ {last pass : ℕ} {on-newest as-it-stands none-in-the-way : Type 0} {prior : Prior} {earlier : List Element} {w : recordings.World} (k : Kept last pass on-newest as-it-stands none-in-the-way prior earlier w) where
   -- the tape, where all is as it should be
@@ -351,10 +352,8 @@ module _ {last pass : ℕ} {on-newest as-it-stands none-in-the-way : Type 0} {pr
   pub headers : on-newest → w .notes .reported ≡ true → HeadersLeft last pass none-in-the-way (length (promised (noted earlier false w .notes))) (w .drive .tape)
   headers = closes (noted earlier false w) (k .set) (k .frames)
 
-pub continued : (g : Geometry) (last : ℕ) (d : Drive) (s : State) (b : Start g last s) (window : List ℕ) (calls : List recordings.Call) (w : recordings.World)
-    → g .segtrk < 2 ^ 16 → g .trks < 2 ^ 16 → lastOf g ≡ address last → Cartridge last (d .tape) → d .written ≡ [] → AtRest d
-    → recordings.Runs (recordings.started s window d) calls w → Continued g last (d .tape) s b w
-continued g last d s b window calls w seg trk e cart unwritten rest runs = record {
+pub continued : (g : Geometry) (last : ℕ) (d : Drive) (s : State) (b : Start g last s) (w : recordings.World) → HasRecorded g last d s w → Continued g last (d .tape) s b w
+continued g last d s b w recorded = record {
   written = within (k .whole);
   alone = λ lent frame busy. fetch-awaited (w .session) lent frame (flight-awaits (k .whole) busy);
   reads-back = back;
@@ -366,7 +365,7 @@ continued g last d s b window calls w seg trk e cart unwritten rest runs = recor
   addable = λ newest none reported. ends-there g last seg trk e none (headers k newest reported);
   tells = tells;
   untailed = λ none.
-      let x = runs-unspent runs (record { untailed = none; unspent = unspent-at-first; ungiven = refl }) in
+      let x = runs-unspent (recorded .runs) (record { untailed = none; unspent = unspent-at-first; ungiven = refl }) in
       let promised-is : promised (w .notes) ≡ w .notes .accepted = promised-all (w .notes) (x .ungiven) in
       record {
         ungiven = x .ungiven;
@@ -382,7 +381,16 @@ continued g last d s b window calls w seg trk e cart unwritten rest runs = recor
 }
   where
     k : Kept last (s .copies .header .pass) (OnItsNewest b (d .tape)) (AsItStands b (d .tape)) (NoneInTheWay b (d .tape)) (priorOf last (s .copies .header) (earlierOf b) (startOf b) (d .tape) (AsItStands b (d .tape))) (earlierOf b) w
-    k = start-kept g last seg trk e d window calls w cart unwritten rest s b runs
+    k = kept-after g last d w s b recorded
+
+    seg : g .segtrk < 2 ^ 16
+    seg = recorded .sized .segtrk
+
+    trk : g .trks < 2 ^ 16
+    trk = recorded .sized .trks
+
+    e : lastOf g ≡ address last
+    e = recorded .sized .is-last
 
     v : recordings.World
     v = noted (earlierOf b) true w
@@ -405,12 +413,12 @@ continued g last d s b window calls w seg trk e cart unwritten rest runs = recor
     newest : OnItsNewest b (d .tape) → w .notes .reported ≡ true → (h : List ℕ) → Newest last (w .drive .tape) h → EndsAt (headerOf h) (length (earlierOf b ++ promised (w .notes))) (w .drive .tape)
     newest on reported h n = numbered _ (newest-named v (k .set) (k .whole) on reported h n)
 
-    tells : isSpent (w .session) ≡ true → closeOf (w .session) .session .elements .first .0 ≡ length (earlierOf b ++ promised (recordings.afterClose w .notes))
+    tells : isSpent (w .session) ≡ true → closeOf (w .session) .session .elements .queue .first .0 ≡ length (earlierOf b ++ promised (recordings.afterClose w .notes))
     tells spent-now =
         let x = spent-first v (k .whole) spent-now in
         let after = recordings.afterClose w .notes in
         let noted-as : recordings.afterClose v .notes ≡ gaveUp v .notes = ap (λ (n : ℕ). record { accepted = earlierOf b ++ w .notes .accepted; unaltered = w .notes .unaltered; reported = w .notes .reported; givenUp = n }) (pick-t _ spent-now) in
-        ap (λ (r : OutcomeSaid). r .session .elements .first .0) (close-spent (w .session) spent-now)
+        ap (λ (r : OutcomeSaid). r .session .elements .queue .first .0) (close-spent (w .session) spent-now)
         ∙ x .0
         ∙ ap (λ (n : recordings.Notes). length (promised n)) (sym noted-as)
         ∙ ap length (promised-behind (earlierOf b) true (recordings.afterClose w) (subst (λ (n : recordings.Notes). length (earlierOf b) ≤ length (promised n)) (sym noted-as) (x .1)))

@@ -6,7 +6,7 @@ use Rattle.archive.proofs.Continued.{continued}
 
 pub demand-3 : Demand3
 unfolding Demand3
-demand-3 g last depth blocks d o s window calls w seg trk e cart unwritten rest op r =
-    let c = continued g last d s (fresh depth blocks 0 o op) window calls w seg trk e cart unwritten rest r in
-    let untailed = c .untailed (opened-tail g last depth blocks 0 s e o op) in
+demand-3 g last depth blocks d o s w op recorded =
+    let c = continued g last d s (fresh depth blocks 0 o op) w recorded in
+    let untailed = c .untailed (opened-tail g last depth blocks 0 s (recorded .sized .is-last) o op) in
     record { written = c .written; alone = c .alone; readable = λ newest none unaltered reported. untailed .readable newest tt none unaltered reported .0 }

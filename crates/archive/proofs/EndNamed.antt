@@ -1,5 +1,5 @@
 -- The closing headers name where EOD is: the case of a fresh session of what holds however it was opened. Assumes nothing.
-use Prim.Native.Nat.{ℕ, _-_}
+use Prim.Native.Nat.{ℕ}
 use mathlib.Core.Path.{_≡_, subst}
 use native.Mathlib.Omega.{arith}
 use lib.ListN.{length}
@@ -21,6 +21,6 @@ numbered n {h} {t} x = subst (λ (i : ℕ). EndsAt h i t) (kept-size n) x
 
 pub end-named : EndNamed
 unfolding EndNamed
-end-named g last depth blocks tail d o s window calls w seg trk e cart unwritten rest op r =
-    let c = continued g last d s (fresh depth blocks tail o op) window calls w seg trk e cart unwritten rest r in
+end-named g last depth blocks tail d o s w op recorded =
+    let c = continued g last d s (fresh depth blocks tail o op) w recorded in
     record { given = λ lent frame a closing said. numbered (w .notes) (c .given lent frame a closing said); newest = λ on reported h n. numbered (w .notes) (c .newest on reported h n) }

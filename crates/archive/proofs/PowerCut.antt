@@ -24,7 +24,7 @@ use Rattle.reading_state.specs.State.{endOf}
 use Rattle.reading_state.specs.Open as reading
 use Rattle.reading_state.specs.Open.{toldOf}
 use Rattle.archive_lists.specs.Tape.{Tape, Cartridge, Bears}
-use Rattle.archive_lists.specs.Conduct.{Drive, AtRest}
+use Rattle.archive_lists.specs.Conduct.{Drive}
 use Rattle.archive_lists.specs.Headers.{HeaderAt}
 use Rattle.archive_lists.specs.Recordings as recordings
 use Rattle.archive_lists.specs.Recordings.{Element}
@@ -52,6 +52,7 @@ use Rattle.archive_cuts.proofs.View.{Fair, alien, Viewed, view-whole}
 use Rattle.archive_cuts.proofs.Intact.{Intact, no-elements}
 use Rattle.archive_cuts.proofs.CutLists.{keeps-intact, runs-kept}
 use Rattle.archive_cuts.proofs.InPart.{Whole, without-end, with-end, in-part}
+use Rattle.archive.specs.Recorded.{HasRecorded}
 use Rattle.archive.specs.Chain.{Start, fresh, added, earlierOf, OnItsNewest, AsItStands, NoneInTheWay}
 use Rattle.archive.specs.WorstCase.{startOf}
 use Rattle.archive.specs.PowerCut.{IsNewer, CopyOf, IsCopy, MayEnd, old-end, own-end, WindowKept, PowerCut}
@@ -155,31 +156,39 @@ seen-begun {last} {pass} {at} {earlier} {t} h =
     let all : h .m ≡ length earlier = omega (arith, h .top) in
     subst (λ (ys : List Element). Has ys (length earlier) (foldOf (unending last pass) t at)) (sym (append-nil earlier)) (subst (λ (n : ℕ). Has earlier n (foldOf (unending last pass) t at)) all (h .seen))
 
-module _ (g : Geometry) (last : ℕ) (d : Drive) (s : State) (b : Start g last s) (window : List ℕ) (calls : List recordings.Call) (w : recordings.World)
-    (seg : g .segtrk < 2 ^ 16) (trk : g .trks < 2 ^ 16) (e : lastOf g ≡ address last) (cart : Cartridge last (d .tape)) (unwritten : d .written ≡ []) (rest : AtRest d)
-    (runs : recordings.Runs (recordings.started s window d) calls w) (newest : OnItsNewest b (d .tape)) (same : AsItStands b (d .tape)) (none : NoneInTheWay b (d .tape)) (window-kept : WindowKept w) where
+module _ (g : Geometry) (last : ℕ) (d : Drive) (s : State) (b : Start g last s) (w : recordings.World) (recorded : HasRecorded g last d s w)
+    (newest : OnItsNewest b (d .tape)) (same : AsItStands b (d .tape)) (none : NoneInTheWay b (d .tape)) (window-kept : WindowKept w) where
+  seg : g .segtrk < 2 ^ 16
+  seg = recorded .sized .segtrk
+
+  trk : g .trks < 2 ^ 16
+  trk = recorded .sized .trks
+
+  e : lastOf g ≡ address last
+  e = recorded .sized .is-last
+
   abbrev pass : ℕ
   pass = s .copies .header .pass
 
   abbrev prior : Prior
   prior = priorOf last (s .copies .header) (earlierOf b) (startOf b) (d .tape) (AsItStands b (d .tape))
 
-  pub begun : Kept last pass (OnItsNewest b (d .tape)) (AsItStands b (d .tape)) (NoneInTheWay b (d .tape)) prior (earlierOf b) (recordings.started s window d)
-  begun = start-begins g last seg trk e d window cart unwritten rest s b
+  pub begun : Kept last pass (OnItsNewest b (d .tape)) (AsItStands b (d .tape)) (NoneInTheWay b (d .tape)) prior (earlierOf b) (recordings.started s (recorded .window) d)
+  begun = start-begins g last seg trk e d (recorded .window) (recorded .cartridge) (recorded .unwritten) (recorded .rests) s b
 
   seen : Seen last pass (earlierOf b) (earlierOf b) (length (earlierOf b)) (startOf b) (d .tape)
-  seen = start-seen g last seg trk e (d .tape) cart s b same none
+  seen = start-seen g last seg trk e (d .tape) (recorded .cartridge) s b same none
 
   first-intact : Intact last pass prior (d .tape) (earlierOf b ++ []) d
   first-intact = record {
-    on-tape = record { cartridge = cart; few = omega (arith, ap length (append-nil (earlierOf b))); traced = λ a f h. inl (h .reads); fair = start-fair g last seg trk e s (d .tape) b cart same none; begun = seen-begun seen };
+    on-tape = record { cartridge = recorded .cartridge; few = omega (arith, ap length (append-nil (earlierOf b))); traced = λ a f h. inl (h .reads); fair = start-fair g last seg trk e s (d .tape) b (recorded .cartridge) same none; begun = seen-begun seen };
     in-drive = record {
       list = earlierOf b;
       k = length (earlierOf b);
       edge = startOf b;
       ahead = le-refl (startOf b);
       seen = subst (λ (ys : List Element). Seen last pass (earlierOf b) ys (length (earlierOf b)) (startOf b) (d .tape)) (sym (append-nil (earlierOf b))) seen;
-      holds = no-elements (at-rest rest);
+      holds = no-elements (at-rest (recorded .rests));
     };
   }
 
@@ -187,7 +196,7 @@ module _ (g : Geometry) (last : ℕ) (d : Drive) (s : State) (b : Start g last s
   intact =
       runs-kept last pass (OnItsNewest b (d .tape)) (AsItStands b (d .tape) × NoneInTheWay b (d .tape)) prior (begun .set)
       (keeps-intact last pass (OnItsNewest b (d .tape)) (AsItStands b (d .tape) × NoneInTheWay b (d .tape)) prior (same, none) (d .tape) (begun .set .large))
-      (earlierOf b) true (begun .whole) (λ _. first-intact) runs (throughout-any (λ _. Unit {0}) (λ _. tt) runs) window-kept
+      (earlierOf b) true (begun .whole) (λ _. first-intact) (recorded .runs) (throughout-any (λ _. Unit {0}) (λ _. tt) (recorded .runs)) window-kept
 
   opens : (a : ℕ) (h : List ℕ) → HeaderAt last (w .drive .tape) a h → reading.openOf g h .number ≡ 0
   opens a h at = opens-at g last (w .drive .tape) a h e (intact .on-tape .cartridge) at
@@ -202,8 +211,8 @@ module _ (g : Geometry) (last : ℕ) (d : Drive) (s : State) (b : Start g last s
 
 pub power-cut : PowerCut
 unfolding PowerCut
-power-cut g last d s b window calls w seg trk e cart unwritten rest runs newest same none kept = record {
-  cartridge = intact g last d s b window calls w seg trk e cart unwritten rest runs newest same none kept .on-tape .cartridge;
-  opens = opens g last d s b window calls w seg trk e cart unwritten rest runs newest same none kept;
-  reads = reads g last d s b window calls w seg trk e cart unwritten rest runs newest same none kept;
+power-cut g last d s b w recorded newest same none kept = record {
+  cartridge = intact g last d s b w recorded newest same none kept .on-tape .cartridge;
+  opens = opens g last d s b w recorded newest same none kept;
+  reads = reads g last d s b w recorded newest same none kept;
 }

@@ -10,10 +10,10 @@ use Rattle.archive_lists.proofs.Fold.{reading-kept}
 
 pub replies-refused : RepliesRefused
 replies-refused = record {
-  recording = λ g last d s b w seg trk e x c frame r q.
-      let i = kept-after g last seg trk e d w s b x .whole in
+  recording = λ g last d s b w x c frame r q.
+      let i = kept-after g last d w s b x .whole in
       let v = noted (earlierOf b) true w in
       record { unlisted = unlisted-8 v c frame q i r; unlawful = unlawful-8 v c frame q i r; no-other = λ listed lawful. listed-not-8 v c frame q i r lawful listed };
-  reading = λ g last t h w seg trk e x c r lent q long.
-      reading-refuses w c lent q long (reading-kept g last t h (x .at) (x .calls) w seg trk e (x .cartridge) (x .opens) (x .runs)) r;
+  reading = λ g last t h w sized x c r lent q long.
+      reading-refuses w c lent q long (reading-kept g last t h (x .at) (x .calls) w (sized .segtrk) (sized .trks) (sized .is-last) (x .cartridge) (x .opens) (x .runs)) r;
 }

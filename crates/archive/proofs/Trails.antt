@@ -1,4 +1,4 @@
--- Each WRITE's frame names the latest earlier marker where it stands, and so does each frame on a cartridge that a chain left. Assumes nothing.
+-- Each WRITE's frame names where the latest filemark before it stands, and so does each frame on a cartridge that a chain left. Assumes nothing.
 use Prim.Native.Nat.{ℕ, _^_, _≤_, _<_}
 use mathlib.Core.Path.{_≡_, refl, sym, ap, subst, _∙_}
 use mathlib.Core.Bool.{true, true≢false}
@@ -33,7 +33,8 @@ use Rattle.archive_lists.specs.Conduct.{Drive}
 use Rattle.archive_lists.specs.Headers.{Newest}
 use Rattle.archive_lists.specs.Recordings as recordings
 use Rattle.archive_lists.specs.Recordings.{World, Element, promised}
-use Rattle.archive.specs.Chain.{HasRecorded, Start, fresh, added, earlierOf, passOf, OnItsNewest, AsItStands, Closed, afresh, adding, wayOf, Chain, first, more, none}
+use Rattle.archive.specs.Recorded.{HasRecorded}
+use Rattle.archive.specs.Chain.{Start, fresh, added, earlierOf, passOf, OnItsNewest, AsItStands, Closed, afresh, adding, wayOf, Chain, first, more, none}
 use Rattle.archive_lists.specs.Filemarks.{itemAt, kindFor, NamesLatest, sequenceNumber, markerNamed}
 use Rattle.archive.specs.Trails.{FrameOn, InFlight, WritesNameMarkers, Trails, ChainsNameMarkers}
 use Rattle.archive_lists.proofs.tape.Marks.{filemarks-alike, latest-alike, latest-map}
@@ -158,10 +159,10 @@ module _ (g : Geometry) (last : ℕ) (seg : g .segtrk < 2 ^ 16) (trk : g .trks <
   pass-so s (fresh depth blocks tail o q) = pass-is g last depth blocks tail s e o q
   pass-so s (added depth blocks tail u h r read q) = sym (pass-kept g last seg trk e s depth blocks tail u h r read q)
 
-  writes : (d : Drive) (s : State) (b : Start g last s) (w : recordings.World) → HasRecorded last d s w → (a : Address) (frame : List ℕ) → w .flight ≡ recordings.sent (Write a) frame
+  writes : (d : Drive) (s : State) (b : Start g last s) (w : recordings.World) → HasRecorded g last d s w → (a : Address) (frame : List ℕ) → w .flight ≡ recordings.sent (Write a) frame
       → InFlight last (passOf b) (length (earlierOf b)) (earlierOf b ++ promised (w .notes)) (w .drive) (AsItStands b (d .tape)) (a .0) frame
   writes d s b w x a frame q =
-      let k = kept-after g last seg trk e d w s b x in
+      let k = kept-after g last d w s b x in
       let out = goes-out (noted (earlierOf b) true w) (k .set) (k .whole) a frame q in
       subst (λ (n : ℕ). InFlight last n (length (earlierOf b)) (earlierOf b ++ promised (w .notes)) (w .drive) (AsItStands b (d .tape)) (a .0) frame) (pass-so s b)
       (subst (λ (ys : List Element). InFlight last (s .copies .header .pass) (length (earlierOf b)) ys (w .drive) (AsItStands b (d .tape)) (a .0) frame) (promised-behind (earlierOf b) true w (out .1)) (out .0))
@@ -225,8 +226,8 @@ module _ (g : Geometry) (last : ℕ) (seg : g .segtrk < 2 ^ 16) (trk : g .trks <
 
 pub writes-name-markers : WritesNameMarkers
 unfolding WritesNameMarkers
-writes-name-markers g last d s b w seg trk e = writes g last seg trk e d s b w
+writes-name-markers g last d s b w recorded = writes g last (recorded .sized .segtrk) (recorded .sized .trks) (recorded .sized .is-last) d s b w recorded
 
 pub chains-name-markers : ChainsNameMarkers
 unfolding ChainsNameMarkers
-chains-name-markers g last t xs ns seg trk e c = let x = chain-trails g last seg trk e c in record { reads = x .held .reads; trails = x .trails }
+chains-name-markers g last t xs ns sized c = let x = chain-trails g last (sized .segtrk) (sized .trks) (sized .is-last) c in record { reads = x .held .reads; trails = x .trails }

@@ -1,5 +1,5 @@
--- The worst a bad cartridge can do: the drive takes no more frames than the bound says. Assumes nothing.
-use Prim.Native.Nat.{ℕ, _+_, _-_, _*_, _≤_}
+-- The drive takes no more frames than the bound says. Assumes nothing.
+use Prim.Native.Nat.{ℕ}
 use mathlib.Core.Path.{_≡_}
 use native.Mathlib.Omega.{arith}
 use Rattle.geometry.specs.Place.{address}

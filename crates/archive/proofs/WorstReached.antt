@@ -91,7 +91,10 @@ reaches last depth blocks tail at earlier d s window xs e h low x y wide able en
 
 pub worst-reached : WorstReached
 unfolding WorstReached
-worst-reached g last d s b window xs e h seg trk le wide able enough few room clear =
+worst-reached g last d s b window xs e h sized wide able enough few room clear =
+    let seg = sized .segtrk in
+    let trk = sized .trks in
+    let le = sized .is-last in
     reaches last (depthOf b) (blocksOf b) (tailOf b) (startOf b) (chain.earlierOf b) d s window xs e h (last-small g last seg trk (frames-of g last le))
     (start-started g last seg trk le s b) (start-starts le b) wide able (omega arith) (omega arith) room clear
 
@@ -113,15 +116,16 @@ blank-opens g last depth blocks tail le sizes = ap (λ (y : PlaceSaid). openBlan
 
 pub worst-on-blank : WorstOnBlank
 unfolding WorstReached WorstOnBlank Adds
-worst-on-blank g last depth blocks tail window xs e h seg trk le deep _ least most _ wide able enough few room =
+worst-on-blank g last depth blocks tail window xs e h sized deep _ least most _ wide able enough few room =
     let s : State = fresh (setupOf depth blocks tail) (openingHeader (asAddress last) 1 0) in
-    let o : openBlankOf g depth blocks tail ≡ accepting s = blank-opens g last depth blocks tail le (fits depth blocks deep least most) in
+    let o : openBlankOf g depth blocks tail ≡ accepting s = blank-opens g last depth blocks tail (sized .is-last) (fits depth blocks deep least most) in
     let b : Start g last s = chain.fresh depth blocks tail on-none o in
     let narrow : smaller depth blocks ≤ blocks = smaller-right depth blocks in
     let all : blocks ≡ blocks - 1 + 1 = omega arith in
-    let x : Reaches s window blankDrive depth blocks xs e h = worst-reached g last blankDrive s b window xs e h seg trk le
+    let x : Reaches s window blankDrive depth blocks xs e h = worst-reached g last blankDrive s b window xs e h sized
     (wide ∙ ap (λ (k : ℕ). k * 32768) all) able enough few room (inl (omega arith)) in
-    let c : Continued g last (blankDrive .tape) s b (x .world) = adds g last blankDrive s b window (x .calls) (x .world) seg trk le (blank-cartridge last) refl (empty refl) (x .runs) in
+    let c : Continued g last (blankDrive .tape) s b (x .world) = adds g last blankDrive s b (x .world)
+    (record { sized = sized; cartridge = blank-cartridge last; unwritten = refl; rests = empty refl; window = window; calls = x .calls; runs = x .runs }) in
     record {
       session = s;
       opens = o;

@@ -1,12 +1,12 @@
 -- 02, Card 1: a recording that adds to a cartridge, and sessions that add one after another. 02, Card 6: the same where elements were given up.
-use Prim.Native.Nat.{ℕ, _+_, _^_, _≤_, _<_}
+use Prim.Native.Nat.{ℕ, _+_, _≤_, _<_}
 use mathlib.Core.Path.{_≡_}
 use mathlib.Core.Bool.{true, false}
 use mathlib.Core.List.{List, [], _∷_, _++_}
 use mathlib.Core.Option.{some}
 use lib.ListN.{length, take}
-use Rattle.geometry.specs.Place.{address}
-use Rattle.geometry.specs.Cartridge.{lastOf, isUser}
+use Rattle.drive.specs.Command.{writeCode}
+use Rattle.geometry.specs.Cartridge.{isUser}
 use Rattle.geometry.specs.declared.cartridge.Geometry.{Geometry}
 use Rattle.header.specs.Valid.{headerOf}
 use Rattle.elements.specs.Due.{dueOf}
@@ -20,13 +20,14 @@ use Rattle.recording_state.specs.declared.state.State.{State}
 use Rattle.reading_state.specs.State.{isAtEnd, endOf}
 use Rattle.reading_state.specs.Open as reading
 use Rattle.adding_opening.specs.AtEnd.{endsElsewhere, openAtEndOf}
-use Rattle.archive_lists.specs.Tape.{Tape, Cartridge, SameFrames, Bears}
+use Rattle.archive_lists.specs.Tape.{Tape, HasLast, Cartridge, SameFrames, Bears}
 use Rattle.archive_lists.specs.Conduct.{Drive, AtRest, Within}
 use Rattle.archive_lists.specs.Headers.{Newest}
 use Rattle.archive_lists.specs.Recordings as recordings
 use Rattle.archive_lists.specs.Recordings.{Element, keptOf, promised}
 use Rattle.archive_lists.specs.Readings as readings
 use Rattle.archive_lists.specs.Openings.{Opening, opened, OnNewest, newPass, NoneBears}
+use Rattle.archive.specs.Recorded.{HasRecorded}
 use Rattle.archive.specs.Demand.{Readable}
 use Rattle.archive.specs.EndNamed.{EndsAt}
 
@@ -39,16 +40,7 @@ pub record HasRead (g : Geometry) (last : ℕ) (t : Tape) (h : List ℕ) (w : re
   pub calls : List readings.Call
   pub runs : readings.Runs t (readings.started (reading.openOf g h .session) at) calls w
 
--- where a list of a recording's calls on such a cartridge has come, from a session just opened and a drive that rests and has written nothing for it yet
-pub record HasRecorded (last : ℕ) (d : Drive) (s : State) (w : recordings.World) : Type 0 where
-  pub cartridge : Cartridge last (d .tape)
-  pub unwritten : d .written ≡ []
-  pub rests : AtRest d
-  pub window : List ℕ
-  pub calls : List recordings.Call
-  pub runs : recordings.Runs (recordings.started s window d) calls w
-
--- how a session was opened: afresh, as demand 3 has it, or at the end that a reading found
+-- how a session was opened: afresh, as demand 3 has it, or at the end of a reading
 pub data Start (g : Geometry) (last : ℕ) (s : State) : Type 0 where
   fresh : (depth blocks tail : ℕ) (o : Opening) → opened g depth blocks tail o ≡ accepting s → Start g last s
   added : (depth blocks tail : ℕ) (u : Tape) (h : List ℕ) (r : readings.World) → HasRead g last u h r
@@ -64,7 +56,7 @@ abbrev pub passOf : {g : Geometry} {last : ℕ} {s : State} → Start g last s �
 passOf (fresh depth blocks tail o q) = newPass o
 passOf (added depth blocks tail u h r read q) = headerOf h .pass
 
--- opened on the newest header that the cartridge holds, or afresh on none where it holds none
+-- opened on the cartridge's newest header, or afresh on none if there is none
 abbrev pub OnItsNewest : {g : Geometry} {last : ℕ} {s : State} → Start g last s → Tape → Type 0
 OnItsNewest {last = last} (fresh depth blocks tail o q) t = OnNewest last t o
 OnItsNewest {last = last} (added depth blocks tail u h r read q) t = Newest last t h
@@ -74,7 +66,7 @@ abbrev pub AsItStands : {g : Geometry} {last : ℕ} {s : State} → Start g last
 AsItStands (fresh depth blocks tail o q) t = Unit {0}
 AsItStands {last = last} (added depth blocks tail u h r read q) t = SameFrames last u t
 
--- no user frame above the old end bears the pass
+-- beyond the old end no user frame has the pass
 abbrev pub NoneAbove : ℕ → Tape → ℕ → ℕ → Type 0
 NoneAbove last t end pass = (a : ℕ) (f : List ℕ) → isUser last a ≡ true → end < a → t a ≡ some f → Bears pass f → ⊥
 
@@ -107,24 +99,24 @@ pub record Untailed (g : Geometry) (last : ℕ) (t : Tape) (s : State) (b : Star
   -- wherever a fetch asks, what is due is what was due then
   pub due : w .session .ended ≡ false → w .flight ≡ recordings.no-command
       → dueOf (w .session .setup .depth) (w .session .setup .tail) (w .session .elements) ≡ formerDue (w .session .setup .depth) (w .session .elements)
-  -- where the session was opened as it should be, the window was lent back unaltered, and the close reported done:
+  -- where the session was opened as it should be, the window was lent each time as last left, and done was answered:
   -- reading gives what was there before, and then what was accepted; and the tape is a cartridge's as before
   pub readable : OnItsNewest b t → AsItStands b t → NoneInTheWay b t → w .notes .unaltered ≡ true → w .notes .reported ≡ true
       → Readable g last (w .drive .tape) (earlierOf b ++ w .notes .accepted) × Cartridge last (w .drive .tape)
   -- at the EOD address of each closing header that a fetch gives the tape reads as EOD, numbered by how many elements there are then
-  pub given : (lent frame : List ℕ) (a : ℕ) → w .session .stage ≡ S.ClosingHeaders → fetchOf (w .session) lent frame .said ≡ command 0x0A a
+  pub given : (lent frame : List ℕ) (a : ℕ) → w .session .stage ≡ S.ClosingHeaders → fetchOf (w .session) lent frame .said ≡ command writeCode a
       → EndsAt (headerOf (fetchOf (w .session) lent frame .frame)) (length (earlierOf b ++ w .notes .accepted)) (w .drive .tape)
-  -- where the session was opened on the newest header and the close reported done, so it does at that of each newest header
+  -- where it was opened on the newest header, or on none for want of one, and done was answered, so it does at that of each newest header
   pub newest : OnItsNewest b t → w .notes .reported ≡ true → (h : List ℕ) → Newest last (w .drive .tape) h
       → EndsAt (headerOf h) (length (earlierOf b ++ w .notes .accepted)) (w .drive .tape)
 
--- what holds after every list of a recording's calls, however the session was opened
+-- what holds after any calls of a recording, however the session was opened
 pub record Continued (g : Geometry) (last : ℕ) (t : Tape) (s : State) (b : Start g last s) (w : recordings.World) : Type 0 where
   -- under the conduct alone, closed or not
   pub written : Within last (w .drive .written)
   -- no second command before the reply
   pub alone : (lent frame : List ℕ) → (w .flight ≡ recordings.no-command → ⊥) → recordings.refusal (w .session) (recordings.fetch lent frame) ≡ 7
-  -- where the session was opened as it should be, the window was lent back unaltered, and the close reported done:
+  -- where the session was opened as it should be, the window was lent each time as last left, and done was answered:
   -- reading gives what was there before, and then what is promised and at most one more; and the tape is a cartridge's as before
   pub reads-back : OnItsNewest b t → AsItStands b t → NoneInTheWay b t → w .notes .unaltered ≡ true → w .notes .reported ≡ true
       → ReadsBack g last (earlierOf b) w × Cartridge last (w .drive .tape)
@@ -136,32 +128,29 @@ pub record Continued (g : Geometry) (last : ℕ) (t : Tape) (s : State) (b : Sta
   pub rests : w .notes .reported ≡ true → AtRest (w .drive)
   -- at the EOD address of each closing header that a fetch gives the tape reads as EOD, numbered by how many elements there are then, those
   -- aside that were given up
-  pub given : (lent frame : List ℕ) (a : ℕ) → w .session .stage ≡ S.ClosingHeaders → fetchOf (w .session) lent frame .said ≡ command 0x0A a
+  pub given : (lent frame : List ℕ) (a : ℕ) → w .session .stage ≡ S.ClosingHeaders → fetchOf (w .session) lent frame .said ≡ command writeCode a
       → EndsAt (headerOf (fetchOf (w .session) lent frame .frame)) (length (earlierOf b ++ promised (w .notes))) (w .drive .tape)
-  -- where the session was opened on the newest header and the close reported done, so it does at that of each newest header
+  -- where it was opened on the newest header, or on none for want of one, and done was answered, so it does at that of each newest header
   pub newest : OnItsNewest b t → w .notes .reported ≡ true → (h : List ℕ) → Newest last (w .drive .tape) h
       → EndsAt (headerOf h) (length (earlierOf b ++ promised (w .notes))) (w .drive .tape)
   -- where moreover none was in the way, no user frame above that EOD bears the pass: whoever adds next finds none in the way
   pub clear : OnItsNewest b t → NoneInTheWay b t → w .notes .reported ≡ true → (h : List ℕ) → Newest last (w .drive .tape) h
       → NoneAbove last (w .drive .tape) (headerOf h .eod .0) (headerOf h .pass)
-  -- and an opening at the end of a reading of the tape as left, on a newest header, is not refused with 13
+  -- and an addition behind a reading of the tape as left, on a newest header, is not refused with 13
   pub addable : OnItsNewest b t → NoneInTheWay b t → w .notes .reported ≡ true → (h : List ℕ) (r : readings.World) → Newest last (w .drive .tape) h
       → HasRead g last (w .drive .tape) h r → isAtEnd (r .session) ≡ true → endsElsewhere (r .session) ≡ false
   -- 02, Card 6: the session that the close of a spent one returns has the number of the first element given up: so many, with those that there
   -- were before, are on tape
   pub tells : isSpent (w .session) ≡ true
-      → closeOf (w .session) .session .elements .first .0 ≡ length (earlierOf b ++ promised (recordings.afterClose w .notes))
+      → closeOf (w .session) .session .elements .queue .first .0 ≡ length (earlierOf b ++ promised (recordings.afterClose w .notes))
   -- with T = 0 all is as it was before there was a tail
   pub untailed : s .setup .tail ≡ 0 → Untailed g last t s b w
 
 -- of every cartridge, whoever wrote it, and of every tail. Demand 3 is the case of a fresh session without one
 unfoldable pub Adds : Type 0
 Adds =
-    (g : Geometry) (last : ℕ) (d : Drive) (s : State) (b : Start g last s) (window : List ℕ) (calls : List recordings.Call) (w : recordings.World)
-    → g .segtrk < 2 ^ 16 → g .trks < 2 ^ 16 → lastOf g ≡ address last
-    → Cartridge last (d .tape) → d .written ≡ [] → AtRest d
-    → recordings.Runs (recordings.started s window d) calls w
-    → Continued g last (d .tape) s b w
+    (g : Geometry) (last : ℕ) (d : Drive) (s : State) (b : Start g last s) (w : recordings.World)
+    → HasRecorded g last d s w → Continued g last (d .tape) s b w
 
 -- ---- a chain of closed sessions
 
@@ -183,6 +172,7 @@ pub data Way : Type 0 where
   afresh : Way
   adding : Way
 
+-- which of the two a session is
 abbrev pub wayOf : {g : Geometry} {last : ℕ} {s : State} → Start g last s → Way
 wayOf (fresh depth blocks tail o q) = afresh
 wayOf (added depth blocks tail u h r read q) = adding
@@ -205,15 +195,17 @@ pub data Together (xs : List Element) : List recordings.Notes → List Element �
   one-more : (ns : List recordings.Notes) (ys : List Element) (n : recordings.Notes) (m : ℕ) → Together xs ns ys → Read n m
       → Together xs (ns ++ n ∷ []) (ys ++ take m (n .accepted))
 
--- all that was accepted in them, and that nothing was given up in any
+-- all that was accepted in them
 unfoldable pub acceptedIn : List recordings.Notes → List Element
 acceptedIn [] = []
 acceptedIn (n ∷ ns) = n .accepted ++ acceptedIn ns
 
+-- nothing was given up in any of them
 unfoldable pub NoneGiven : List recordings.Notes → Type 0
 NoneGiven [] = Unit {0}
 NoneGiven (n ∷ ns) = (n .givenUp ≡ 0) × NoneGiven ns
 
+-- what is read of a chain
 pub record ReadTogether (g : Geometry) (last : ℕ) (t : Tape) (xs : List Element) (ns : List recordings.Notes) : Type 0 where
   pub elements : List Element
   pub together : Together xs ns elements
@@ -232,5 +224,4 @@ WithoutTails (more t xs ns before d s b w cartridge way same newest closed) = Wi
 unfoldable pub Chains : Type 0
 Chains =
     (g : Geometry) (last : ℕ) (begun : Way) (t : Tape) (xs : List Element) (ns : List recordings.Notes)
-    → g .segtrk < 2 ^ 16 → g .trks < 2 ^ 16 → lastOf g ≡ address last
-    → (c : Chain g last begun t xs ns) → ReadTogether g last t xs ns × (WithoutTails c → NoneGiven ns)
+    → HasLast g last → (c : Chain g last begun t xs ns) → ReadTogether g last t xs ns × (WithoutTails c → NoneGiven ns)

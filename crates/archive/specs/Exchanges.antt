@@ -1,10 +1,8 @@
 -- 01, "The lists of demand 3" and "Replies": each exchange of a command and its reply, of a recording and of a reading.
-use Prim.Native.Nat.{ℕ, _^_, _<_}
+use Prim.Native.Nat.{ℕ}
 use mathlib.Core.Path.{_≡_}
 use mathlib.Core.List.{List}
 use lib.ListN.{length}
-use Rattle.geometry.specs.Place.{address}
-use Rattle.geometry.specs.Cartridge.{lastOf}
 use Rattle.geometry.specs.declared.cartridge.Geometry.{Geometry}
 use Rattle.frame.specs.Lengths.{frameLength}
 use Rattle.drive.specs.Command.{commandCode, commandAddress}
@@ -18,11 +16,12 @@ use Rattle.recording_state.specs.Lawful.{Lawful}
 use Rattle.recording_state.specs.declared.state.State.{State}
 use Rattle.reading_state.specs.Fetch as reading
 use Rattle.reading_state.specs.declared.state.State.{State as Reading}
-use Rattle.archive_lists.specs.Tape.{Tape}
+use Rattle.archive_lists.specs.Tape.{Tape, HasLast}
 use Rattle.archive_lists.specs.Conduct.{Drive}
 use Rattle.archive_lists.specs.Recordings as recordings
 use Rattle.archive_lists.specs.Readings as readings
-use Rattle.archive.specs.Chain.{HasRead, HasRecorded, Start}
+use Rattle.archive.specs.Recorded.{HasRecorded}
+use Rattle.archive.specs.Chain.{HasRead, Start}
 
 -- ---- the command that a fetch answers is the one that goes to the drive
 
@@ -36,18 +35,22 @@ pub record RecordingSent (number address : ℕ) (frame : List ℕ) (w : recordin
   pub held : NamesCommand number address (w .session .exchange .command)
   pub goes : w .flight ≡ recordings.sent (w .session .exchange .command) frame
 
+-- the same of a reading
 pub record ReadingSent (number address : ℕ) (w : readings.World) : Type 0 where
   pub held : NamesCommand number address (w .session .exchange .command)
   pub goes : w .flight ≡ readings.sent (w .session .exchange .command)
 
+-- of both sessions, at every fetch that answers a command
 pub record CommandsSent : Type 0 where
-  pub recording : (w : recordings.World) (lent frame : List ℕ) (number address : ℕ) → fetchOf (w .session) lent frame .said ≡ answer.command number address
+  pub recording : (w : recordings.World) (lent frame : List ℕ) (number address : ℕ)
+      → fetchOf (w .session) lent frame .said ≡ answer.command number address
       → RecordingSent number address (fetchOf (w .session) lent frame .frame) (recordings.afterFetch w lent frame)
   pub reading : (w : readings.World) (number address : ℕ) → reading.fetchOf (w .session) .said ≡ reading.command number address
       → ReadingSent number address (readings.afterFetch w)
 
 -- ---- which replies are refused with 8
 
+-- the reply is one of those that 01 lists for the command
 abbrev pub ListedFor : Command → Reply → Type 0
 ListedFor c r = Listed c (meaningOf (r .key) (r .asc) (r .ascq))
 
@@ -66,8 +69,8 @@ pub record ReadingRefuses (s : Reading) (c : Command) (r : Reply) (lent : List �
 -- accept or a close behind it could as well have come before it: so this is also what a reply meets when it is brought
 pub record RepliesRefused : Type 0 where
   pub recording : (g : Geometry) (last : ℕ) (d : Drive) (s : State) → Start g last s → (w : recordings.World)
-      → g .segtrk < 2 ^ 16 → g .trks < 2 ^ 16 → lastOf g ≡ address last → HasRecorded last d s w
+      → HasRecorded g last d s w
       → (c : Command) (frame : List ℕ) (r : Reply) → w .flight ≡ recordings.sent c frame → RecordingRefuses (w .session) c r
   pub reading : (g : Geometry) (last : ℕ) (t : Tape) (h : List ℕ) (w : readings.World)
-      → g .segtrk < 2 ^ 16 → g .trks < 2 ^ 16 → lastOf g ≡ address last → HasRead g last t h w
+      → HasLast g last → HasRead g last t h w
       → (c : Command) (r : Reply) (lent : List ℕ) → w .flight ≡ readings.sent c → length lent ≡ frameLength → ReadingRefuses (w .session) c r lent

@@ -1,14 +1,12 @@
 -- 02, Card 14: the mains gone in the middle of a session. The power may go at any point of a list of calls: what the drive has written by then is on
--- the tape, what the drive still holds or was never sent is not, and a frame being written is one that fails: it reads as before, as new, or not at
--- all (archive_lists specs/Conduct: Left). A session that a refusal ended is cut too, and the drive may go on with what it holds.
-use Prim.Native.Nat.{ℕ, _^_, _<_}
+-- the tape, what the drive still holds or was never sent is not, and a frame being written is one that fails (archive_lists specs/Conduct: Left). A
+-- session that a refusal ended is cut too, and the drive may go on with what it holds.
+use Prim.Native.Nat.{ℕ, _<_}
 use mathlib.Core.Path.{_≡_}
 use mathlib.Core.Bool.{true, false}
-use mathlib.Core.List.{List, [], _++_}
+use mathlib.Core.List.{List, _++_}
 use mathlib.Core.Logic.{_⊎_}
 use lib.ListN.{take}
-use Rattle.geometry.specs.Place.{address}
-use Rattle.geometry.specs.Cartridge.{lastOf}
 use Rattle.geometry.specs.declared.cartridge.Geometry.{Geometry}
 use Rattle.frame.specs.Lengths.{dataLength}
 use Rattle.drive.specs.declared.reply.Reply.{Reply}
@@ -17,8 +15,8 @@ use Rattle.recording_state.specs.declared.state.State.{State}
 use Rattle.reading_state.specs.State.{endOf}
 use Rattle.reading_state.specs.Open as reading
 use Rattle.reading_state.specs.Open.{toldOf}
-use Rattle.archive_lists.specs.Tape.{Tape, Cartridge, SameFrames}
-use Rattle.archive_lists.specs.Conduct.{Drive, AtRest}
+use Rattle.archive_lists.specs.Tape.{Tape, HasLast, Cartridge, SameFrames}
+use Rattle.archive_lists.specs.Conduct.{Drive}
 use Rattle.archive_lists.specs.Headers.{HeaderAt, Newest}
 use Rattle.archive_lists.specs.Recordings as recordings
 use Rattle.archive_lists.specs.Recordings.{Element}
@@ -26,6 +24,7 @@ use Rattle.archive_lists.specs.Readings as readings
 use Rattle.archive_lists.specs.Openings.{on-header, on-none}
 use Rattle.archive_lists.specs.Fold.{IsFold}
 use Rattle.archive_cuts.specs.Cuts.{FaithfulInPart, Throughout}
+use Rattle.archive.specs.Recorded.{HasRecorded}
 use Rattle.archive.specs.Chain.{Start, fresh, added, earlierOf, OnItsNewest, AsItStands, NoneInTheWay, Way, adding, wayOf}
 use Rattle.archive.specs.Chain.{ReadsBack, NoneAbove, Chain, Together, acceptedIn, NoneGiven}
 
@@ -66,6 +65,7 @@ pub data MayEnd {g : Geometry} {last : ℕ} {s : State} (b : Start g last s) (ol
 abbrev pub WindowKept : recordings.World → Type 0
 WindowKept w = w .notes .unaltered ≡ true
 
+-- what is left of a cartridge wherever the power went
 pub record Recoverable (g : Geometry) (last : ℕ) (old : Tape) (s : State) (b : Start g last s) (w : recordings.World) : Type 0 where
   -- the tape is a cartridge's as before
   pub cartridge : Cartridge last (w .drive .tape)
@@ -77,15 +77,13 @@ pub record Recoverable (g : Geometry) (last : ℕ) (old : Tape) (s : State) (b :
       → readings.Runs (w .drive .tape) (readings.started (reading.openOf g h .session) at) calls r
       → FaithfulInPart last (earlierOf b) (w .notes .accepted) (MayEnd b old (w .drive .tape)) r
 
--- after every list of a recording's calls, closed or not, ended by a refusal or not, on every cartridge, whoever wrote it, where the session was opened
+-- after any calls of a recording, closed or not, ended by a refusal or not, on every cartridge, whoever wrote it, where the session was opened
 -- as it should be and the window was kept. What was there before is what the reading delivered at whose end the session was opened; behind closed
 -- sessions EarlierFirst says that this is all that they hold
 unfoldable pub PowerCut : Type 0
 PowerCut =
-    (g : Geometry) (last : ℕ) (d : Drive) (s : State) (b : Start g last s) (window : List ℕ) (calls : List recordings.Call) (w : recordings.World)
-    → g .segtrk < 2 ^ 16 → g .trks < 2 ^ 16 → lastOf g ≡ address last
-    → Cartridge last (d .tape) → d .written ≡ [] → AtRest d
-    → recordings.Runs (recordings.started s window d) calls w
+    (g : Geometry) (last : ℕ) (d : Drive) (s : State) (b : Start g last s) (w : recordings.World)
+    → HasRecorded g last d s w
     → OnItsNewest b (d .tape) → AsItStands b (d .tape) → NoneInTheWay b (d .tape) → WindowKept w
     → Recoverable g last (d .tape) s b w
 
@@ -94,8 +92,7 @@ PowerCut =
 unfoldable pub EarlierFirst : Type 0
 EarlierFirst =
     (g : Geometry) (last : ℕ) (begun : Way) (t : Tape) (xs : List Element) (ns : List recordings.Notes) (s : State) (b : Start g last s)
-    → g .segtrk < 2 ^ 16 → g .trks < 2 ^ 16 → lastOf g ≡ address last
-    → Chain g last begun t xs ns → wayOf b ≡ adding → OnItsNewest b t → AsItStands b t
+    → HasLast g last → Chain g last begun t xs ns → wayOf b ≡ adding → OnItsNewest b t → AsItStands b t
     → Together xs ns (earlierOf b) × (NoneGiven ns → earlierOf b ≡ xs ++ acceptedIn ns)
 
 -- ---- a closing header that reads
@@ -116,10 +113,8 @@ pub record AsDone (g : Geometry) (last : ℕ) (s : State) (b : Start g last s) (
 -- under the conditions of PowerCut, of a session that goes on: where a newer header reads that names an EOD, whether done was answered or not
 unfoldable pub ClosingCopy : Type 0
 ClosingCopy =
-    (g : Geometry) (last : ℕ) (d : Drive) (s : State) (b : Start g last s) (window : List ℕ) (calls : List recordings.Call) (w : recordings.World)
-    → g .segtrk < 2 ^ 16 → g .trks < 2 ^ 16 → lastOf g ≡ address last
-    → Cartridge last (d .tape) → d .written ≡ [] → AtRest d
-    → recordings.Runs (recordings.started s window d) calls w
+    (g : Geometry) (last : ℕ) (d : Drive) (s : State) (b : Start g last s) (w : recordings.World)
+    → HasRecorded g last d s w
     → OnItsNewest b (d .tape) → AsItStands b (d .tape) → NoneInTheWay b (d .tape)
     → WindowKept w → GoesOn w
     → (a : ℕ) (h : List ℕ) → HeaderAt last (w .drive .tape) a h → IsNewer b h → (headerOf h .eod .0 ≡ 0 → ⊥)
@@ -131,7 +126,7 @@ ClosingCopy =
 abbrev pub NoneNewer : {g : Geometry} {last : ℕ} {s : State} → Start g last s → Tape → Type 0
 NoneNewer {last = last} b t = (a : ℕ) (h : List ℕ) → HeaderAt last t a h → IsNewer b h → ⊥
 
--- the old cartridge reads as it did: on each valid header that reads, which is as it was, every list of a reading's calls gives what the old tape has
+-- the old recording still reads: on each valid header that is left, which is as it was, every list of a reading's calls gives what the old tape has
 pub record AsBefore (g : Geometry) (last : ℕ) (old t : Tape) : Type 0 where
   pub cartridge : Cartridge last t
   pub user-frames : SameFrames last old t
@@ -148,9 +143,6 @@ pub record AsBefore (g : Geometry) (last : ℕ) (old t : Tape) : Type 0 where
 -- there was none. Nothing is asked of the window, nor of what the frames on the tape bear
 unfoldable pub BeforeFirstCopy : Type 0
 BeforeFirstCopy =
-    (g : Geometry) (last : ℕ) (d : Drive) (s : State) (b : Start g last s) (window : List ℕ) (calls : List recordings.Call) (w : recordings.World)
-    → g .segtrk < 2 ^ 16 → g .trks < 2 ^ 16 → lastOf g ≡ address last
-    → Cartridge last (d .tape) → d .written ≡ [] → AtRest d
-    → (runs : recordings.Runs (recordings.started s window d) calls w)
-    → Throughout (NoneNewer b) runs
+    (g : Geometry) (last : ℕ) (d : Drive) (s : State) (b : Start g last s) (w : recordings.World) (recorded : HasRecorded g last d s w)
+    → Throughout (NoneNewer b) (recorded .runs)
     → AsBefore g last (d .tape) (w .drive .tape)

@@ -12,6 +12,7 @@ use Rattle.archive.specs.PowerCut.{PowerCut, EarlierFirst, ClosingCopy, 
 use Rattle.archive.specs.Exchanges.{CommandsSent, RepliesRefused}
 use Rattle.archive_lists.specs.Refusals.{RefusedCalls}
 
+-- all of them, each by its name
 pub record Promises : Type 0 where
   -- 00, demand 1: what a refused call leaves; 01, "Replies": which replies are refused with 8
   pub refused-calls : RefusedCalls

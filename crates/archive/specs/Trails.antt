@@ -1,16 +1,16 @@
--- 01, "AUX bytes", over whole lists: each frame's number and kind, the filemarks before it (192-195) and the address of the latest earlier marker (200-203);
--- and that the drive puts a WRITE's frame where the WRITE says. The ground of 02, Card 5.
-use Prim.Native.Nat.{ℕ, _+_, _^_, _≤_, _<_}
+-- 01, "AUX bytes", over whole lists: each frame's number and kind, the filemarks before it (192-195) and where the latest of them stands (200-203);
+-- and that the drive puts a WRITE's frame where the WRITE says. 02, Card 5, rests on this.
+use Prim.Native.Nat.{ℕ, _+_, _≤_, _<_}
 use mathlib.Core.Path.{_≡_}
 use mathlib.Core.Bool.{true, false}
 use mathlib.Core.List.{List, [], _++_}
 use mathlib.Core.Logic.{_⊎_}
 use mathlib.Core.Option.{some}
 use lib.ListN.{length, getD}
-use Rattle.geometry.specs.Place.{address}
-use Rattle.geometry.specs.Cartridge.{lastOf, isUser, isHeader}
+use Rattle.geometry.specs.Cartridge.{isUser, isHeader}
 use Rattle.geometry.specs.declared.address.Address.{Address}
 use Rattle.geometry.specs.declared.cartridge.Geometry.{Geometry}
+use Rattle.frame.specs.Aux.{noMarker}
 use Rattle.frame.specs.declared.element.Kind.{Kind}
 use Rattle.frame.specs.declared.element.Kind.the-variants.{Marker}
 use Rattle.header.specs.Valid.{headerOf}
@@ -18,13 +18,14 @@ use Rattle.judgement.specs.Judgement as judgement
 use Rattle.judgement.specs.Judgement.{foundSaid}
 use Rattle.drive.specs.declared.command.Command.the-variants.{Write}
 use Rattle.recording_state.specs.declared.state.State.{State}
-use Rattle.archive_lists.specs.Tape.{Tape}
+use Rattle.archive_lists.specs.Tape.{Tape, HasLast}
 use Rattle.archive_lists.specs.Conduct.{Drive}
 use Rattle.archive_lists.specs.Headers.{Newest}
 use Rattle.archive_lists.specs.Recordings as recordings
 use Rattle.archive_lists.specs.Recordings.{Element, promised}
 use Rattle.archive_lists.specs.Filemarks.{itemAt, kindFor, filemarksAmong, latestAmong, NamesLatest, sequenceNumber, filemarksBefore, markerNamed, judged}
-use Rattle.archive.specs.Chain.{HasRecorded, Start, earlierOf, passOf, AsItStands, afresh, Chain, ReadTogether}
+use Rattle.archive.specs.Recorded.{HasRecorded}
+use Rattle.archive.specs.Chain.{Start, earlierOf, passOf, AsItStands, afresh, Chain, ReadTogether}
 
 -- ---- frames
 
@@ -47,6 +48,7 @@ pub data StandsAt (last pass : ℕ) (d : Drive) (kind : Kind) (j a : ℕ) : Type
   held : (i : ℕ) → i < length (d .buffer) → a ≡ d .at + i → isUser last a ≡ true → IsFrame last pass kind j (getD (d .buffer) i [])
       → StandsAt last pass d kind j a
 
+-- it stands at some address
 pub record StandsSomewhere (last pass : ℕ) (d : Drive) (kind : Kind) (j : ℕ) : Type 0 where
   pub place : ℕ
   pub there : StandsAt last pass d kind j place
@@ -57,8 +59,8 @@ pub record StandsSomewhere (last pass : ℕ) (d : Drive) (kind : Kind) (j : ℕ)
 pub record HeaderGoesOut (last pass : ℕ) (frame : List ℕ) : Type 0 where
   pub number : sequenceNumber frame ≡ 0
   pub counts : filemarksBefore frame ≡ 0
-  pub names : markerNamed frame ≡ 0xFFFFFFFF
-  pub passed-over : judged last pass frame ≡ judgement.skipped
+  pub names : markerNamed frame ≡ noMarker
+  pub passed-over : judged last pass frame ≡ judgement.passedOver
 
 -- the frame of an element or EOD, for address a, while the drive is d. xs are the elements that there were before, base in number, and those
 -- accepted since and not given up
@@ -75,8 +77,10 @@ pub record ElementGoesOut (last pass base : ℕ) (xs : List Element) (d : Drive)
   pub is : judged last pass frame ≡ foundSaid (kindFor (itemAt xs (sequenceNumber frame)))
   -- 192-195: the filemarks before it
   pub counts : filemarksBefore frame ≡ filemarksAmong xs (sequenceNumber frame)
-  -- 200-203: where the latest of them stands now. Of one that a reading delivered this is said where what was read is what the cartridge held at the opening
-  pub names : NamesLatest (latestAmong xs (sequenceNumber frame)) (λ j name. (j < base → as-it-stands) → StandsAt last pass d Marker j name) (markerNamed frame)
+  -- 200-203: where the latest of them stands now. Of one that a reading delivered this is said where what was read is what the cartridge held at the
+  -- opening
+  pub names : NamesLatest (latestAmong xs (sequenceNumber frame)) (λ j name. (j < base → as-it-stands) → StandsAt last pass d Marker j name)
+      (markerNamed frame)
 
 -- every WRITE that is with the drive
 pub record InFlight (last pass base : ℕ) (xs : List Element) (d : Drive) (as-it-stands : Type 0) (a : ℕ) (frame : List ℕ) : Type 0 where
@@ -85,11 +89,11 @@ pub record InFlight (last pass base : ℕ) (xs : List Element) (d : Drive) (as-i
   pub header : isHeader a ≡ true → HeaderGoesOut last pass frame
   pub element : isHeader a ≡ false → ElementGoesOut last pass base xs d as-it-stands a frame
 
--- after every list of a recording's calls, however it was opened, whatever the window holds, closed or not
+-- after any calls of a recording, however it was opened, whatever the window holds, closed or not
 unfoldable pub WritesNameMarkers : Type 0
 WritesNameMarkers =
     (g : Geometry) (last : ℕ) (d : Drive) (s : State) (b : Start g last s) (w : recordings.World)
-    → g .segtrk < 2 ^ 16 → g .trks < 2 ^ 16 → lastOf g ≡ address last → HasRecorded last d s w
+    → HasRecorded g last d s w
     → (a : Address) (frame : List ℕ) → w .flight ≡ recordings.sent (Write a) frame
     → InFlight last (passOf b) (length (earlierOf b)) (earlierOf b ++ promised (w .notes)) (w .drive) (AsItStands b (d .tape)) (a .0) frame
 
@@ -107,7 +111,8 @@ pub record Trailed (last pass : ℕ) (xs : List Element) (t : Tape) (frame : Lis
 -- every current frame on a user frame says so, stale copies and earlier EODs too
 abbrev pub Trails : ℕ → ℕ → List Element → Tape → Type 0
 Trails last pass xs t =
-    (a : ℕ) (frame : List ℕ) (kind : Kind) → isUser last a ≡ true → t a ≡ some frame → judged last pass frame ≡ foundSaid kind → Trailed last pass xs t frame
+    (a : ℕ) (frame : List ℕ) (kind : Kind) → isUser last a ≡ true → t a ≡ some frame → judged last pass frame ≡ foundSaid kind
+    → Trailed last pass xs t frame
 
 -- what is read of all its sessions, and that its frames say so
 pub record TrailsTogether (g : Geometry) (last : ℕ) (t : Tape) (xs : List Element) (ns : List recordings.Notes) : Type 0 where
@@ -118,5 +123,4 @@ pub record TrailsTogether (g : Geometry) (last : ℕ) (t : Tape) (xs : List Elem
 unfoldable pub ChainsNameMarkers : Type 0
 ChainsNameMarkers =
     (g : Geometry) (last : ℕ) (t : Tape) (xs : List Element) (ns : List recordings.Notes)
-    → g .segtrk < 2 ^ 16 → g .trks < 2 ^ 16 → lastOf g ≡ address last
-    → Chain g last afresh t xs ns → TrailsTogether g last t xs ns
+    → HasLast g last → Chain g last afresh t xs ns → TrailsTogether g last t xs ns

@@ -1,5 +1,5 @@
--- 02, Card 12: the worst a bad cartridge can do.
-use Prim.Native.Nat.{ℕ, _+_, _*_, _^_, _≤_, _<_}
+-- 02, Card 12: how many frames the drive takes at most, and a list of calls in which it takes so many.
+use Prim.Native.Nat.{ℕ, _+_, _*_, _≤_}
 use mathlib.Core.Path.{_≡_}
 use mathlib.Core.Bool.{true, false}
 use mathlib.Core.List.{List, []}
@@ -9,12 +9,13 @@ use lib.ListN.{length}
 use Rattle.geometry.specs.Place.{address}
 use Rattle.geometry.specs.Cartridge.{firstUser, lastOf}
 use Rattle.geometry.specs.declared.cartridge.Geometry.{Geometry}
-use Rattle.frame.specs.Lengths.{dataLength}
+use Rattle.frame.specs.Lengths.{dataLength, mostBlocks}
 use Rattle.frame_bounds.specs.Bounds.{smaller, framesAtMost, headerFramesAtMost}
 use Rattle.recording_state.specs.State.{accepting, windowLength}
 use Rattle.recording_state.specs.Open.{openBlankOf}
 use Rattle.recording_state.specs.declared.state.State.{State}
 use Rattle.reading_state.specs.State.{endOf}
+use Rattle.archive_lists.specs.Tape.{HasLast}
 use Rattle.archive_lists.specs.Conduct.{Drive}
 use Rattle.archive_lists.specs.Recordings.{Element, World, Call, Runs, started}
 use Rattle.archive_counts.specs.Acceptable.{Acceptable}
@@ -24,15 +25,17 @@ use Rattle.archive.specs.Chain.{Start, fresh, added}
 
 -- ---- the bound
 
--- D, W and T of a session, as it was opened
+-- D of a session, as it was opened
 abbrev pub depthOf : {g : Geometry} {last : ℕ} {s : State} → Start g last s → ℕ
 depthOf (fresh depth blocks tail o q) = depth
 depthOf (added depth blocks tail u h r read q) = depth
 
+-- its W
 abbrev pub blocksOf : {g : Geometry} {last : ℕ} {s : State} → Start g last s → ℕ
 blocksOf (fresh depth blocks tail o q) = blocks
 blocksOf (added depth blocks tail u h r read q) = blocks
 
+-- its T
 abbrev pub tailOf : {g : Geometry} {last : ℕ} {s : State} → Start g last s → ℕ
 tailOf (fresh depth blocks tail o q) = tail
 tailOf (added depth blocks tail u h r read q) = tail
@@ -42,7 +45,7 @@ pub record TakenAtMost (depth blocks : ℕ) {v w : World} {calls : List Call} (r
   pub elements : framesTaken runs ≤ framesAtMost (length (w .notes .accepted)) (errorsMet runs) depth blocks
   pub headers : headerFramesTaken runs ≤ headerFramesAtMost (headerErrorsMet runs) depth
 
--- after every list of a recording's calls, closed or not, with or without elements given up, however the session was opened, on any tape, whatever
+-- after any calls of a recording, closed or not, with or without elements given up, however the session was opened, on any tape, whatever
 -- the drive holds at the start and whatever the window holds
 unfoldable pub WorstCase : Type 0
 WorstCase =
@@ -53,7 +56,7 @@ WorstCase =
 
 -- ---- reached
 
--- a list of calls in which just these elements are accepted, nothing is given up, the window is lent back unaltered and the close reports done; e write
+-- a list of calls in which just these elements are accepted, nothing is given up, the window is lent each time as last left and done is answered; e write
 -- errors are met by elements and h by headers, at addresses that the list chooses, and the drive takes exactly as many frames as the bound says
 pub record Reaches (s : State) (window : List ℕ) (d : Drive) (depth blocks : ℕ) (xs : List Element) (e h : ℕ) : Type 0 where
   pub calls : List Call
@@ -88,7 +91,7 @@ ClearOfReserved start m = (start + m ≤ 2990) ⊎ (3000 ≤ start)
 unfoldable pub WorstReached : Type 0
 WorstReached =
     (g : Geometry) (last : ℕ) (d : Drive) (s : State) (b : Start g last s) (window : List ℕ) (xs : List Element) (e h : ℕ)
-    → g .segtrk < 2 ^ 16 → g .trks < 2 ^ 16 → lastOf g ≡ address last
+    → HasLast g last
     → length window ≡ windowLength s → Acceptable xs
     → smaller (depthOf b) (blocksOf b) ≤ length xs → h ≤ 4
     → EnoughTape (startOf b) (length xs) e (smaller (depthOf b) (blocksOf b)) (tailOf b) last
@@ -112,8 +115,8 @@ pub record RecordsOnBlank (g : Geometry) (last depth blocks tail : ℕ) (window 
 unfoldable pub WorstOnBlank : Type 0
 WorstOnBlank =
     (g : Geometry) (last depth blocks tail : ℕ) (window : List ℕ) (xs : List Element) (e h : ℕ)
-    → g .segtrk < 2 ^ 16 → g .trks < 2 ^ 16 → lastOf g ≡ address last
-    → 1 ≤ depth → depth ≤ 255 → 1 ≤ blocks → blocks ≤ 64 → tail ≤ 255
+    → HasLast g last
+    → 1 ≤ depth → depth ≤ 255 → 1 ≤ blocks → blocks ≤ mostBlocks → tail ≤ 255
     → length window ≡ blocks * dataLength → Acceptable xs
     → smaller depth blocks ≤ length xs → h ≤ 4
     → EnoughTape firstUser (length xs) e (smaller depth blocks) tail last

@@ -44,16 +44,18 @@ countIn among counts stop = 0
 countIn among counts (call c rest) = countIn among counts rest
 countIn among counts (drive m rest) = countOf among counts m + countIn among counts rest
 
--- WRITEs of elements and EOD that the drive took, and the write errors that these met
+-- the frames of elements and EOD that were taken
 abbrev pub framesTaken : {w v : World} {cs : List Call} → Runs w cs v → ℕ
 framesTaken runs = countIn amongElements isTaken runs
 
+-- the write errors that these met
 abbrev pub errorsMet : {w v : World} {cs : List Call} → Runs w cs v → ℕ
 errorsMet runs = countIn amongElements isFailed runs
 
--- the same of headers
+-- the frames of headers that were taken
 abbrev pub headerFramesTaken : {w v : World} {cs : List Call} → Runs w cs v → ℕ
 headerFramesTaken runs = countIn amongHeaders isTaken runs
 
+-- and the write errors that these met
 abbrev pub headerErrorsMet : {w v : World} {cs : List Call} → Runs w cs v → ℕ
 headerErrorsMet runs = countIn amongHeaders isFailed runs

@@ -106,12 +106,12 @@ module _ {last pass : ℕ} {prior : Prior} (ps : List Element) (k edge : ℕ) wh
     replied-holds (elements.moved a m none-left x p low s) = no-elements (at-rest (s .rests))
     replied-holds (elements.waits c m a) = wanted-holds a
 
-  writing-holds : {s : State} {d : Drive} {f : Flight} → s .elements .outstanding ≤ s .elements .pending → s .elements .first .0 + s .elements .pending ≤ length ps + 1 → (d .failed ≡ false → Queue last pass ps k (d .buffer)) → Writing last s d k edge f → Holds last pass prior ps k edge d
-  writing-holds {s} {d} few total q (elements.at-place _ _ l) = linked-holds (heldOf s) (s .elements .pending) d few total q (omega (arith, few)) l
+  writing-holds : {s : State} {d : Drive} {f : Flight} → s .elements .queue .outstanding ≤ s .elements .queue .pending → s .elements .queue .first .0 + s .elements .queue .pending ≤ length ps + 1 → (d .failed ≡ false → Queue last pass ps k (d .buffer)) → Writing last s d k edge f → Holds last pass prior ps k edge d
+  writing-holds {s} {d} few total q (elements.at-place _ _ l) = linked-holds (heldOf s) (s .elements .queue .pending) d few total q (omega (arith, few)) l
   writing-holds few total q (elements.to-locate _ _ _ m) = no-elements (at-rest (m .rests))
-  writing-holds {s} {d} few total q (elements.again _ _ x) = wanted-holds (heldOf s) (s .elements .pending) d few total q x
-  writing-holds {s} {d} few total q (elements.under-way _ _ _ _ _ x) = wanted-holds (heldOf s) (s .elements .pending) d few total q x
-  writing-holds {s} {d} few total q (elements.replied _ _ _ x) = replied-holds (heldOf s) (s .elements .pending) d few total q x
+  writing-holds {s} {d} few total q (elements.again _ _ x) = wanted-holds (heldOf s) (s .elements .queue .pending) d few total q x
+  writing-holds {s} {d} few total q (elements.under-way _ _ _ _ _ x) = wanted-holds (heldOf s) (s .elements .queue .pending) d few total q x
+  writing-holds {s} {d} few total q (elements.replied _ _ _ x) = replied-holds (heldOf s) (s .elements .queue .pending) d few total q x
 
 module _ (last pass : ℕ) (on-newest none-bears : Type 0) (prior : Prior) where
   live-holds : none-bears → (w : World) → Live last pass on-newest none-bears prior w → w .notes .unaltered ≡ true → InDrive last pass prior (w .notes .accepted) (w .drive)
@@ -124,7 +124,7 @@ module _ (last pass : ℕ) (on-newest none-bears : Type 0) (prior : Prior) where
     holds = holds (l .course);
   }
     where
-      total : w .session .elements .first .0 + w .session .elements .pending ≤ length (l .list) + 1
+      total : w .session .elements .queue .first .0 + w .session .elements .queue .pending ≤ length (l .list) + 1
       total = omega (arith, l .counted .numbered, most (w .session .elements .eod) (length (l .list)))
 
       holds : Course last (length (l .list)) w (l .k) (l .edge) → Holds last pass prior (l .list) (l .k) (l .edge) (w .drive)

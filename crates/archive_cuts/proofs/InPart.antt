@@ -1,5 +1,5 @@
 -- A reading of a tape on which the fold has the first so many of some elements, and ends or goes on: what every list of its calls gives. Assumes nothing.
-use Prim.Native.Nat.{ℕ, _+_, _≤_}
+use Prim.Native.Nat.{ℕ, _≤_}
 use mathlib.Core.Path.{_≡_, refl, sym, ap, subst, _∙_}
 use mathlib.Core.Bool.{true}
 use mathlib.Core.List.{List, _++_}
@@ -79,7 +79,7 @@ module _ {told : Told} {t : Tape} (k : ReadTape told t) (earlier accepted : List
     whole = λ h. omega (arith, ap length (all-delivered x h (standing i)), size);
     ends-where = λ h. ends-there x h (standing i);
     goes-on = λ g z q. ⊎-elim inl (λ y. inr (y .0)) (s .goes-on g z q);
-    taken = λ r given lent q along long. twelve (s .taken r given lent q along long);
+    taken-in = λ r given lent q along long. twelve (s .taken-in r given lent q along long);
     full = s .full;
     alone = s .alone;
     bounded = few;

@@ -68,13 +68,13 @@ module _ {last pass : ℕ} (told : Told) (last-is : told .last .0 ≡ last) (pas
         alike (above-so told (record { 0 = a }) (record { 0 = n }) f k (here .typed) (subst (λ (x : ℕ). n < x) (sym (here .number)) l)
         ∙ sym (above-so (unending last pass) (record { 0 = a }) (record { 0 = n }) f k (there .typed) (subst (λ (x : ℕ). n < x) (sym (there .number)) l)))
 
-    skipped-there : i < n → judgeFrame (unending last pass) (record { 0 = a }) (record { 0 = n }) f ≡ judgement.skipped
-    skipped-there l = below-so (unending last pass) (record { 0 = a }) (record { 0 = n }) f k (unnamed (unending last pass) (record { 0 = a }) early k) (there .typed) (subst (λ (x : ℕ). x < n) (sym (there .number)) l)
+    passed-over-there : i < n → judgeFrame (unending last pass) (record { 0 = a }) (record { 0 = n }) f ≡ judgement.passedOver
+    passed-over-there l = below-so (unending last pass) (record { 0 = a }) (record { 0 = n }) f k (unnamed (unending last pass) (record { 0 = a }) early k) (there .typed) (subst (λ (x : ℕ). x < n) (sym (there .number)) l)
 
   bears : (k : Kind) (i : ℕ) → FoundAs (telling last pass 0) (record { 0 = i }) k f → Bears pass f
   bears k i h = h .typed .written
 
-  not-named : (i : ℕ) → FoundAs (telling last pass 0) (record { 0 = i }) Eod f → i < n → (i + 1 ≡ n → ⊥) → {j : JudgementSaid} → JudgeView told (record { 0 = a }) (record { 0 = n }) f j → j ≡ judgement.skipped
+  not-named : (i : ℕ) → FoundAs (telling last pass 0) (record { 0 = i }) Eod f → i < n → (i + 1 ≡ n → ⊥) → {j : JudgementSaid} → JudgeView told (record { 0 = a }) (record { 0 = n }) f j → j ≡ judgement.passedOver
   not-named i h l other (view.wrong-length w) = absurd (w (h .typed .long))
   not-named i h l other (view.other-format _ _) = refl
   not-named i h l other (view.other-type _ _) = refl
@@ -89,8 +89,8 @@ module _ {last pass : ℕ} (told : Told) (last-is : told .last .0 ≡ last) (pas
   not-named i h l other (view.found _ _ _ q) = absurd (omega (arith, h .number, q .number))
 
   below-eod : (i : ℕ) (h : FoundAs (telling last pass 0) (record { 0 = i }) Eod f) → i < n → (b : Bool) → isNamedEnd Eod told (record { 0 = a }) ≡ b → Dec (i + 1 ≡ n) → Judged
-  below-eod i h l false e d = alike (below-so told (record { 0 = a }) (record { 0 = n }) f Eod e (here Eod i h .typed) (subst (λ (x : ℕ). x < n) (sym (here Eod i h .number)) l) ∙ sym (skipped-there Eod i h l))
-  below-eod i h l true e (no other) = alike (not-named i h l other (judge-view told (record { 0 = a }) (record { 0 = n }) f) ∙ sym (skipped-there Eod i h l))
+  below-eod i h l false e d = alike (below-so told (record { 0 = a }) (record { 0 = n }) f Eod e (here Eod i h .typed) (subst (λ (x : ℕ). x < n) (sym (here Eod i h .number)) l) ∙ sym (passed-over-there Eod i h l))
+  below-eod i h l true e (no other) = alike (not-named i h l other (judge-view told (record { 0 = a }) (record { 0 = n }) f) ∙ sym (passed-over-there Eod i h l))
   below-eod i h l true e (yes one) =
       let both = and-true (not (eqb (told .eod .0) 0)) (eqb a (told .eod .0)) e in
       ends (one-below-so told (record { 0 = a }) (record { 0 = n }) f (named-some (eqb (told .eod .0) 0) refl (both .0)) (eqb-true a (told .eod .0) (both .1)) (record { 0 = i }) one (here Eod i h)) (bears Eod i h)
@@ -100,8 +100,8 @@ module _ {last pass : ℕ} (told : Told) (last-is : told .last .0 ≡ last) (pas
       named-some false q z = eqb-false (told .eod .0) 0 q
 
   below : (k : Kind) (i : ℕ) (h : FoundAs (telling last pass 0) (record { 0 = i }) k f) → i < n → Judged
-  below Data i h l = alike (below-so told (record { 0 = a }) (record { 0 = n }) f Data refl (here Data i h .typed) (subst (λ (x : ℕ). x < n) (sym (here Data i h .number)) l) ∙ sym (skipped-there Data i h l))
-  below Marker i h l = alike (below-so told (record { 0 = a }) (record { 0 = n }) f Marker refl (here Marker i h .typed) (subst (λ (x : ℕ). x < n) (sym (here Marker i h .number)) l) ∙ sym (skipped-there Marker i h l))
+  below Data i h l = alike (below-so told (record { 0 = a }) (record { 0 = n }) f Data refl (here Data i h .typed) (subst (λ (x : ℕ). x < n) (sym (here Data i h .number)) l) ∙ sym (passed-over-there Data i h l))
+  below Marker i h l = alike (below-so told (record { 0 = a }) (record { 0 = n }) f Marker refl (here Marker i h .typed) (subst (λ (x : ℕ). x < n) (sym (here Marker i h .number)) l) ∙ sym (passed-over-there Marker i h l))
   below Eod i h l = below-eod i h l (isNamedEnd Eod told (record { 0 = a })) refl (ℕ-discrete (i + 1) n)
 
   same : (k : Kind) → FoundAs (telling last pass 0) (record { 0 = n }) k f → Judged
@@ -144,7 +144,7 @@ look-is told a f n got trail = refl
 
 -- nothing is taken back
 advance-up : (x : JudgementSaid) (f : List ℕ) (a n m : ℕ) (got more : List Element) (trail other : Trail) → advance x f a n got trail ≡ going m more other → n ≤ m
-advance-up judgement.skipped f a n m got more trail other e = let q : n ≡ m = cc in omega arith
+advance-up judgement.passedOver f a n m got more trail other e = let q : n ≡ m = cc in omega arith
 advance-up (judgement.refused k) f a n m got more trail other e = never (cc)
 advance-up judgement.block f a n m got more trail other e = let q : n + 1 ≡ m = cc in omega arith
 advance-up judgement.filemark f a n m got more trail other e = let q : n + 1 ≡ m = cc in omega arith

@@ -28,11 +28,11 @@ pub record FaithfulInPart (last : ℕ) (earlier accepted : List Element) (mayEnd
   pub whole : (w .notes .end ≡ true) ⊎ (w .notes .refused ≡ 12) → length earlier ≤ length (w .notes .deliveries)
   -- it ends at one of those addresses
   pub ends-where : w .notes .end ≡ true → mayEnd (endOf (w .session) .0)
-  -- until then each fetch with no reply awaited gives a command, or 12
+  -- before that a fetch that awaits no reply gives a command, or 12
   pub goes-on : w .notes .end ≡ false → w .notes .refused ≡ 0 → w .flight ≡ readings.no-command
       → GivesCommand (fetch.fetchOf (w .session) .said) ⊎ (fetch.fetchOf (w .session) .said ≡ fetch.refused 12)
   -- and the drive's answer, once given, is taken in with a lent frame of 33,280 bytes, or 12 comes with it
-  pub taken : (r : Reply) (given : Option (List ℕ)) (lent : List ℕ) → w .flight ≡ readings.answered r given → readings.LentWith given lent
+  pub taken-in : (r : Reply) (given : Option (List ℕ)) (lent : List ℕ) → w .flight ≡ readings.answered r given → readings.LentWith given lent
       → length lent ≡ frameLength
       → (readings.refusal (w .session) (readings.replying r lent) ≡ 0) ⊎ (readings.refusal (w .session) (readings.replying r lent) ≡ 12)
   -- as every frame is that the drive gave

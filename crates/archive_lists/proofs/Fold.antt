@@ -68,7 +68,10 @@ module _ (g : Geometry) (last : ℕ) (t : Tape) (h : List ℕ) (at : ℕ) (calls
 
 pub reading-is-fold : ReadingIsFold
 unfolding ReadingIsFold
-reading-is-fold g last t h at calls w seg trk e cart opens runs =
+reading-is-fold g last t h at calls w sized cart opens runs =
+    let seg = sized .segtrk in
+    let trk = sized .trks in
+    let e = sized .is-last in
     is-fold (tape-read g last t h at calls w seg trk e cart opens runs) w (reading-few g last t h at calls w seg trk e cart opens runs) (reading-kept g last t h at calls w seg trk e cart opens runs)
 
 pub fold-of-user-frames : FoldOfUserFrames

@@ -112,7 +112,7 @@ read-leaves s (readings.replying r frame) h = read-reply-leaves s r frame (reply
 
 read-refused-7 : (s : Reading) (c : readings.Call) → s .ended ≡ true → readings.refusal s c ≡ 7
 read-refused-7 s readings.fetching e = ap (λ (x : reading.FetchedSaid). readings.fetchNumber (x .said)) (reading-ended.ended-fetch s e)
-read-refused-7 s (readings.replying r frame) e = ap (λ (x : reply.TakenSaid). readings.replyNumber (x .said)) (reading-ended.ended-reply s e r frame)
+read-refused-7 s (readings.replying r frame) e = ap (λ (x : reply.RepliedSaid). readings.replyNumber (x .said)) (reading-ended.ended-reply s e r frame)
 
 -- ---- openings
 

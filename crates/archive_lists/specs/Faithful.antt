@@ -7,19 +7,20 @@ use mathlib.Core.Logic.{_⊎_}
 use mathlib.Core.Option.{Option, some}
 use lib.ListN.{length, take}
 use Rattle.frame.specs.Lengths.{frameLength}
+use Rattle.drive.specs.Command.{readCode, locateCode}
 use Rattle.drive.specs.declared.reply.Reply.{Reply}
 use Rattle.reading_state.specs.Fetch as fetch
 use Rattle.archive_lists.specs.Recordings.{Element}
 use Rattle.archive_lists.specs.Readings as readings
 
--- a number fixed by LAST alone: one reply for each of the LAST - 19 user frames, one for LOCATE 10 and one for LOCATE 3,000;
--- a jump after 08/00/05 costs one LOCATE and passes 22 of them at least
+-- how many replies a reading takes in before its end, at most, busy ones aside: one for each of the LAST - 19 user frames, one for LOCATE 10 and one for
+-- LOCATE 3,000; a jump after 08/00/05 costs one LOCATE and passes 22 of them at least
 abbrev pub replyBound : ℕ → ℕ
 replyBound last = last - 17
 
 -- a command of a reading's: READ or LOCATE
 abbrev pub GivesCommand : fetch.AnswerSaid → Type 0
-GivesCommand (fetch.command n a) = (n ≡ 0x08) ⊎ (n ≡ 0x2B)
+GivesCommand (fetch.command n a) = (n ≡ readCode) ⊎ (n ≡ locateCode)
 GivesCommand fetch.end = ⊥
 GivesCommand (fetch.refused n) = ⊥
 
@@ -28,12 +29,12 @@ pub record Faithful (last : ℕ) (accepted : List Element) (w : readings.World) 
   -- the deliveries are the first so many of what was accepted
   pub count : ℕ
   pub in-order : w .notes .deliveries ≡ take count accepted
-  -- nothing is refused with 8 or more
+  -- no call was refused with 8 or more
   pub never-refused : w .notes .refused ≡ 0
-  -- until the end each fetch with no reply awaited gives a command
+  -- before the end a fetch that awaits no reply gives a command
   pub goes-on : w .notes .end ≡ false → w .flight ≡ readings.no-command → GivesCommand (fetch.fetchOf (w .session) .said)
   -- and the drive's answer, once given, is taken in with a lent frame of 33,280 bytes
-  pub taken : (r : Reply) (given : Option (List ℕ)) (lent : List ℕ) → w .flight ≡ readings.answered r given → readings.LentWith given lent
+  pub taken-in : (r : Reply) (given : Option (List ℕ)) (lent : List ℕ) → w .flight ≡ readings.answered r given → readings.LentWith given lent
       → length lent ≡ frameLength → readings.refusal (w .session) (readings.replying r lent) ≡ 0
   -- as every frame is that the drive gave
   pub full : (r : Reply) (frame : List ℕ) → w .flight ≡ readings.answered r (some frame) → length frame ≡ frameLength

@@ -9,6 +9,7 @@ use Rattle.geometry.specs.Pick.{pick}
 use Rattle.geometry.specs.Place.{asAddress, asSeq}
 use Rattle.buffer.specs.Bytes.{get32}
 use Rattle.frame.specs.Lengths.{dataLength}
+use Rattle.frame.specs.Aux.{noMarker}
 use Rattle.frame.specs.declared.element.Kind.{Kind}
 use Rattle.frame.specs.declared.element.Kind.the-variants.{Data, Marker, Eod}
 use Rattle.judgement.specs.Judgement.{JudgementSaid, judgeFrame}
@@ -22,16 +23,19 @@ pub data Item : Type 0 where
   element : Element → Item
   eod : Item
 
+-- the element with this number, or EOD behind the last
 unfoldable pub itemAt : List Element → ℕ → Item
 itemAt [] n = eod
 itemAt (x ∷ xs) zero = element x
 itemAt (x ∷ xs) (suc n) = itemAt xs n
 
+-- the kind of its frame
 abbrev pub kindFor : Item → Kind
 kindFor (element (block b)) = Data
 kindFor (element filemark) = Marker
 kindFor eod = Eod
 
+-- whether it is a filemark
 abbrev pub isMarker : Item → Bool
 isMarker (element (block b)) = false
 isMarker (element filemark) = true
@@ -47,19 +51,22 @@ unfoldable pub latestAmong : List Element → ℕ → Option ℕ
 latestAmong xs zero = none
 latestAmong xs (suc n) = pick (isMarker (itemAt xs n)) (some n) (latestAmong xs n)
 
--- a name of that filemark: FF FF FF FF if there is none, else an address at which it is
+-- a name of that filemark: an address where it stands, and FF FF FF FF where there is none
 abbrev pub NamesLatest : Option ℕ → (ℕ → ℕ → Type 0) → ℕ → Type 0
-NamesLatest none IsAt name = name ≡ 0xFFFFFFFF
+NamesLatest none IsAt name = name ≡ noMarker
 NamesLatest (some j) IsAt name = IsAt j name
 
 -- ---- frames: AUX 44-47, 192-195 and 200-203
 
+-- the number that a frame carries
 abbrev pub sequenceNumber : List ℕ → ℕ
 sequenceNumber frame = get32 (drop dataLength frame) 44
 
+-- how many filemarks it says are before it
 abbrev pub filemarksBefore : List ℕ → ℕ
 filemarksBefore frame = get32 (drop dataLength frame) 192
 
+-- which address it names as the latest of them
 abbrev pub markerNamed : List ℕ → ℕ
 markerNamed frame = get32 (drop dataLength frame) 200
 

@@ -1,5 +1,6 @@
--- 01, "Reading a cartridge", as a whole: what a reading makes of a tape, address by address, and that every list of its calls gives that.
-use Prim.Native.Nat.{ℕ, zero, suc, _+_, _^_, _<_}
+-- 01, "Reading a cartridge", as a whole: the fold of a tape, which is what its user frames give, judged one after another from the first on, and that
+-- every list of a reading's calls gives that.
+use Prim.Native.Nat.{ℕ, zero, suc, _+_}
 use mathlib.Core.Path.{_≡_}
 use mathlib.Core.Bool.{true, false}
 use mathlib.Core.List.{List, [], _∷_, _++_}
@@ -7,8 +8,8 @@ use mathlib.Core.Logic.{_⊎_}
 use mathlib.Core.Option.{Option, none, some}
 use lib.ListN.{take}
 use Rattle.geometry.specs.Pick.{pick}
-use Rattle.geometry.specs.Place.{address, asAddress, asSeq}
-use Rattle.geometry.specs.Cartridge.{lastOf, isUser}
+use Rattle.geometry.specs.Place.{asAddress, asSeq}
+use Rattle.geometry.specs.Cartridge.{isUser}
 use Rattle.geometry.specs.declared.cartridge.Geometry.{Geometry}
 use Rattle.frame.specs.Lengths.{dataLength}
 use Rattle.frame.specs.Trail.{noTrail, marked}
@@ -19,11 +20,12 @@ use Rattle.judgement.specs.Judgement.{JudgementSaid, judgeFrame}
 use Rattle.judgement.specs.declared.told.Told.{Told}
 use Rattle.reading_state.specs.State.{endOf}
 use Rattle.reading_state.specs.Open.{toldOf, openOf}
-use Rattle.archive_lists.specs.Tape.{Tape, Cartridge, SameFrames}
+use Rattle.archive_lists.specs.Tape.{Tape, HasLast, Cartridge, SameFrames}
 use Rattle.archive_lists.specs.Recordings.{Element, block, filemark}
 use Rattle.archive_lists.specs.Readings.{World, Call, Runs, started}
 use Rattle.archive_lists.specs.Faithful.{Faithful}
 
+-- how far the fold has come
 pub data Reader : Type 0 where
   -- it goes on, with the number that it expects, what it has delivered, and the filemarks among that
   going : ℕ → List Element → Trail → Reader
@@ -34,7 +36,7 @@ pub data Reader : Type 0 where
 
 -- a frame at an address, by its judgement
 abbrev pub advance : JudgementSaid → List ℕ → ℕ → ℕ → List Element → Trail → Reader
-advance judgement.skipped f a n got trail = going n got trail
+advance judgement.passedOver f a n got trail = going n got trail
 advance (judgement.refused m) f a n got trail = stopped m
 advance judgement.block f a n got trail = going (n + 1) (got ++ block (take dataLength f) ∷ []) trail
 advance judgement.filemark f a n got trail = going (n + 1) (got ++ filemark ∷ []) (marked trail (asAddress a))
@@ -71,6 +73,7 @@ pub data Standing (told : Told) (t : Tape) (w : World) : Type 0 where
   finds-no-end : w .notes .refused ≡ 12 → w .notes .end ≡ false
       → wholeOf told t ≡ going (w .session .expected .0) (w .notes .deliveries) (w .session .trail) → Standing told t w
 
+-- what every list of a reading's calls gives of a tape: the fold
 pub record IsFold (told : Told) (t : Tape) (w : World) : Type 0 where
   pub standing : Standing told t w
   -- where the fold over the whole tape ends, every list goes on to that end
@@ -80,8 +83,7 @@ pub record IsFold (told : Told) (t : Tape) (w : World) : Type 0 where
 unfoldable pub ReadingIsFold : Type 0
 ReadingIsFold =
     (g : Geometry) (last : ℕ) (t : Tape) (h : List ℕ) (at : ℕ) (calls : List Call) (w : World)
-    → g .segtrk < 2 ^ 16 → g .trks < 2 ^ 16 → lastOf g ≡ address last
-    → Cartridge last t → openOf g h .number ≡ 0
+    → HasLast g last → Cartridge last t → openOf g h .number ≡ 0
     → Runs t (started (openOf g h .session) at) calls w
     → IsFold (toldOf (headerOf h)) t w
 

@@ -17,11 +17,12 @@ pub data Opening : Type 0 where
   on-header : List ℕ → Opening
   on-none : Opening
 
+-- what it returns
 abbrev pub opened : Geometry → ℕ → ℕ → ℕ → Opening → OutcomeSaid
 opened g depth window tail (on-header h) = openOf g depth window tail h
 opened g depth window tail on-none = openBlankOf g depth window tail
 
--- on the newest header the cartridge holds, or on none where it holds none
+-- on the cartridge's newest header; on none if there is none
 abbrev pub OnNewest : ℕ → Tape → Opening → Type 0
 OnNewest last t (on-header h) = Newest last t h
 OnNewest last t on-none = NoHeader last t
@@ -31,6 +32,6 @@ abbrev pub newPass : Opening → ℕ
 newPass (on-header h) = headerOf h .pass + 1
 newPass on-none = 1
 
--- over user frames of which none bears the new write pass
+-- no user frame has this pass
 abbrev pub NoneBears : ℕ → Tape → ℕ → Type 0
 NoneBears last t pass = (a : ℕ) (f : List ℕ) → isUser last a ≡ true → t a ≡ some f → Bears pass f → ⊥

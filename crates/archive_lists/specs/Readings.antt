@@ -37,6 +37,7 @@ pub record Notes : Type 0 where
   -- a reply was answered with the end
   pub end : Bool
 
+-- everything between two calls of a reading
 pub record World : Type 0 where
   pub session : Reading
   -- where the drive stands
@@ -53,11 +54,13 @@ pub data Call : Type 0 where
 abbrev pub LentWith : Option (List ℕ) → List ℕ → Type 0
 LentWith given lent = (given ≡ option.none) ⊎ (given ≡ option.some lent)
 
+-- the refusal in a fetch's answer, 0 for none
 abbrev pub fetchNumber : fetch.AnswerSaid → ℕ
 fetchNumber (fetch.command c a) = 0
 fetchNumber fetch.end = 0
 fetchNumber (fetch.refused n) = n
 
+-- and in a reply's
 abbrev pub replyNumber : reply.DeliverySaid → ℕ
 replyNumber reply.nothing = 0
 replyNumber reply.block = 0
@@ -75,6 +78,7 @@ abbrev pub returned : Reading → Call → Reading
 returned s fetching = fetch.fetchOf s .session
 returned s (replying r frame) = reply.replyOf s r frame .session
 
+-- the session alone is another
 abbrev pub withSession : World → Reading → World
 withSession w s = record { session = s; at = w .at; flight = w .flight; notes = w .notes }
 
@@ -88,6 +92,7 @@ flightAfter (fetch.refused n) f = f
 abbrev pub refusedAfter : ℕ → ℕ → ℕ
 refusedAfter n before = pick (leb 8 n) n before
 
+-- what a fetch adds to the notes
 abbrev pub notedFetch : fetch.AnswerSaid → Notes → Notes
 notedFetch said n = record { deliveries = n .deliveries; replies = n .replies; refused = refusedAfter (fetchNumber said) (n .refused); end = n .end }
 
@@ -95,10 +100,11 @@ notedFetch said n = record { deliveries = n .deliveries; replies = n .replies; r
 abbrev pub afterFetching : World → fetch.FetchedSaid → World
 afterFetching w x = record { session = x .session; at = w .at; flight = flightAfter (x .said) (w .flight); notes = notedFetch (x .said) (w .notes) }
 
+-- after a fetch
 abbrev pub afterFetch : World → World
 afterFetch w = afterFetching w (fetch.fetchOf (w .session))
 
--- deliveries: one for each reply answered delivered, the first 32,768 bytes of a data frame, a filemark for a marker
+-- what a reply adds to the deliveries: for a block the data of the frame that was lent
 abbrev pub delivered : reply.DeliverySaid → List ℕ → List Element
 delivered reply.nothing frame = []
 delivered reply.block frame = block (take dataLength frame) ∷ []
@@ -114,9 +120,11 @@ endAfter reply.filemark b = b
 endAfter reply.end b = true
 endAfter (reply.refused n) b = b
 
+-- a reply counts unless it is busy
 abbrev pub repliesAfter : Reply → ℕ → ℕ
 repliesAfter r n = pick (eqb (meaningOf (r .key) (r .asc) (r .ascq)) busy) n (n + 1)
 
+-- what a reply adds to the notes
 abbrev pub notedReply : Reply → List ℕ → reply.DeliverySaid → Notes → Notes
 notedReply r frame said n = record {
   deliveries = n .deliveries ++ delivered said frame;
@@ -126,15 +134,16 @@ notedReply r frame said n = record {
 }
 
 -- by what the reply is answered
-abbrev pub afterTaking : World → Reply → List ℕ → reply.TakenSaid → World
-afterTaking w r frame x = record { session = x .session; at = w .at; flight = no-command; notes = notedReply r frame (x .said) (w .notes) }
+abbrev pub afterReplying : World → Reply → List ℕ → reply.RepliedSaid → World
+afterReplying w r frame x = record { session = x .session; at = w .at; flight = no-command; notes = notedReply r frame (x .said) (w .notes) }
 
+-- after a reply
 abbrev pub afterReply : World → Reply → List ℕ → World
-afterReply w r frame = afterTaking w r frame (reply.replyOf (w .session) r frame)
+afterReply w r frame = afterReplying w r frame (reply.replyOf (w .session) r frame)
 
--- one call: each gets the session that the last one returned, and a reply is brought as the drive gave it
+-- one call, on the session that the one before it returned; a reply is the drive's own
 pub data Calls (w : World) : Call → World → Type 0 where
-  -- a call refused with 1 to 7 counts for nothing, whatever it brings: after 1 the same reply may be brought again
+  -- refused with 1 to 7: only the session is kept, and after 1 the same reply may be brought again
   refuses : (c : Call) → 1 ≤ refusal (w .session) c → refusal (w .session) c ≤ 7 → Calls w c (withSession w (returned (w .session) c))
   fetches : TakesEffect (refusal (w .session) fetching) → Calls w fetching (afterFetch w)
   replies : (r : Reply) (given : Option (List ℕ)) (lent : List ℕ) → w .flight ≡ answered r given → LentWith given lent
@@ -145,6 +154,7 @@ pub data Moves (t : Tape) (w : World) : World → Type 0 where
   serves : (c : Command) (r : Reply) (given : Option (List ℕ)) (at : ℕ) → w .flight ≡ sent c → Serves t (w .at) c r given at
       → Moves t w (record { session = w .session; at = at; flight = answered r given; notes = w .notes })
 
+-- a list of calls, with the drive's answers between them
 pub data Runs (t : Tape) : World → List Call → World → Type 0 where
   stop : {w : World} → Runs t w [] w
   call : {w v u : World} {c : Call} {cs : List Call} → Calls w c v → Runs t v cs u → Runs t w (c ∷ cs) u

@@ -39,6 +39,7 @@ pub record Notes : Type 0 where
   -- 02, Card 6: how many of them close has given up
   pub givenUp : ℕ
 
+-- everything between two calls of a recording
 pub record World : Type 0 where
   pub session : State
   -- the window as last left
@@ -47,10 +48,11 @@ pub record World : Type 0 where
   pub flight : Flight
   pub notes : Notes
 
--- what a done close promises: all that was accepted but for what was given up, which is the last of it
+-- how many elements a done close promises: all that were accepted but for those given up, which are the last
 abbrev pub keptOf : Notes → ℕ
 keptOf n = length (n .accepted) - n .givenUp
 
+-- these elements
 abbrev pub promised : Notes → List Element
 promised n = take (keptOf n) (n .accepted)
 
@@ -62,13 +64,14 @@ pub data Call : Type 0 where
   fetch : (window frame : List ℕ) → Call
   reply : Reply → Call
 
--- the refusal that a call meets, 0 for none
+-- the refusal in a fetch's answer, 0 for none
 abbrev pub fetchNumber : AnswerSaid → ℕ
 fetchNumber (command c a) = 0
 fetchNumber idle = 0
 fetchNumber done = 0
 fetchNumber (refused n) = n
 
+-- the refusal that a call meets, 0 for none
 abbrev pub refusal : State → Call → ℕ
 refusal s (accept-block b window) = blockOf s b window .result .number
 refusal s accept-filemark = filemarkOf s .number
@@ -76,7 +79,7 @@ refusal s close = closeOf s .number
 refusal s (fetch window frame) = fetchNumber (fetchOf s window frame .said)
 refusal s (reply r) = replyOf s r .number
 
--- the call is not refused with 1 to 7
+-- the call is accepted, or its refusal ends the session
 abbrev pub TakesEffect : ℕ → Type 0
 TakesEffect n = (n ≡ 0) ⊎ (8 ≤ n)
 
@@ -106,6 +109,7 @@ afterRefusal w c = record {
   notes = w .notes;
 }
 
+-- the session alone is another
 abbrev pub withSession : World → State → World
 withSession w s = record { session = s; window = w .window; drive = w .drive; flight = w .flight; notes = w .notes }
 
@@ -113,6 +117,7 @@ withSession w s = record { session = s; window = w .window; drive = w .drive; fl
 abbrev pub acceptedAfter : ℕ → List Element → Element → List Element
 acceptedAfter n xs x = pick (eqb n 0) (xs ++ x ∷ []) xs
 
+-- after an accept of a block
 abbrev pub afterBlock : World → List ℕ → List ℕ → World
 afterBlock w b lent = record {
   session = blockOf (w .session) b lent .result .session;
@@ -127,6 +132,7 @@ afterBlock w b lent = record {
   };
 }
 
+-- after an accept of a filemark
 abbrev pub afterFilemark : World → World
 afterFilemark w = record {
   session = filemarkOf (w .session) .session;
@@ -148,13 +154,14 @@ flightAfter idle f frame = f
 flightAfter done f frame = f
 flightAfter (refused n) f frame = f
 
--- the close reports done when a fetch answers done
+-- whether done was answered
 abbrev pub reportedAfter : AnswerSaid → Bool → Bool
 reportedAfter (command n a) b = b
 reportedAfter idle b = b
 reportedAfter done b = true
 reportedAfter (refused n) b = b
 
+-- after a fetch
 abbrev pub afterFetch : World → List ℕ → List ℕ → World
 afterFetch w lent frame = record {
   session = fetchOf (w .session) lent frame .session;
@@ -171,8 +178,9 @@ afterFetch w lent frame = record {
 
 -- 02, Card 6: the close of a spent session gives up what is not known to be on tape
 abbrev pub givenUpAfter : State → ℕ → ℕ
-givenUpAfter s n = pick (isSpent s) (s .elements .pending) n
+givenUpAfter s n = pick (isSpent s) (s .elements .queue .pending) n
 
+-- after a close
 abbrev pub afterClose : World → World
 afterClose w = record {
   session = closeOf (w .session) .session;
@@ -187,6 +195,7 @@ afterClose w = record {
   };
 }
 
+-- after a reply
 abbrev pub afterReply : World → Reply → World
 afterReply w r = record {
   session = replyOf (w .session) r .session;
@@ -196,9 +205,9 @@ afterReply w r = record {
   notes = w .notes;
 }
 
--- one call: each gets the session that the last one returned, and a reply is brought as the drive gave it
+-- one call, on the session that the one before it returned; a reply is the drive's own
 pub data Calls (w : World) : Call → World → Type 0 where
-  -- a call refused with 1 to 7 counts for nothing, whatever it brings
+  -- refused with 1 to 7: only what it returned is kept
   refuses : (c : Call) → 1 ≤ refusal (w .session) c → refusal (w .session) c ≤ 7 → Calls w c (afterRefusal w c)
   accepts-block : (b lent : List ℕ) → TakesEffect (refusal (w .session) (accept-block b lent)) → Calls w (accept-block b lent) (afterBlock w b lent)
   accepts-filemark : TakesEffect (refusal (w .session) accept-filemark) → Calls w accept-filemark (afterFilemark w)
@@ -206,6 +215,7 @@ pub data Calls (w : World) : Call → World → Type 0 where
   fetches : (lent frame : List ℕ) → TakesEffect (refusal (w .session) (fetch lent frame)) → Calls w (fetch lent frame) (afterFetch w lent frame)
   replies : (r : Reply) → w .flight ≡ answered r → TakesEffect (refusal (w .session) (reply r)) → Calls w (reply r) (afterReply w r)
 
+-- the drive, and the command that is with it, alone are others
 abbrev pub withDrive : World → Drive → Flight → World
 withDrive w d f = record { session = w .session; window = w .window; drive = d; flight = f; notes = w .notes }
 

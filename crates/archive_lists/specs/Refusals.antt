@@ -41,12 +41,13 @@ endedFromCall s recordings.close = s
 endedFromCall s (recordings.fetch window frame) = s
 endedFromCall s (recordings.reply r) = endedFrom s r (recordings.refusal s (recordings.reply r))
 
+-- a call of a recording
 pub record RecordingRefused (s : State) (c : recordings.Call) : Type 0 where
-  -- buffers stay untouched
+  -- no lent buffer is written
   pub untouched : 1 ≤ recordings.refusal s c → leftBy s c ≡ lentBy c
-  -- 1 to 7: session unchanged
+  -- 1 to 7 leave the session as it is
   pub unchanged : 1 ≤ recordings.refusal s c → recordings.refusal s c ≤ 7 → recordings.returned s c ≡ s
-  -- 8 or more: session ended
+  -- 8 or more end it
   pub ended : 8 ≤ recordings.refusal s c → recordings.returned s c ≡ recording.endedOf (endedFromCall s c) (recordings.refusal s c)
   -- and only 7 follows, but for the close of a spent session (02, Card 6)
   pub only-7 : s .ended ≡ true → (s .spent ≡ true → c ≡ recordings.close → ⊥) → recordings.refusal s c ≡ 7
@@ -60,6 +61,7 @@ pub record SpentClose (s : State) : Type 0 where
   pub gives-up : isSpent s ≡ true → recordings.returned s recordings.close ≡ recording.givenUpOf s
   pub once : recordings.refusal (recording.givenUpOf s) recordings.close ≡ 7
 
+-- a call of a reading, which lends no buffer to be written to
 pub record ReadingRefused (s : Reading) (c : readings.Call) : Type 0 where
   pub unchanged : 1 ≤ readings.refusal s c → readings.refusal s c ≤ 7 → readings.returned s c ≡ s
   pub ended : 8 ≤ readings.refusal s c → readings.returned s c ≡ reading.endedOf s
@@ -69,6 +71,7 @@ pub record ReadingRefused (s : Reading) (c : readings.Call) : Type 0 where
 abbrev EndedForGood : State → Type 0
 EndedForGood s = (s .ended ≡ true) × (s .spent ≡ false)
 
+-- the four openings
 pub record OpeningsRefused : Type 0 where
   pub recording : (g : Geometry) (depth window tail : ℕ) (h : List ℕ) → 1 ≤ openOf g depth window tail h .number
       → EndedForGood (openOf g depth window tail h .session)
@@ -78,6 +81,7 @@ pub record OpeningsRefused : Type 0 where
   pub at-end : (r : Reading) (depth window tail : ℕ) → 1 ≤ openAtEndOf r depth window tail .number
       → EndedForGood (openAtEndOf r depth window tail .session)
 
+-- all of them
 pub record RefusedCalls : Type 0 where
   pub openings : OpeningsRefused
   pub recording : (s : State) (c : recordings.Call) → RecordingRefused s c

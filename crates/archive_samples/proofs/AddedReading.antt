@@ -27,7 +27,7 @@ use Rattle.archive_samples.specs.Sample.{geometry, firstElements, firstE
 use Rattle.archive_lists.proofs.tape.Basics.{reads-itself}
 use Rattle.archive_lists.proofs.tape.FoldLaws.{put-other}
 use Rattle.archive_samples.proofs.Tapes.{same-reads, headers-elsewhere}
-use Rattle.archive_samples.proofs.ReadingExchange.{between, before, address-located, frame-read, unreadable-skipped, blank-jumped, end-said, reading-opened}
+use Rattle.archive_samples.proofs.ReadingExchange.{between, before, address-located, frame-read, unreadable-passed-over, blank-jumped, end-said, reading-opened}
 use Rattle.archive_samples.proofs.FirstReading.{toldAt, firstTrail, eod-reads, first-through}
 use Rattle.archive_samples.proofs.AddedRecording.{afterError, afterMark, addedStart, addedOpened, addedWritten, addedLeft, above-empty, added-valid, added-newest, added-readable}
 
@@ -38,7 +38,7 @@ added-reading-opened = reading-opened addedClosing (lit< tt) (lit< tt) (lit< tt)
 
 module _ (eod update : ℕ) where
   -- the old end: number 2 is expected, and the header names a later one
-  old-end-passed-over : 46 < judgement.endsFrom (toldAt eod update) → judgement.judgeFrame (toldAt eod update) (asAddress 46) (record { 0 = 2 }) (elementFrame firstEod blank) ≡ judgement.skipped
+  old-end-passed-over : 46 < judgement.endsFrom (toldAt eod update) → judgement.judgeFrame (toldAt eod update) (asAddress 46) (record { 0 = 2 }) (elementFrame firstEod blank) ≡ judgement.passedOver
   old-end-passed-over later = judged-earlier firstEod (lit< tt) (lit< tt) blank refl (reads-itself (elementFrame firstEod blank)) (toldAt eod update) (asAddress 46) refl refl later
 
   pub added-found : (a : ℕ) → judgement.judgeFrame (toldAt eod update) (asAddress a) (record { 0 = 2 }) (elementFrame addedFilemark blank) ≡ judgement.filemark
@@ -93,10 +93,10 @@ module _ (b : List ℕ) (full : length b ≡ 32768) where
         let behind : (a : ℕ) → 47 ≤ a → a < 80 → t a ≡ none = λ a low high. as-first a (omega arith) high ∙ above-empty b a (omega arith) (inl (omega arith, omega arith)) in
         address-located t told noTrail [] 0 ReadPosition 10 0 refl place
         (first-through b full t (λ a low high. as-first a low (omega arith)) eod update
-        (frame-read t told firstTrail (firstElements b) 7 (Read (asAddress 45)) 46 2 refl refl true (elementFrame firstEod blank) judgement.skipped (as-first 46 (lit≤ tt) (lit< tt) ∙ eod-reads b) (element-length firstEod blank refl) (old-end-passed-over eod update later) refl
+        (frame-read t told firstTrail (firstElements b) 7 (Read (asAddress 45)) 46 2 refl refl true (elementFrame firstEod blank) judgement.passedOver (as-first 46 (lit≤ tt) (lit< tt) ∙ eod-reads b) (element-length firstEod blank refl) (old-end-passed-over eod update later) refl
         (blank-jumped t told firstTrail (firstElements b) 8 (Read (asAddress 46)) 47 2 refl refl (λ a low high. behind a low (omega arith))
         (address-located t told firstTrail (firstElements b) 9 (Read (asAddress 47)) 79 2 refl 47
-        (unreadable-skipped t told firstTrail (firstElements b) 10 (Locate (asAddress 79)) 79 2 refl refl (behind 79 (lit≤ tt) (lit< tt))
+        (unreadable-passed-over t told firstTrail (firstElements b) 10 (Locate (asAddress 79)) 79 2 refl refl (behind 79 (lit≤ tt) (lit< tt))
         (frame-read t told firstTrail (firstElements b) 11 (Read (asAddress 79)) 80 2 refl refl true (elementFrame addedFilemark blank) judgement.filemark (same 80 (lit≤ tt) (lit< tt) ∙ added-reads b) (element-length addedFilemark blank refl) (added-found eod update 80) refl rest))))))
 
   from-fresh : (place : ℕ) → Runs (left b) (started (fresh (toldOf addedClosing)) place) (addedReading b) (addedRead b)

@@ -1,4 +1,4 @@
--- A sample recording that adds to the cartridge that the first left, from its opening at the end of a reading to done: a chain of two sessions, of which Chains speaks. Assumes nothing.
+-- A sample recording that adds to the cartridge that the first left, from its opening behind a reading to done: a chain of two sessions, of which Chains speaks. Assumes nothing.
 use Prim.Native.Nat.{ℕ, _≤_, _<_}
 use mathlib.Core.Path.{_≡_, refl, ap, sym, subst, _∙_}
 use mathlib.Core.Bool.{Bool, true}
@@ -50,7 +50,7 @@ use Rattle.archive_samples.proofs.Headers.{writing, ending, closing, fi
 use Rattle.archive_samples.proofs.Tapes.{empty, same-reads, headers-elsewhere, headers-newest}
 use Rattle.archive_samples.proofs.Elements.{element-failed}
 use Rattle.archive_samples.proofs.Filemark.{reaches, located, eodDue, eodOnTape, filemark-begun, filemark-taken, filemark-written, eod-written}
-use Rattle.archive_samples.proofs.FirstRecording.{window-long, afterFailure, afterBlock, afterFilemark, firstOpened, firstWritten, firstLeft, firstEnd, first-opened, first-runs, first-cartridge, first-on-none, first-bears-none, first-newest}
+use Rattle.archive_samples.proofs.FirstRecording.{window-long, afterFailure, afterBlock, afterFilemark, firstOpened, firstWritten, firstLeft, firstEnd, first-opened, first-runs, first-cartridge, first-on-none, first-bears-none, first-newest, first-sized}
 use Rattle.archive_samples.proofs.FirstReading.{firstTrail, firstRead, first-reading-opened, first-read}
 use Rattle.archive_samples.proofs.SecondRecording.{second-cartridge}
 use Rattle.archive.proofs.Chain.{adds, chains}
@@ -85,14 +85,14 @@ filemark-relocated = record { free = refl; sized = refl; decided = refl; replied
 
 -- and is then written, with EOD behind it
 abbrev pub marks : List Bool
-marks = located 11999 46 2 firstTrail .marks
+marks = located 11999 46 2 firstTrail .queue .marks
 
 abbrev pub eodWritten : Elements
 eodWritten = eodOnTape 11999 80 2 80 firstTrail marks
 
 -- ---- the tape, by what was written
 
--- the failed address reads as before: as EOD
+-- at the failed address the old EOD still reads
 abbrev pub afterError : Tape → Tape
 afterError t = put t 46 (t 46)
 
@@ -190,7 +190,7 @@ module _ (g : Geometry) (last : ℕ) (t : Tape) (ns : List Notes) (before : Chai
 pub chain-readable : (t : Tape) (ns : List Notes) → Chain geometry 11999 chain.afresh t [] ns → NoneGiven ns → Readable geometry 11999 t (acceptedIn ns)
 unfolding Chains
 chain-readable t ns c ungiven =
-    let together : ReadTogether geometry 11999 t [] ns = chains geometry 11999 chain.afresh t [] ns (lit< tt) (lit< tt) refl c .0 in
+    let together : ReadTogether geometry 11999 t [] ns = chains geometry 11999 chain.afresh t [] ns first-sized c .0 in
     subst (λ (xs : List Element). Readable geometry 11999 t xs) (together .whole ungiven) (together .readable)
 
 -- ---- the chain of the first recording and this one
@@ -247,7 +247,8 @@ module _ (b : List ℕ) (full : length b ≡ 32768) where
 
   added-continued : Continued geometry 11999 (firstLeft b .tape) addedState atFirstEnd (addedEnd b)
   unfolding Adds
-  added-continued = adds geometry 11999 (addedStart b) addedState atFirstEnd window addedCalls (addedEnd b) (lit< tt) (lit< tt) refl (second-cartridge b full) refl (conduct.empty refl) (added-runs b)
+  added-continued = adds geometry 11999 (addedStart b) addedState atFirstEnd (addedEnd b)
+      (record { sized = first-sized; cartridge = second-cartridge b full; unwritten = refl; rests = conduct.empty refl; window = window; calls = addedCalls; runs = added-runs b })
 
   pub added-cartridge : Cartridge 11999 (addedLeft b .tape)
   added-cartridge = added-continued .readable refl (first-newest b) (λ _ _. refl) (none-in-the-way b full) refl refl .1

@@ -34,7 +34,7 @@ use Rattle.archive_samples.proofs.Exchange.{between, acting, exchange}
 use Rattle.archive_samples.proofs.Flush.{buffered}
 use Rattle.archive_samples.proofs.Headers.{writing, lastCopyFailed, opening-fails-last}
 use Rattle.archive_samples.proofs.Filemark.{reaches, located, filemark-begun, filemark-taken}
-use Rattle.archive_samples.proofs.FirstRecording.{window-long, firstLeft, firstEnd, first-valid, first-newest}
+use Rattle.archive_samples.proofs.FirstRecording.{window-long, firstLeft, firstEnd, first-valid, first-newest, first-sized}
 use Rattle.archive_samples.proofs.FirstReading.{firstTrail}
 use Rattle.archive_samples.proofs.SecondRecording.{second-cartridge}
 use Rattle.archive_samples.proofs.AddedRecording.{addedState, addedStart, atFirstEnd, none-in-the-way, first-chain}
@@ -69,7 +69,7 @@ cut-runs b =
     let start : Drive = buffered (cutOpened b .tape) 46 (cutOpened b .written) [] in
     opening-fails-last 0 window window-long addedOpening (asAddress 46) (record { 0 = 2 }) firstTrail (addedStart b)
     (filemark-begun 11999 46 2 firstTrail reaches addedOpening (lit< tt) (cutOpened b)
-    (exchange window addedElements s start window-long (filemark-taken 11999 46 2 46 firstTrail (located 11999 46 2 firstTrail .marks) addedOpening reaches (lit< tt) (Locate (asAddress 46)))
+    (exchange window addedElements s start window-long (filemark-taken 11999 46 2 46 firstTrail (located 11999 46 2 firstTrail .queue .marks) addedOpening reaches (lit< tt) (Locate (asAddress 46)))
     (subst (λ (x : List ℕ). Answers start (writtenFrame s window) (Write (asAddress 46)) good (buffered (cutOpened b .tape) 46 (cutOpened b .written) (x ∷ []))) filemark-frame (conduct.takes (asAddress 46) good refl))
     (acting window addedElements (writing 0 addedOpening filemarkTaken (Write (asAddress 46))) (buffered (cutOpened b .tape) 46 (cutOpened b .written) (f ∷ []))
     (conduct.writes f [] (some f) refl refl (conduct.reads f (reads-itself f))) stop)))
@@ -80,7 +80,8 @@ module _ (b : List ℕ) (full : length b ≡ 32768) where
   cut-recoverable : Recoverable geometry 11999 (firstLeft b .tape) addedState (atFirstEnd b full) (cutEnd b)
   unfolding PowerCut
   cut-recoverable =
-      power-cut geometry 11999 (addedStart b) addedState (atFirstEnd b full) window cutCalls (cutEnd b) (lit< tt) (lit< tt) refl (second-cartridge b full) refl (conduct.empty refl) (cut-runs b)
+      power-cut geometry 11999 (addedStart b) addedState (atFirstEnd b full) (cutEnd b)
+      (record { sized = first-sized; cartridge = second-cartridge b full; unwritten = refl; rests = conduct.empty refl; window = window; calls = cutCalls; runs = cut-runs b })
       (first-newest b) (λ _ _. refl) (none-in-the-way b full) refl
 
   -- the header of the first recording reads where the copy failed
@@ -96,4 +97,4 @@ module _ (b : List ℕ) (full : length b ≡ 32768) where
   -- and what the first recording holds is all that was accepted in it
   pub earlier-held : firstElements b ≡ [] ++ acceptedIn (firstEnd b .notes ∷ [])
   unfolding EarlierFirst NoneGiven
-  earlier-held = earlier-first geometry 11999 chain.afresh (firstLeft b .tape) [] (firstEnd b .notes ∷ []) addedState (atFirstEnd b full) (lit< tt) (lit< tt) refl (first-chain b full) refl (first-newest b) (λ _ _. refl) .1 (refl, tt)
+  earlier-held = earlier-first geometry 11999 chain.afresh (firstLeft b .tape) [] (firstEnd b .notes ∷ []) addedState (atFirstEnd b full) first-sized (first-chain b full) refl (first-newest b) (λ _ _. refl) .1 (refl, tt)

@@ -140,7 +140,7 @@ module _ (window : List ℕ) (accepted : List Element) (s : State) (d : Drive) {
       (subst (λ (n : ℕ). Calls (between window accepted s d) close (record { session = closeOf s .session; window = window; drive = d; flight = no-command; notes = record { accepted = accepted; unaltered = true; reported = false; givenUp = n } })) (pick-f _ unspent)
       (closes (inl (ap (λ (x : OutcomeSaid). x .number) e))))) rest
 
-  -- a call refused with 1 to 7 counts for nothing
+  -- a refusal that leaves the session
   refused : (c : Call) (n : ℕ) → 1 ≤ n → n ≤ 7 → refusal s c ≡ n → returned s c ≡ s → windowAfter (between window accepted s d) c ≡ window
       → Runs (between window accepted s d) cs u → Runs (between window accepted s d) (c ∷ cs) u
   refused c n low high number same kept rest =

@@ -89,16 +89,10 @@ module _ (last : ℕ) where
   module _ (a number target : ℕ) (trail : Trail) (marks : List Bool) where
     abbrev due : Elements
     due = record {
-      first = asSeq number;
-      pending = 1;
-      outstanding = 0;
-      next = asAddress a;
-      limit = asAddress limit;
-      locate = false;
-      target = asAddress target;
+      queue = record { first = asSeq number; pending = 1; outstanding = 0; marks = marks };
+      course = record { next = asAddress a; limit = asAddress limit; locate = false; target = asAddress target };
       eod = false;
       trail = trail;
-      marks = marks;
     }
 
     abbrev taken : Elements
@@ -137,7 +131,7 @@ module _ (last : ℕ) where
         unfolding decisionOf dueOf replyOf replyBy reply.confirmedOf settledOf meaningIn
         eod-taken = record { free = refl; sized = refl; decided = rw (next-address, room large (a + 1) (omega arith), user-frame (a + 1) (omega arith)); replied = refl }
 
-        eod-confirmed : Step (ending 0 h eodTaken (Write (asAddress (a + 1)))) ReadPosition good (closing 0 (closingOf h (eodOnTape .next)) eodOnTape)
+        eod-confirmed : Step (ending 0 h eodTaken (Write (asAddress (a + 1)))) ReadPosition good (closing 0 (closingOf h (eodOnTape .course .next)) eodOnTape)
         unfolding decisionOf dueOf replyOf replyBy reply.countedOf reply.confirmedOf settledOf meaningIn
         eod-confirmed = record { free = refl; sized = refl; decided = refl; replied = refl }
 
@@ -148,7 +142,7 @@ module _ (last : ℕ) where
           filemark-written c sent rest = element-written window window-long accepted t past a f sent (filemark-taken c) filemark-confirmed rest
 
           pub eod-written : writtenFrame (ending 0 h eodDue ReadPosition) window ≡ f
-              → Runs (between window accepted (closing 0 (closingOf h (eodOnTape .next)) eodOnTape) (buffered (put t (a + 1) (some f)) (a + 1 + 1) ((a + 1) ∷ past) [])) cs u
+              → Runs (between window accepted (closing 0 (closingOf h (eodOnTape .course .next)) eodOnTape) (buffered (put t (a + 1) (some f)) (a + 1 + 1) ((a + 1) ∷ past) [])) cs u
               → Runs (between window accepted (writing 0 h onTape ReadPosition) (buffered t (a + 1) past [])) (close ∷ exchanges window 2 cs) u
           eod-written sent rest =
               close-accepted window accepted (writing 0 h onTape ReadPosition) (buffered t (a + 1) past []) refl close-called

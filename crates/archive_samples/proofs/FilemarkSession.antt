@@ -33,7 +33,7 @@ module _ (h : Header) (a number : ℕ) (trail : Trail) (d : Drive) (mark eod : L
   last = h .last .0
 
   abbrev marks : List Bool
-  marks = located last a number trail .marks
+  marks = located last a number trail .queue .marks
 
   abbrev pub eodWritten : Elements
   eodWritten = eodOnTape last a number a trail marks
@@ -50,7 +50,7 @@ module _ (h : Header) (a number : ℕ) (trail : Trail) (d : Drive) (mark eod : L
   written = buffered (put (marked (opened .tape)) (a + 1) (some eod)) (a + 1 + 1) ((a + 1) ∷ a ∷ opened .written) []
 
   abbrev closingHeader : Header
-  closingHeader = closingOf h (eodWritten .next)
+  closingHeader = closingOf h (eodWritten .course .next)
 
   -- the close has reported done
   abbrev done : World

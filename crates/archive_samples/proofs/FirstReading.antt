@@ -29,7 +29,7 @@ use Rattle.archive_lists.proofs.tape.Basics.{reads-itself}
 use Rattle.archive_lists.proofs.tape.FoldLaws.{put-other}
 use Rattle.archive_lists.proofs.tape.WrittenFrames.{block-fits}
 use Rattle.archive_samples.proofs.Tapes.{empty, same-reads, headers-elsewhere}
-use Rattle.archive_samples.proofs.ReadingExchange.{between, before, address-located, address-located-again, frame-read, unreadable-skipped, blank-jumped, end-said, toldOn, reading-opened}
+use Rattle.archive_samples.proofs.ReadingExchange.{between, before, address-located, address-located-again, frame-read, unreadable-passed-over, blank-jumped, end-said, toldOn, reading-opened}
 use Rattle.archive_samples.proofs.FirstRecording.{older-fits, afterFailure, afterBlock, afterFilemark, firstOpened, firstWritten, firstLeft, first-valid, first-newest, first-readable}
 
 pub first-reading-opened : openOf geometry (headerFrame firstClosing) ≡ record { session = fresh (toldOf firstClosing); number = 0 }
@@ -41,7 +41,7 @@ abbrev pub toldAt : ℕ → ℕ → Told
 toldAt = toldOn 11999
 
 module _ (eod update : ℕ) where
-  older-passed-over : judgement.judgeFrame (toldAt eod update) (asAddress 10) (record { 0 = 0 }) (elementFrame older blank) ≡ judgement.skipped
+  older-passed-over : judgement.judgeFrame (toldAt eod update) (asAddress 10) (record { 0 = 0 }) (elementFrame older blank) ≡ judgement.passedOver
   older-passed-over = judged-other-pass older (lit< tt) (lit< tt) blank older-fits (reads-itself (elementFrame older blank)) (toldAt eod update) (asAddress 10) (record { 0 = 0 }) (λ q. omega arith)
 
   block-found : (b : List ℕ) → length b ≡ 32768 → judgement.judgeFrame (toldAt eod update) (asAddress 44) (record { 0 = 0 }) (elementFrame firstBlock b) ≡ judgement.block
@@ -108,8 +108,8 @@ module _ (b : List ℕ) (full : length b ≡ 32768) where
         let fits = block-fits Data b full in
         let gap : (a : ℕ) → 11 ≤ a → a < 44 → t a ≡ none = λ a low high. same a (omega arith) (omega arith) ∙ gap-empty b a low high in
         let read : List ℕ = take 32768 (elementFrame firstBlock b) in
-        frame-read t told noTrail [] 1 (Locate (asAddress 10)) 10 0 refl refl true (elementFrame older blank) judgement.skipped (same 10 (lit≤ tt) (lit< tt) ∙ ten-reads b) (element-length older blank older-fits) (older-passed-over eod update) refl
-        (unreadable-skipped t told noTrail [] 2 (Read (asAddress 10)) 11 0 refl refl (gap 11 (lit≤ tt) (lit< tt))
+        frame-read t told noTrail [] 1 (Locate (asAddress 10)) 10 0 refl refl true (elementFrame older blank) judgement.passedOver (same 10 (lit≤ tt) (lit< tt) ∙ ten-reads b) (element-length older blank older-fits) (older-passed-over eod update) refl
+        (unreadable-passed-over t told noTrail [] 2 (Read (asAddress 10)) 11 0 refl refl (gap 11 (lit≤ tt) (lit< tt))
         (blank-jumped t told noTrail [] 3 (Read (asAddress 11)) 12 0 refl refl (λ a low high. gap a (omega arith) high)
         (address-located t told noTrail [] 4 (Read (asAddress 12)) 44 0 refl 12
         (frame-read t told noTrail [] 5 (Locate (asAddress 44)) 44 0 refl refl true (elementFrame firstBlock b) judgement.block (same 44 (lit≤ tt) (lit< tt) ∙ block-reads b) (element-length firstBlock b fits) (block-found eod update b full) refl

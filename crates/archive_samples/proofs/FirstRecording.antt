@@ -18,7 +18,7 @@ use Rattle.header.proofs.Built.{built-valid}
 use Rattle.archive_lists.specs.Conduct as conduct
 use Rattle.archive_lists.specs.Conduct.{Drive, locates, waits}
 use Rattle.drive.specs.Senses.{meaningIn}
-use Rattle.archive_lists.specs.Tape.{Tape, put, Cartridge}
+use Rattle.archive_lists.specs.Tape.{Tape, put, HasLast, Cartridge}
 use Rattle.drive.specs.declared.command.Command.the-variants.{Write, Locate, ReadPosition}
 use Rattle.elements.specs.Elements as elements
 use Rattle.elements.specs.Trail.{trailOf}
@@ -268,6 +268,10 @@ module _ (b : List ℕ) (full : length b ≡ 32768) where
 pub older-fits : elementFits Data 33280 (length blank) ≡ true
 older-fits = block-fits Data blank window-long
 
+-- the LAST of its geometry
+pub first-sized : HasLast geometry 11999
+first-sized = record { segtrk = lit< tt; trks = lit< tt; is-last = refl }
+
 pub first-cartridge : Cartridge 11999 tape
 first-cartridge = frame-cartridge older blank older-fits empty 10 11999 (lit≤ tt) (empty-cartridge 11999)
 
@@ -287,7 +291,8 @@ module _ (b : List ℕ) (full : length b ≡ 32768) where
   pub first-promised : Promised geometry 11999 tape on-none (firstEnd b)
   unfolding Demand3
   first-promised =
-      demand-3 geometry 11999 depth blocks stopped on-none (fresh (setupOf depth 1 0) firstOpening) window (firstCalls b) (firstEnd b) (lit< tt) (lit< tt) refl first-cartridge refl (conduct.stopped refl) first-opened (first-runs b full)
+      demand-3 geometry 11999 depth blocks stopped on-none (fresh (setupOf depth 1 0) firstOpening) (firstEnd b) first-opened
+      (record { sized = first-sized; cartridge = first-cartridge; unwritten = refl; rests = conduct.stopped refl; window = window; calls = firstCalls b; runs = first-runs b full })
 
   pub first-readable : Readable geometry 11999 (firstLeft b .tape) (firstElements b)
   first-readable = first-promised .readable first-on-none first-bears-none refl refl
@@ -303,5 +308,6 @@ first-newest b = headers-newest firstClosing (firstWritten b) 11999 first-valid
 pub first-ends : (b : List ℕ) → length b ≡ 32768 → EndsAt (headerOf (headerFrame firstClosing)) 2 (firstLeft b .tape)
 unfolding EndNamed
 first-ends b full =
-    end-named geometry 11999 depth blocks 0 stopped on-none (fresh (setupOf depth 1 0) firstOpening) window (firstCalls b) (firstEnd b) (lit< tt) (lit< tt) refl first-cartridge refl (conduct.stopped refl) first-opened (first-runs b full)
+    end-named geometry 11999 depth blocks 0 stopped on-none (fresh (setupOf depth 1 0) firstOpening) (firstEnd b) first-opened
+    (record { sized = first-sized; cartridge = first-cartridge; unwritten = refl; rests = conduct.stopped refl; window = window; calls = firstCalls b; runs = first-runs b full })
     .newest first-on-none refl (headerFrame firstClosing) (first-newest b)

@@ -66,16 +66,10 @@ unaccepted = elements.startOf (asAddress 3000) (asAddress 10) (asSeq 0) noTrail
 
 abbrev by : ℕ → ℕ → Bool → ℕ → Elements
 by outstanding next locate target = record {
-  first = asSeq 0;
-  pending = 1;
-  outstanding = outstanding;
-  next = asAddress next;
-  limit = asAddress 3001;
-  locate = locate;
-  target = asAddress target;
+  queue = record { first = asSeq 0; pending = 1; outstanding = outstanding; marks = elements.acceptedOf unaccepted false .queue .marks };
+  course = record { next = asAddress next; limit = asAddress 3001; locate = locate; target = asAddress target };
   eod = false;
   trail = noTrail;
-  marks = elements.acceptedOf unaccepted false .marks;
 }
 
 abbrev sought : ℕ → ℕ → State

@@ -1,4 +1,4 @@
--- A sample recording that adds to what the one that gives up left, from its opening at the end of a reading to done: its filemark has the number behind
+-- A sample recording that adds to what the one that gives up left, from its opening behind a reading to done: its filemark has the number behind
 -- the block's, which was delivered, and goes over the EOD that has the block's number. Assumes nothing.
 use Prim.Native.Nat.{ℕ}
 use mathlib.Core.Path.{_≡_, refl}
@@ -44,7 +44,7 @@ resumed-opened b = refl
 -- ---- the list
 
 abbrev marks : List Bool
-marks = located 3000 2815 1 noTrail .marks
+marks = located 3000 2815 1 noTrail .queue .marks
 
 -- the drive as it was left, for which nothing is written yet
 abbrev pub resumedStart : List ℕ → Drive

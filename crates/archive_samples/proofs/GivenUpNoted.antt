@@ -52,7 +52,7 @@ module _ (n : ℕ) where
 module _ (window : List ℕ) (accepted : List Element) (s : State) (d : Drive) where
   -- all that is pending is given up
   pub close-given-up : {next : State} {cs : List Call} {u : World} → isSpent s ≡ true → closeOf s ≡ accepting next → NoClose cs → Runs (between window accepted next d) cs u
-      → Runs (between window accepted s d) (close ∷ cs) (withGiven (s .elements .pending) u)
+      → Runs (between window accepted s d) (close ∷ cs) (withGiven (s .elements .queue .pending) u)
   close-given-up spent e none-called rest =
-      let p = ap (λ (n : ℕ). withGiven n (between window accepted (closeOf s .session) d)) (pick-t _ spent) ∙ ap (λ (x : OutcomeSaid). withGiven (s .elements .pending) (between window accepted (x .session) d)) e in
-      call (subst (λ (v : World). Calls (between window accepted s d) close v) p (recordings.closes (inl (ap (λ (x : OutcomeSaid). x .number) e)))) (runs-given (s .elements .pending) none-called rest)
+      let p = ap (λ (n : ℕ). withGiven n (between window accepted (closeOf s .session) d)) (pick-t _ spent) ∙ ap (λ (x : OutcomeSaid). withGiven (s .elements .queue .pending) (between window accepted (x .session) d)) e in
+      call (subst (λ (v : World). Calls (between window accepted s d) close v) p (recordings.closes (inl (ap (λ (x : OutcomeSaid). x .number) e)))) (runs-given (s .elements .queue .pending) none-called rest)

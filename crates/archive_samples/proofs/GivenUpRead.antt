@@ -40,7 +40,8 @@ on-no-header a h there = none-some (there .reads)
 module _ (b : List ℕ) (full : length b ≡ 32768) where
   continued : Continued smallest 3000 empty givenUpState afresh (givenUpEnd b)
   unfolding Adds
-  continued = adds smallest 3000 givenUpStart givenUpState afresh window (givenUpCalls b) (givenUpEnd b) (lit< tt) (lit< tt) refl (empty-cartridge 3000) refl (conduct.empty refl) (given-up-runs b full)
+  continued = adds smallest 3000 givenUpStart givenUpState afresh (givenUpEnd b)
+      (record { sized = record { segtrk = lit< tt; trks = lit< tt; is-last = refl }; cartridge = empty-cartridge 3000; unwritten = refl; rests = conduct.empty refl; window = window; calls = givenUpCalls b; runs = given-up-runs b full })
 
   -- none is promised, and at most one is read
   pub given-up-reads-back : ReadsBack smallest 3000 [] (givenUpEnd b)
@@ -101,7 +102,7 @@ module _ (b : List ℕ) (full : length b ≡ 32768) where
   -- of each session what is promised, and at most one more
   pub resumed-together : ReadTogether smallest 3000 (resumedLeft b .tape) [] both
   unfolding Chains
-  resumed-together = chains smallest 3000 chain.afresh (resumedLeft b .tape) [] both (lit< tt) (lit< tt) refl resumed-chain .0
+  resumed-together = chains smallest 3000 chain.afresh (resumedLeft b .tape) [] both (record { segtrk = lit< tt; trks = lit< tt; is-last = refl }) resumed-chain .0
 
   -- the block of the first and the filemark of the second
   pub resumed-readable : Readable smallest 3000 (resumedLeft b .tape) (givenUpElements b ++ resumedElements)

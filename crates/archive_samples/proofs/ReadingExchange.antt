@@ -37,7 +37,7 @@ use Rattle.reading_state.specs.Fetch as fetch
 use Rattle.reading_state.specs.Reply as reply
 use Rattle.reading_state.specs.declared.state.State.{State as Reading}
 use Rattle.archive_lists.specs.Recordings.{Element}
-use Rattle.archive_lists.specs.Readings.{Flight, sent, answered, World, Call, fetching, replying, LentWith, withSession, fetchNumber, replyNumber, delivered, refusedAfter, repliesAfter, afterFetching, afterTaking, Calls, refuses, fetches, replies, serves, Runs, stop, call, drive, endAfter}
+use Rattle.archive_lists.specs.Readings.{Flight, sent, answered, World, Call, fetching, replying, LentWith, withSession, fetchNumber, replyNumber, delivered, refusedAfter, repliesAfter, afterFetching, afterReplying, Calls, refuses, fetches, replies, serves, Runs, stop, call, drive, endAfter}
 use Rattle.archive_lists.specs.Readings as readings
 use Rattle.archive_samples.specs.Sample.{geometry, frame, good, recovered, unreadable, endOfData, unreadables}
 use Rattle.archive_samples.proofs.Exchange.{framed}
@@ -76,9 +76,9 @@ module _ (t : Tape) (deliveries : List Element) (n : ℕ) {cs : List Call} {u : 
   reply-taken {place} {r} {given} {lent} {said} {next} s given-is replied small ends rest =
       let v : World = world place deliveries n s (answered r given) in
       let after : ℕ → Bool → World = λ k end. record { session = next; at = place; flight = readings.no-command; notes = record { deliveries = deliveries ++ delivered said lent; replies = repliesAfter r n; refused = refusedAfter k 0; end = end } } in
-      let p : afterTaking v r lent (reply.replyOf s r lent) ≡ after (replyNumber said) (endAfter said (s .finished)) = ap (afterTaking v r lent) replied in
+      let p : afterReplying v r lent (reply.replyOf s r lent) ≡ after (replyNumber said) (endAfter said (s .finished)) = ap (afterReplying v r lent) replied in
       let q : after (replyNumber said) (endAfter said (s .finished)) ≡ between place (deliveries ++ delivered said lent) (repliesAfter r n) next = ap (λ (k : ℕ). after k (endAfter said (s .finished))) small ∙ ap (λ (end : Bool). after 0 end) ends in
-      call (subst (λ (x : World). Calls v (replying r lent) x) (p ∙ q) (replies r given lent refl given-is (inl (ap (λ (x : reply.TakenSaid). replyNumber (x .said)) replied ∙ small)))) rest
+      call (subst (λ (x : World). Calls v (replying r lent) x) (p ∙ q) (replies r given lent refl given-is (inl (ap (λ (x : reply.RepliedSaid). replyNumber (x .said)) replied ∙ small)))) rest
 
   -- with a frame of another length the reply is refused with 1, and is brought again
   reply-refused : {place : ℕ} {r : Reply} {given : Option (List ℕ)} {lent : List ℕ} (s : Reading) → reply.replyOf s r lent ≡ reply.refusing s 1
@@ -86,8 +86,8 @@ module _ (t : Tape) (deliveries : List Element) (n : ℕ) {cs : List Call} {u : 
       → Runs t (world place deliveries n s (answered r given)) (replying r lent ∷ cs) u
   reply-refused {place} {r} {given} {lent} s refused rest =
       let v : World = world place deliveries n s (answered r given) in
-      let one : replyNumber (reply.replyOf s r lent .said) ≡ 1 = ap (λ (x : reply.TakenSaid). replyNumber (x .said)) refused in
-      call (subst (λ (x : Reading). Calls v (replying r lent) (withSession v x)) (ap (λ (x : reply.TakenSaid). x .session) refused) (refuses (replying r lent) (omega (arith, one)) (omega (arith, one)))) rest
+      let one : replyNumber (reply.replyOf s r lent .said) ≡ 1 = ap (λ (x : reply.RepliedSaid). replyNumber (x .said)) refused in
+      call (subst (λ (x : Reading). Calls v (replying r lent) (withSession v x)) (ap (λ (x : reply.RepliedSaid). x .session) refused) (refuses (replying r lent) (omega (arith, one)) (omega (arith, one)))) rest
 
 module _ (t : Tape) (deliveries : List Element) (n : ℕ) {cs : List Call} {u : World} where
   exchange : {place to : ℕ} {c : Command} {r : Reply} {given : Option (List ℕ)} {lent : List ℕ} {said : reply.DeliverySaid} {next : Reading} (s : Reading)
@@ -143,7 +143,7 @@ module _ (told : Told) (trail : Trail) (c : Command) (a expected : ℕ) (low : l
   frame-replied true f long j judged = rw (eq-eqb (length f) 33280 long, judged)
   frame-replied false f long j judged = rw (eq-eqb (length f) 33280 long, judged)
 
-  unreadable-replied : reply.replyOf reading unreadable frame ≡ reply.skippedOf reading
+  unreadable-replied : reply.replyOf reading unreadable frame ≡ reply.passedOverOf reading
   unfolding reply.replyOf reply.replyBy meaningIn
   unreadable-replied = rw (eq-eqb (length frame) 33280 framed)
 
@@ -157,7 +157,7 @@ brought true = inl refl
 brought false = inr refl
 
 judged-ends : (j : judgement.JudgementSaid) (s : Reading) → endAfter (reply.judgedBy j s .said) (s .finished) ≡ reply.judgedBy j s .session .finished
-judged-ends judgement.skipped s = refl
+judged-ends judgement.passedOver s = refl
 judged-ends (judgement.refused m) s = refl
 judged-ends judgement.block s = refl
 judged-ends judgement.filemark s = refl
@@ -199,11 +199,11 @@ module _ (t : Tape) (told : Told) (trail : Trail) (deliveries : List Element) (n
         (subst (λ (k : ℕ). Runs t (between (a + 1) (deliveries ++ delivered (reply.judgedBy j (reading told trail c a expected low) .said) f) k (reply.judgedBy j (reading told trail c a expected low) .session)) cs u) (sym (counted clean n)) rest)
 
     -- 03/11/00
-    pub unreadable-skipped : t a ≡ none
-        → Runs t (between (a + 1) (deliveries ++ []) (n + 1) (reply.skippedOf (reading told trail c a expected low) .session)) cs u
+    pub unreadable-passed-over : t a ≡ none
+        → Runs t (between (a + 1) (deliveries ++ []) (n + 1) (reply.passedOverOf (reading told trail c a expected low) .session)) cs u
         → Runs t (between a deliveries n (before told trail c a false expected false)) (fetching ∷ replying unreadable frame ∷ cs) u
     unfolding meaningIn
-    unreadable-skipped reads rest =
+    unreadable-passed-over reads rest =
         exchange t deliveries n (before told trail c a false expected false) (record { fetched = read-fetched told trail c a expected low user; replied = unreadable-replied told trail c a expected low; taken = refl; ends = refl })
         (misses (asAddress a) unreadable refl reads) (inl refl) rest
 
@@ -226,7 +226,7 @@ module _ (t : Tape) (told : Told) (trail : Trail) (deliveries : List Element) (e
   addresses-missed (suc k) a n c there counted nothing =
       let missed : Reading → List Element → Type 0 = λ s got. Runs t (between (a + 1) got (n + 1) s) (unreadables k cs) u in
       let advanced : ℕ → Reading = λ next. before told trail (Read (asAddress a)) next false expected false in
-      unreadable-skipped t told trail deliveries n c a expected (le-ltb (told .last .0) a (omega arith)) (ne-eqb a 2990 (λ e. omega arith)) (nothing a (le-refl a) (omega arith))
+      unreadable-passed-over t told trail deliveries n c a expected (le-ltb (told .last .0) a (omega arith)) (ne-eqb a 2990 (λ e. omega arith)) (nothing a (le-refl a) (omega arith))
       (subst (missed (advanced ((a + 1) % 2 ^ 32))) (sym (append-nil deliveries))
       (subst (λ (next : ℕ). missed (advanced next) deliveries) (sym (mod-eq-of-lt (omega arith)))
       (addresses-missed k (a + 1) (n + 1) (Read (asAddress a)) (omega arith) (omega arith) (λ b high. nothing b (omega arith)))))

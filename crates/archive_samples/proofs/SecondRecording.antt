@@ -46,7 +46,7 @@ use Rattle.archive_lists.proofs.tape.WrittenFrames.{block-fits}
 use Rattle.archive_samples.proofs.Tapes.{frame-cartridge, frame-bears-none, same-cartridge, same-bears-none, headers-newest, headers-cartridge, headers-bear-none}
 use Rattle.archive_samples.proofs.Elements.{element-written, element-failed}
 use Rattle.archive_samples.proofs.Filemark.{reaches, located, onTape, eodDue, filemark-begun, filemark-written, close-called, eod-taken}
-use Rattle.archive_samples.proofs.FirstRecording.{window-long, afterFailure, afterBlock, afterFilemark, firstOpened, firstWritten, firstLeft, first-cartridge, older-bears, first-valid, first-newest}
+use Rattle.archive_samples.proofs.FirstRecording.{window-long, afterFailure, afterBlock, afterFilemark, firstOpened, firstWritten, firstLeft, first-cartridge, older-bears, first-valid, first-newest, first-sized}
 use Rattle.archive.proofs.Demand.{demand-3}
 
 -- ---- the opening
@@ -60,7 +60,7 @@ second-opened =
 -- ---- EOD fails at 11, behind the filemark at 10, and is due again at 45
 
 abbrev marks : List Bool
-marks = located 11999 10 0 noTrail .marks
+marks = located 11999 10 0 noTrail .queue .marks
 
 abbrev eodTaken : Elements
 eodTaken = reply.takenOf (eodDue 11999 10 0 10 noTrail marks)
@@ -172,7 +172,8 @@ module _ (b : List ℕ) (full : length b ≡ 32768) where
   pub second-promised : Promised geometry 11999 (firstLeft b .tape) (on-header (headerFrame firstClosing)) (secondEnd b)
   unfolding Demand3
   second-promised =
-      demand-3 geometry 11999 depth blocks (secondStart b) (on-header (headerFrame firstClosing)) (fresh (setupOf depth 1 0) secondOpening) window secondCalls (secondEnd b) (lit< tt) (lit< tt) refl (second-cartridge b full) refl (conduct.empty refl) second-opened (second-runs b)
+      demand-3 geometry 11999 depth blocks (secondStart b) (on-header (headerFrame firstClosing)) (fresh (setupOf depth 1 0) secondOpening) (secondEnd b) second-opened
+      (record { sized = first-sized; cartridge = second-cartridge b full; unwritten = refl; rests = conduct.empty refl; window = window; calls = secondCalls; runs = second-runs b })
 
   pub second-readable : Readable geometry 11999 (secondLeft b .tape) secondElements
   second-readable = second-promised .readable (first-newest b) (second-bears-none b full) refl refl

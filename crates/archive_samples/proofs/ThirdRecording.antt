@@ -48,7 +48,7 @@ third-opened b = refl
 -- ---- the list
 
 abbrev pub marks : List Bool
-marks = located 11999 81 3 addedTrail .marks
+marks = located 11999 81 3 addedTrail .queue .marks
 
 -- the drive as the two left it, for which nothing is written yet
 abbrev pub thirdStart : List ℕ → Drive

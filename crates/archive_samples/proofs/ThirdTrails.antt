@@ -38,7 +38,7 @@ use Rattle.archive_samples.proofs.Exchange.{world, between, given}
 use Rattle.archive_samples.proofs.Flush.{buffered}
 use Rattle.archive_samples.proofs.Headers.{writing, opening-written-at}
 use Rattle.archive_samples.proofs.Filemark.{reaches, located, filemark-begun, filemark-taken}
-use Rattle.archive_samples.proofs.FirstRecording.{window-long}
+use Rattle.archive_samples.proofs.FirstRecording.{window-long, first-sized}
 use Rattle.archive_samples.proofs.FirstReading.{filemark-reads}
 use Rattle.archive_samples.proofs.AddedRecording.{addedLeft, added-cartridge}
 use Rattle.archive_samples.proofs.AddedReading as added
@@ -55,7 +55,7 @@ module _ (b : List ℕ) (full : length b ≡ 32768) where
   trails : Trails 11999 1 all (left b)
   unfolding ChainsNameMarkers acceptedIn
   trails =
-      let together : TrailsTogether geometry 11999 (left b) [] (threeNotes b full) = chains-name-markers geometry 11999 (left b) [] (threeNotes b full) (lit< tt) (lit< tt) refl (third-chain b full) in
+      let together : TrailsTogether geometry 11999 (left b) [] (threeNotes b full) = chains-name-markers geometry 11999 (left b) [] (threeNotes b full) first-sized (third-chain b full) in
       subst (λ (xs : List Element). Trails 11999 1 xs (left b)) (together .reads .whole (none-given b full))
       (subst (λ (h : Header). Trails 11999 (h .pass) (together .reads .elements) (left b)) (built-fields thirdClosing (lit< tt) (lit< tt) (lit< tt) (lit< tt) (lit< tt)) (together .trails (headerFrame thirdClosing) (third-newest b)))
 
@@ -124,8 +124,8 @@ module _ (b : List ℕ) (full : length b ≡ 32768) where
   in-flight : InFlight 11999 (chain.passOf begins) 3 all begun (chain.AsItStands begins (thirdStart b .tape)) 81 (elementFrame thirdFilemark blank)
   unfolding WritesNameMarkers
   in-flight =
-      writes-name-markers geometry 11999 (thirdStart b) thirdState begins (asked (elementFrame thirdFilemark blank)) (lit< tt) (lit< tt) refl
-      (record { cartridge = added-cartridge b full; unwritten = refl; rests = empty refl; window = window; calls = toWrite; runs = third-asks }) (asAddress 81) (elementFrame thirdFilemark blank) refl
+      writes-name-markers geometry 11999 (thirdStart b) thirdState begins (asked (elementFrame thirdFilemark blank))
+      (record { sized = first-sized; cartridge = added-cartridge b full; unwritten = refl; rests = empty refl; window = window; calls = toWrite; runs = third-asks }) (asAddress 81) (elementFrame thirdFilemark blank) refl
 
   -- it names the second filemark, which the reading delivered at 80
   pub third-names : StandsAt 11999 1 begun Marker 2 80

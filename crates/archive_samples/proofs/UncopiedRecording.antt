@@ -1,6 +1,6 @@
 -- The sample session that adds to what the first recording left, cut while its first header copy is being written, where nothing reads then:
 -- BeforeFirstCopy speaks of it. Assumes nothing.
-use Prim.Native.Nat.{ℕ, _<_}
+use Prim.Native.Nat.{ℕ}
 use mathlib.Core.Path.{_≡_, refl, sym, ap, _∙_}
 use mathlib.Core.Bool.{true, false}
 use mathlib.Core.List.{List, []}
@@ -27,7 +27,7 @@ use Rattle.archive_lists.proofs.tape.Basics.{none-some}
 use Rattle.archive_lists.proofs.tape.FoldLaws.{put-same, put-other}
 use Rattle.archive_samples.proofs.Exchange.{Step, world, asks, brings}
 use Rattle.archive_samples.proofs.Headers.{among, group-located, copy-taken}
-use Rattle.archive_samples.proofs.FirstRecording.{window-long, firstLeft, first-newest}
+use Rattle.archive_samples.proofs.FirstRecording.{window-long, firstLeft, first-newest, first-sized}
 use Rattle.archive_samples.proofs.SecondRecording.{second-cartridge}
 use Rattle.archive_samples.proofs.AddedRecording.{addedState, addedStart, atFirstEnd}
 use Rattle.archive.proofs.BeforeFirstCopy.{before-first-copy}
@@ -104,4 +104,5 @@ module _ (b : List ℕ) where
     pub as-before : AsBefore geometry 11999 first-tape (uncopiedLeft b .tape)
     unfolding BeforeFirstCopy
     as-before =
-        before-first-copy geometry 11999 (addedStart b) addedState (atFirstEnd b full) window uncopiedCalls (uncopiedEnd b) (lit< tt) (lit< tt) refl (second-cartridge b full) refl (conduct.empty refl) uncopied-runs throughout
+        before-first-copy geometry 11999 (addedStart b) addedState (atFirstEnd b full) (uncopiedEnd b)
+        (record { sized = first-sized; cartridge = second-cartridge b full; unwritten = refl; rests = conduct.empty refl; window = window; calls = uncopiedCalls; runs = uncopied-runs }) throughout

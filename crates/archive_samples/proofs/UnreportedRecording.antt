@@ -29,7 +29,7 @@ use Rattle.archive_lists.proofs.tape.Basics.{reads-itself, none-answered}
 use Rattle.archive_samples.proofs.Exchange.{between, acting, exchange}
 use Rattle.archive_samples.proofs.Flush.{buffered}
 use Rattle.archive_samples.proofs.Headers.{among, closing, group-located, copy-taken, copy-frame}
-use Rattle.archive_samples.proofs.FirstRecording.{window-long, firstLeft, first-newest}
+use Rattle.archive_samples.proofs.FirstRecording.{window-long, first-newest, first-sized}
 use Rattle.archive_samples.proofs.SecondRecording.{second-cartridge}
 use Rattle.archive_samples.proofs.AddedRecording.{addedState, eodWritten, addedStart, addedWritten, through-eod, none-in-the-way, added-valid, atFirstEnd}
 use Rattle.archive.proofs.ClosingCopy.{closing-copy}
@@ -81,5 +81,6 @@ module _ (b : List ℕ) (full : length b ≡ 32768) where
   pub unreported-as-done : AsDone geometry 11999 addedState (atFirstEnd b full) (unreportedEnd b) (headerFrame addedClosing)
   unfolding ClosingCopy
   unreported-as-done =
-      closing-copy geometry 11999 (addedStart b) addedState (atFirstEnd b full) window unreportedCalls (unreportedEnd b) (lit< tt) (lit< tt) refl (second-cartridge b full) refl (conduct.empty refl) (unreported-runs b)
+      closing-copy geometry 11999 (addedStart b) addedState (atFirstEnd b full) (unreportedEnd b)
+      (record { sized = first-sized; cartridge = second-cartridge b full; unwritten = refl; rests = conduct.empty refl; window = window; calls = unreportedCalls; runs = unreported-runs b })
       (first-newest b) (λ _ _. refl) (none-in-the-way b full) refl (record { going = refl; lawful = λ r q _. none-answered q }) 5 (headerFrame addedClosing) copy-reads newer (λ z. omega (arith, eod-named))

@@ -5,6 +5,7 @@ use mathlib.Core.List.{List, [], _∷_}
 use lib.Dec.{eqb}
 use lib.ListN.{getD, set, replicate}
 
+-- so many zero bytes
 abbrev pub zeros : ℕ → List ℕ
 zeros n = replicate n 0
 

@@ -1,6 +1,6 @@
-// Bytes and big-endian numbers read from lent buffers. Every call serves every slice.
+// Bytes and big-endian numbers read from lent buffers. Every call has an answer for every slice.
 ghost use mathlib.Core.Path.{_≡_};
-ghost use lib.ListN.{getD};
+ghost use lib.ListN.{length, take, getD};
 ghost use Rattle.buffer.specs.Bytes.{get16, get32, agree};
 
 // The byte at an index, and 0 past the end.
@@ -47,4 +47,15 @@ pub fn agrees(a: &[u8], b: &[u8]) -> bool
         i += 1;
     }
     true
+}
+
+// Whether a slice begins with these bytes.
+pub fn starts_with(s: &[u8], front: &[u8]) -> bool
+    ensures { λ r. ⌜ r ≡ agree (take (length (now (front .entry))) (now (s .entry))) (now (front .entry)) ⌝ }
+{
+    let n = front.len();
+    if s.len() < n {
+        return false;
+    }
+    agrees(&s[..n], front)
 }

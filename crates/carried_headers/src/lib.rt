@@ -2,6 +2,7 @@
 ghost use mathlib.Core.Path.{_≡_};
 ghost use Rattle.geometry.specs.Place.{asAddress};
 ghost use Rattle.carried_headers.specs.Carried.{openingHeader, isCountedOut, isExhausted, renewed, addedTo, closingOf};
+use frame::HIGHEST_PASS;
 use frame::Header;
 use geometry::Address;
 use geometry::preceding;
@@ -26,18 +27,21 @@ pub fn blank_header(last: Address) -> Header
     opening_header(last, 1, 0, Address(0))
 }
 
+// The highest update count that can be raised twice, for the opening and for the closing headers.
+const HIGHEST_UPDATE: u32 = 4294967293;
+
 // Whether the update count can't be raised twice.
 pub fn is_counted_out(update: u32) -> bool
     ensures { λ r. ⌜ r ≡ isCountedOut update ⌝ }
 {
-    4294967293 < update
+    HIGHEST_UPDATE < update
 }
 
 // Whether pass or update count can't be raised.
 pub fn is_exhausted(old: Header) -> bool
     ensures { λ r. ⌜ r ≡ isExhausted old ⌝ }
 {
-    (65534 <= old.pass) | is_counted_out(old.update)
+    (HIGHEST_PASS <= old.pass) | is_counted_out(old.update)
 }
 
 // The opening header of a recording over an old one.

@@ -2,10 +2,9 @@
 use Prim.Native.Nat.{ℕ, _+_, _-_, _*_, _%_, _^_, _≤_, _<_}
 use mathlib.Core.Path.{_≡_}
 use native.Mathlib.Omega.{arith}
-use Rattle.geometry.specs.declared.address.Address.{Address}
 use Rattle.frame.specs.declared.header.Header.{Header}
 use Rattle.copies.specs.declared.copies.Copies.{Copies}
-use Rattle.copies.specs.Copies.{startOf, takenOf, confirmedOf, failedAt, firstAddress, oldestAddress, nextAddress}
+use Rattle.copies.specs.Copies.{startOf, takenOf, confirmedOf, failedAt, oldestCopy}
 
 pub record Counts (group copy outstanding confirmed : ℕ) : Type 0 where
   pub groups : group ≤ 1
@@ -36,6 +35,6 @@ module _ (c : Copies) (g : CountsOf c) where
   pub confirmed-exact : (n : ℕ) → n ≤ c .outstanding → (c .confirmed + n) % 2 ^ 8 ≡ c .confirmed + n
   confirmed-exact n h = omega arith
 
-  pub failed-counts : (p : Address) → oldestAddress c .0 ≤ p .0 → p .0 < nextAddress c .0 → CountsOf (failedAt c (p .0 - oldestAddress c .0) (p .0 - firstAddress c .0))
-  failed-counts p low high =
+  pub failed-counts : (i : ℕ) → oldestCopy c ≤ i → i < c .copy → CountsOf (failedAt c (i - oldestCopy c) i)
+  failed-counts i low high =
       record { groups = omega arith; copies = omega arith; held = omega arith; written = omega arith }

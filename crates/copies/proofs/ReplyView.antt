@@ -6,10 +6,9 @@ use mathlib.Core.Logic.{_⊎_, ⊎-elim, inl, inr}
 use native.Mathlib.Omega.{arith}
 use lib.Dec.{eqb, ltb, leb}
 use borrow.Author.Tests.{ltb-true, ltb-false, leb-true, leb-false, eqb-true, eqb-false}
-use Rattle.geometry.specs.declared.address.Address.{Address}
 use Rattle.geometry.proofs.PickLaws.{pick-by}
 use Rattle.copies.specs.declared.copies.Copies.{Copies}
-use Rattle.copies.specs.Copies.{ProgressSaid, more, complete, refused, confirmedOf, nextGroup, onwardOf, countedOf, failedAt, firstAddress, oldestAddress, nextAddress, failedOf}
+use Rattle.copies.specs.Copies.{ProgressSaid, more, complete, refused, confirmedOf, nextGroup, onwardOf, countedOf, failedAt, oldestCopy, failedCopy}
 use Rattle.geometry.proofs.TestLaws.{or-true, or-false}
 
 pub data OnwardView (c : Copies) : ProgressSaid → Type 0 where
@@ -42,15 +41,15 @@ unfolding countedOf
 counted-view c f =
     pick-by (CountedView c f) (ltb (c .outstanding) f) (λ t. tooMany (ltb-true _ _ t)) (λ e. counted (ltb-false _ _ e))
 
--- a write error at p
-pub data FailedView (c : Copies) (p : Address) : ProgressSaid → Type 0 where
-  before : p .0 < oldestAddress c .0 → FailedView c p (refused 8)
-  behind : nextAddress c .0 ≤ p .0 → FailedView c p (refused 8)
-  failed : oldestAddress c .0 ≤ p .0 → p .0 < nextAddress c .0 → FailedView c p (onwardOf (failedAt c (p .0 - oldestAddress c .0) (p .0 - firstAddress c .0)))
+-- a write error of copy i
+pub data FailedView (c : Copies) (i : ℕ) : ProgressSaid → Type 0 where
+  before : i < oldestCopy c → FailedView c i (refused 8)
+  behind : c .copy ≤ i → FailedView c i (refused 8)
+  failed : oldestCopy c ≤ i → i < c .copy → FailedView c i (onwardOf (failedAt c (i - oldestCopy c) i))
 
-pub failed-view : (c : Copies) (p : Address) → FailedView c p (failedOf c p)
-unfolding failedOf
-failed-view c p =
-    pick-by (FailedView c p) (ltb (p .0) (oldestAddress c .0)) (λ t. before (ltb-true _ _ t))
-    (λ f. pick-by (FailedView c p) (leb (nextAddress c .0) (p .0)) (λ t. behind (leb-true _ _ t))
+pub failed-view : (c : Copies) (i : ℕ) → FailedView c i (failedCopy c i)
+unfolding failedCopy
+failed-view c i =
+    pick-by (FailedView c i) (ltb i (oldestCopy c)) (λ t. before (ltb-true _ _ t))
+    (λ f. pick-by (FailedView c i) (leb (c .copy) i) (λ t. behind (leb-true _ _ t))
     (λ g. failed (ltb-false _ _ f) (leb-false _ _ g)))

@@ -1,12 +1,12 @@
--- 01, "A recording session", the paragraph on headers: group by group, LOCATE the group, WRITE five, at most D outstanding,
--- READ POSITION till none are.
-use Prim.Native.Nat.{ℕ, _+_, _-_, _%_, _^_}
-use mathlib.Core.Bool.{true, false, _&&_, _||_}
+-- 01, "A recording session", the paragraph on headers: how the copies of one header are written, one group after the other.
+use Prim.Native.Nat.{ℕ, _+_, _-_}
+use mathlib.Core.Bool.{Bool, true, false, _&&_, _||_}
 use lib.Dec.{eqb, ltb, leb}
 use Rattle.geometry.specs.Place.{asAddress}
 use Rattle.geometry.specs.Pick.{pick}
 use Rattle.geometry.specs.Refusal.{refusalNumber}
-use Rattle.geometry.specs.Cartridge.{headerAddress}
+use Rattle.geometry.specs.Wrap.{wrap8}
+use Rattle.geometry.specs.Cartridge.{groupCopies, headerAddress, copyAt}
 use Rattle.geometry.specs.declared.address.Address.{Address}
 use Rattle.frame.specs.declared.header.Header.{Header}
 use Rattle.drive.specs.Command.{CommandSaid, write, locate, readPosition}
@@ -26,7 +26,7 @@ headerAt c = asAddress (headerAddress (c .group) (c .copy))
 unfoldable pub commandOf : ℕ → Copies → CommandSaid
 commandOf depth c =
     pick (c .locate) (locate (headerAt c .0))
-    (pick (ltb (c .copy) 5 && ltb (c .outstanding) depth) (write (headerAt c .0)) readPosition)
+    (pick (ltb (c .copy) groupCopies && ltb (c .outstanding) depth) (write (headerAt c .0)) readPosition)
 
 -- how far the copies are after a reply
 pub data ProgressSaid : Type 0 where
@@ -34,30 +34,42 @@ pub data ProgressSaid : Type 0 where
   complete : ProgressSaid
   refused : ℕ → ProgressSaid
 
+-- what the code answers, in these terms
 abbrev pub progressSaid : Progress → ProgressSaid
 progressSaid (More c) = more c
 progressSaid Complete = complete
 progressSaid (Refused r) = refused (refusalNumber r)
 
+-- the same header, with another place: the copy that is due, by group and number, and whether a LOCATE comes before it
+abbrev withPlace : Copies → ℕ → ℕ → Bool → Copies
+withPlace c group copy locate =
+    record { header = c .header; group = group; copy = copy; outstanding = c .outstanding; confirmed = c .confirmed; locate = locate }
+
+-- and with other counts of copies outstanding and known to be on tape
+abbrev withCounts : Copies → ℕ → ℕ → Copies
+withCounts c outstanding confirmed =
+    record { header = c .header; group = c .group; copy = c .copy; outstanding = outstanding; confirmed = confirmed; locate = c .locate }
+
 -- a LOCATE answered good
 abbrev pub locatedOf : Copies → Copies
-locatedOf c = record { header = c .header; group = c .group; copy = c .copy; outstanding = c .outstanding; confirmed = c .confirmed; locate = false }
+locatedOf c = withPlace c (c .group) (c .copy) false
 
--- a WRITE answered good: the copy is outstanding. The counts stay below 11; the remainder only says what a wrapped number is.
+-- a WRITE answered good: the copy is outstanding. The counts stay below 11; `wrap8` only says what a wrapped number is.
 abbrev pub takenOf : Copies → Copies
-takenOf c = record { header = c .header; group = c .group; copy = (c .copy + 1) % 2 ^ 8; outstanding = (c .outstanding + 1) % 2 ^ 8; confirmed = c .confirmed; locate = c .locate }
+takenOf c = withPlace (withCounts c (wrap8 (c .outstanding + 1)) (c .confirmed)) (c .group) (wrap8 (c .copy + 1)) (c .locate)
 
 -- the oldest n are on tape
 abbrev pub confirmedOf : Copies → ℕ → Copies
-confirmedOf c n = record { header = c .header; group = c .group; copy = c .copy; outstanding = c .outstanding - n; confirmed = (c .confirmed + n) % 2 ^ 8; locate = c .locate }
+confirmedOf c n = withCounts c (c .outstanding - n) (wrap8 (c .confirmed + n))
 
+-- the next group starts with a LOCATE of its first copy
 abbrev pub nextGroup : Copies → Copies
-nextGroup c = record { header = c .header; group = 1; copy = 0; outstanding = c .outstanding; confirmed = c .confirmed; locate = true }
+nextGroup c = withPlace c 1 0 true
 
--- where no copy of the group is left and none is outstanding, the next group follows; no good copy of ten: refusal 12
+-- a group whose copies are all through gives way to the next; behind the last one a copy must be on tape, else refusal 12
 unfoldable pub onwardOf : Copies → ProgressSaid
 onwardOf c =
-    pick (ltb (c .copy) 5 || ltb 0 (c .outstanding)) (more c)
+    pick (ltb (c .copy) groupCopies || ltb 0 (c .outstanding)) (more c)
     (pick (eqb (c .group) 0) (more (nextGroup c))
     (pick (eqb (c .confirmed) 0) (refused 12) complete))
 
@@ -67,21 +79,19 @@ countedOf c f = pick (ltb (c .outstanding) f) (refused 8) (onwardOf (confirmedOf
 
 -- the copy of index i failed: it is spoiled, the n before it are on tape, and a LOCATE of the address behind it follows
 abbrev pub failedAt : Copies → ℕ → ℕ → Copies
-failedAt c n i = record { header = c .header; group = c .group; copy = i + 1; outstanding = 0; confirmed = (c .confirmed + n) % 2 ^ 8; locate = true }
+failedAt c n i = withPlace (withCounts c 0 (wrap8 (c .confirmed + n))) (c .group) (i + 1) true
 
--- the addresses of the group's first copy, of the oldest outstanding one, and of the next
-abbrev pub firstAddress : Copies → Address
-firstAddress c = asAddress (headerAddress (c .group) 0)
+-- the oldest outstanding copy, by its number in the group; the outstanding ones go up to the copy before the next
+abbrev pub oldestCopy : Copies → ℕ
+oldestCopy c = c .copy - c .outstanding
 
-abbrev pub oldestAddress : Copies → Address
-oldestAddress c = asAddress (firstAddress c .0 + (c .copy - c .outstanding))
+-- a write error of copy i, which must be outstanding
+unfoldable pub failedCopy : Copies → ℕ → ProgressSaid
+failedCopy c i =
+    pick (ltb i (oldestCopy c)) (refused 8)
+    (pick (leb (c .copy) i) (refused 8)
+    (onwardOf (failedAt c (i - oldestCopy c) i)))
 
-abbrev pub nextAddress : Copies → Address
-nextAddress c = asAddress (firstAddress c .0 + c .copy)
-
--- a write error at p, which must be outstanding
-unfoldable pub failedOf : Copies → Address → ProgressSaid
-failedOf c p =
-    pick (ltb (p .0) (oldestAddress c .0)) (refused 8)
-    (pick (leb (nextAddress c .0) (p .0)) (refused 8)
-    (onwardOf (failedAt c (p .0 - oldestAddress c .0) (p .0 - firstAddress c .0))))
+-- a write error at p; an address that is no copy's of the group counts as one past the last, which is not outstanding
+abbrev pub failedOf : Copies → Address → ProgressSaid
+failedOf c p = failedCopy c (copyAt (c .group) (p .0))

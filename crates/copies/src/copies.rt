@@ -4,8 +4,10 @@ ghost use Rattle.drive.specs.Command.{commandSaid};
 ghost use Rattle.copies.specs.Copies.{startOf, commandOf};
 use drive::Command;
 use frame::Header;
+use geometry::GROUP_COPIES;
 use geometry::header_address;
 
+// The copies of one header, and how far the drive is with them.
 pub struct Copies {
     // What every copy carries.
     pub header: Header,
@@ -43,7 +45,7 @@ impl Copies {
         if self.locate {
             return Command::Locate(address);
         }
-        if (self.copy < 5) & (self.outstanding < depth) {
+        if (self.copy < GROUP_COPIES) & (self.outstanding < depth) {
             return Command::Write(address);
         }
         Command::ReadPosition

@@ -2,9 +2,10 @@
 use crate::copies::Copies;
 use geometry::Refusal;
 
+// How far the copies are.
 pub enum Progress {
     More(Copies),
-    // Both groups are through and a copy is known to be on tape.
+    // No copy is left to be written, and some are on tape.
     Complete,
     Refused(Refusal),
 }

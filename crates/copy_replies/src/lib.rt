@@ -1,12 +1,14 @@
 // What a reply to a command for the header copies changes, one function for each reply.
 ghost use mathlib.Core.Path.{_≡_};
-ghost use Prim.Native.Nat.{_-_, _≤_, _<_};
-ghost use Rattle.copies.specs.Copies.{progressSaid, locatedOf, takenOf, confirmedOf, failedAt, nextGroup, onwardOf, countedOf, failedOf};
+ghost use Prim.Native.Nat.{_≤_, _<_};
+ghost use Rattle.copies.specs.Copies.{progressSaid, locatedOf, takenOf, confirmedOf, failedAt, nextGroup, onwardOf, countedOf, failedCopy, failedOf};
 use copies::Copies;
 use copies::Progress;
 use geometry::Address;
+use geometry::GROUP_COPIES;
 use geometry::Refusal;
-use geometry::header_address;
+use geometry::copy_at;
+use geometry::saturating_sub;
 
 // A LOCATE answered good.
 pub fn located(mut c: Copies) -> Copies
@@ -35,6 +37,7 @@ fn confirmed(mut c: Copies, n: u8) -> Copies
     c
 }
 
+// The next group starts with a LOCATE of its first copy.
 fn next_group(mut c: Copies) -> Copies
     ensures { λ r. ⌜ r ≡ nextGroup c ⌝ }
 {
@@ -48,7 +51,7 @@ fn next_group(mut c: Copies) -> Copies
 fn onward(c: Copies) -> Progress
     ensures { λ r. ⌜ progressSaid r ≡ onwardOf c ⌝ }
 {
-    if (c.copy < 5) | (0 < c.outstanding) {
+    if (c.copy < GROUP_COPIES) | (0 < c.outstanding) {
         return Progress::More(c);
     }
     if c.group == 0 {
@@ -83,27 +86,24 @@ fn failed_at(mut c: Copies, n: u8, i: u8) -> Copies
     c
 }
 
-// A write error at p, which must be outstanding.
-pub fn failed(c: Copies, p: Address) -> Progress
-    ensures { λ r. ⌜ progressSaid r ≡ failedOf c p ⌝ }
+// A write error of copy i, which must be outstanding.
+fn failed_copy(c: Copies, i: u8) -> Progress
+    ensures { λ r. ⌜ progressSaid r ≡ failedCopy c i ⌝ }
 {
-    let start = header_address(c.group, 0);
-    let oldest = start.0 + (minus(c.copy, c.outstanding) as u32);
-    let next = start.0 + (c.copy as u32);
-    if p.0 < oldest {
+    let oldest = saturating_sub(c.copy as u16, c.outstanding as u16);
+    if (i as u16) < oldest {
         return Progress::Refused(Refusal::Reply);
     }
-    if next <= p.0 {
+    if c.copy <= i {
         return Progress::Refused(Refusal::Reply);
     }
-    let n = (p.0 - oldest) as u8;
-    let i = (p.0 - start.0) as u8;
+    let n = ((i as u16) - oldest) as u8;
     onward(failed_at(c, n, i))
 }
 
-// x - y, and 0 where y is the larger.
-fn minus(x: u8, y: u8) -> u8
-    ensures { λ r. ⌜ r ≡ x - y ⌝ }
+// A write error at p, which must be the address of an outstanding copy.
+pub fn failed(c: Copies, p: Address) -> Progress
+    ensures { λ r. ⌜ progressSaid r ≡ failedOf c p ⌝ }
 {
-    if x < y { 0 } else { x - y }
+    failed_copy(c, copy_at(c.group, p))
 }

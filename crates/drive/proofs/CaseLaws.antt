@@ -3,7 +3,7 @@ use Prim.Native.Nat.{ℕ, _+_, _*_, _<_}
 use mathlib.Core.Path.{_≡_, refl}
 use native.Mathlib.Omega.{arith}
 use Rattle.geometry.specs.declared.address.Address.{Address}
-use Rattle.drive.specs.Command.{commandCode, commandAddress, commandBy}
+use Rattle.drive.specs.Command.{readCode, writeCode, locateCode, readPositionCode, commandCode, commandAddress, commandBy}
 use Rattle.drive.specs.Senses.{meaningOf}
 use Rattle.drive.specs.declared.command.Command.{Command}
 use Rattle.drive.specs.declared.command.Command.the-variants.{Read, Write, Locate, ReadPosition}
@@ -24,25 +24,25 @@ command-by (Locate a) = refl
 command-by ReadPosition = refl
 
 module _ (P : Command → Type 0) where
-  pub by-read : (c : Command) → commandCode c ≡ 0x08 → ((a : Address) → P (Read a)) → P c
+  pub by-read : (c : Command) → commandCode c ≡ readCode → ((a : Address) → P (Read a)) → P c
   by-read (Read a) e h = h a
   by-read (Write a) e h = absurd (omega arith)
   by-read (Locate a) e h = absurd (omega arith)
   by-read ReadPosition e h = absurd (omega arith)
 
-  pub by-write : (c : Command) → commandCode c ≡ 0x0A → ((a : Address) → P (Write a)) → P c
+  pub by-write : (c : Command) → commandCode c ≡ writeCode → ((a : Address) → P (Write a)) → P c
   by-write (Read a) e h = absurd (omega arith)
   by-write (Write a) e h = h a
   by-write (Locate a) e h = absurd (omega arith)
   by-write ReadPosition e h = absurd (omega arith)
 
-  pub by-locate : (c : Command) → commandCode c ≡ 0x2B → ((a : Address) → P (Locate a)) → P c
+  pub by-locate : (c : Command) → commandCode c ≡ locateCode → ((a : Address) → P (Locate a)) → P c
   by-locate (Read a) e h = absurd (omega arith)
   by-locate (Write a) e h = absurd (omega arith)
   by-locate (Locate a) e h = h a
   by-locate ReadPosition e h = absurd (omega arith)
 
-  pub by-position : (c : Command) → commandCode c ≡ 0x34 → P ReadPosition → P c
+  pub by-position : (c : Command) → commandCode c ≡ readPositionCode → P ReadPosition → P c
   by-position (Read a) e h = absurd (omega arith)
   by-position (Write a) e h = absurd (omega arith)
   by-position (Locate a) e h = absurd (omega arith)

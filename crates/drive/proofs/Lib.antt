@@ -1,4 +1,3 @@
 pub mod SenseLaws
 pub mod CaseLaws
 pub mod ListedCases
-pub mod ExchangeLaws

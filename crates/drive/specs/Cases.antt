@@ -1,6 +1,6 @@
 -- 01, "Replies": a command with the meaning of its reply, as one number by which a session tells replies apart.
 use Prim.Native.Nat.{ℕ, _+_, _*_}
-use Rattle.drive.specs.Command.{commandCode}
+use Rattle.drive.specs.Command.{readCode, writeCode, locateCode, readPositionCode, commandCode}
 use Rattle.drive.specs.Senses.{meaningOf, good, busy, writeError, volumeOverflow, recovered, unreadable, endOfData, endOfMedium}
 use Rattle.drive.specs.declared.command.Command.{Command}
 use Rattle.drive.specs.declared.reply.Reply.{Reply}
@@ -9,54 +9,55 @@ use Rattle.drive.specs.declared.reply.Reply.{Reply}
 abbrev pub caseNumber : ℕ → ℕ → ℕ
 caseNumber code meaning = code * 256 + meaning
 
+-- that of a command and its reply
 abbrev pub caseOf : Command → Reply → ℕ
 caseOf c r = caseNumber (commandCode c) (meaningOf (r .key) (r .asc) (r .ascq))
 
 -- LOCATE
 abbrev pub locateGood : ℕ
-locateGood = caseNumber 0x2B good
+locateGood = caseNumber locateCode good
 
 abbrev pub locateBusy : ℕ
-locateBusy = caseNumber 0x2B busy
+locateBusy = caseNumber locateCode busy
 
 -- WRITE
 abbrev pub writeGood : ℕ
-writeGood = caseNumber 0x0A good
+writeGood = caseNumber writeCode good
 
 abbrev pub writeBusy : ℕ
-writeBusy = caseNumber 0x0A busy
+writeBusy = caseNumber writeCode busy
 
 abbrev pub writeFailed : ℕ
-writeFailed = caseNumber 0x0A writeError
+writeFailed = caseNumber writeCode writeError
 
 abbrev pub writeOverflow : ℕ
-writeOverflow = caseNumber 0x0A volumeOverflow
+writeOverflow = caseNumber writeCode volumeOverflow
 
 -- READ POSITION
 abbrev pub positionGood : ℕ
-positionGood = caseNumber 0x34 good
+positionGood = caseNumber readPositionCode good
 
 abbrev pub positionBusy : ℕ
-positionBusy = caseNumber 0x34 busy
+positionBusy = caseNumber readPositionCode busy
 
 abbrev pub positionFailed : ℕ
-positionFailed = caseNumber 0x34 writeError
+positionFailed = caseNumber readPositionCode writeError
 
 -- READ
 abbrev pub readGood : ℕ
-readGood = caseNumber 0x08 good
+readGood = caseNumber readCode good
 
 abbrev pub readBusy : ℕ
-readBusy = caseNumber 0x08 busy
+readBusy = caseNumber readCode busy
 
 abbrev pub readRecovered : ℕ
-readRecovered = caseNumber 0x08 recovered
+readRecovered = caseNumber readCode recovered
 
 abbrev pub readUnreadable : ℕ
-readUnreadable = caseNumber 0x08 unreadable
+readUnreadable = caseNumber readCode unreadable
 
 abbrev pub readEndOfData : ℕ
-readEndOfData = caseNumber 0x08 endOfData
+readEndOfData = caseNumber readCode endOfData
 
 abbrev pub readEndOfMedium : ℕ
-readEndOfMedium = caseNumber 0x08 endOfMedium
+readEndOfMedium = caseNumber readCode endOfMedium

@@ -16,6 +16,6 @@ sentOf c = record { command = c; awaiting = true; again = false }
 abbrev pub repliedOf : Exchange → Exchange
 repliedOf x = record { command = x .command; awaiting = false; again = x .again }
 
--- 02/04/01 and 02/04/08: the next fetch gives the same command, and nothing else changes
+-- answered busy: no reply is awaited any more, and the command is to be given once more
 abbrev pub repeatedOf : Exchange → Exchange
 repeatedOf x = record { command = x .command; awaiting = false; again = true }

@@ -20,7 +20,7 @@ pub data Listed : Command → ℕ → Type 0 where
   write-good : {a : Address} → Listed (Write a) good
   write-busy : {a : Address} → Listed (Write a) busy
   write-error : {a : Address} → Listed (Write a) writeError
-  -- on WRITE of an element or EOD, and so not in a header group
+  -- not in answer to the WRITE of a header copy
   write-overflow : {a : Address} → isHeader (a .0) ≡ false → Listed (Write a) volumeOverflow
   position-good : Listed ReadPosition good
   position-busy : Listed ReadPosition busy

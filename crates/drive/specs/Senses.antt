@@ -1,4 +1,4 @@
--- 01, "Replies": the table of sense triples (key, ASC, ASCQ), each with the code of its meaning.
+-- 01, "Replies": which sense triples are known, and what each means.
 use Prim.Native.Nat.{ℕ}
 use mathlib.Core.Bool.{Bool, _&&_}
 use mathlib.Core.List.{List, [], _∷_}
@@ -37,6 +37,7 @@ endOfMedium = 8
 abbrev sense : ℕ → ℕ → ℕ → ℕ → Sense
 sense key asc ascq meaning = record { key = key; asc = asc; ascq = ascq; meaning = meaning }
 
+-- the table
 abbrev pub senses : List Sense
 senses =
     sense 0x00 0x00 0x00 good
@@ -50,6 +51,7 @@ senses =
     ∷ sense 0x00 0x00 0x02 endOfMedium
     ∷ []
 
+-- an entry of the table is of this triple
 abbrev pub matches : Sense → ℕ → ℕ → ℕ → Bool
 matches s key asc ascq = eqb (s .key) key && eqb (s .asc) asc && eqb (s .ascq) ascq
 
@@ -58,5 +60,6 @@ unfoldable pub meaningIn : List Sense → ℕ → ℕ → ℕ → ℕ
 meaningIn [] key asc ascq = other
 meaningIn (s ∷ rest) key asc ascq = pick (matches s key asc ascq) (s .meaning) (meaningIn rest key asc ascq)
 
+-- the meaning of a triple, by the table
 abbrev pub meaningOf : ℕ → ℕ → ℕ → ℕ
 meaningOf key asc ascq = meaningIn senses key asc ascq

@@ -3,6 +3,7 @@ ghost use mathlib.Core.Path.{_≡_};
 ghost use Rattle.drive.specs.Command.{commandCode, commandAddress};
 use geometry::Address;
 
+// A command, with the address that it is about.
 pub enum Command {
     // Reads the frame at this address, where the drive stands.
     Read(Address),
@@ -14,15 +15,27 @@ pub enum Command {
     ReadPosition,
 }
 
-// The operation code, table 4-1 of the standard.
+// The operation codes, table 4-1 of the standard: READ.
+pub const READ: u8 = 0x08;
+
+// WRITE.
+pub const WRITE: u8 = 0x0A;
+
+// LOCATE.
+pub const LOCATE: u8 = 0x2B;
+
+// READ POSITION.
+pub const READ_POSITION: u8 = 0x34;
+
+// The operation code of a command.
 pub fn code(c: Command) -> u8
     ensures { λ r. ⌜ r ≡ commandCode c ⌝ }
 {
     match c {
-        Command::Read(_) => 0x08,
-        Command::Write(_) => 0x0A,
-        Command::Locate(_) => 0x2B,
-        Command::ReadPosition => 0x34,
+        Command::Read(_) => READ,
+        Command::Write(_) => WRITE,
+        Command::Locate(_) => LOCATE,
+        Command::ReadPosition => READ_POSITION,
     }
 }
 

@@ -1,8 +1,9 @@
-// What a session has asked of the drive.
+// What a session has asked of the drive: the host fetches a command and brings its reply, in turn.
 ghost use mathlib.Core.Path.{_≡_};
 ghost use Rattle.drive.specs.Exchange.{unsent, sentOf, repliedOf, repeatedOf};
 use crate::command::Command;
 
+// The last command, and what is to come of it.
 pub struct Exchange {
     // The last command; before the first one it means nothing.
     pub command: Command,
@@ -43,7 +44,7 @@ impl Exchange {
         self
     }
 
-    // Busy: the next fetch gives the same command.
+    // Answered busy: the command is to be given once more.
     pub fn repeated(mut self) -> Exchange
         ensures { λ r. ⌜ r ≡ repeatedOf self ⌝ }
     {

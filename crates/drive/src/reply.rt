@@ -1,6 +1,7 @@
 // What the host brings back of a command. The host has taken the sense data apart.
 use geometry::Address;
 
+// An answer of the drive. Which of its numbers mean something goes by the command and the sense triple.
 pub struct Reply {
     // The sense triple: key, additional sense code and its qualifier.
     pub key: u8,

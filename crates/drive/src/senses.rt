@@ -10,25 +10,31 @@ pub struct Sense {
     pub meaning: u8,
 }
 
-// The meanings, after table 4-20 of the standard; 0 is that of every triple that is not listed.
-const GOOD: u8 = 1;
+// The meanings, after table 4-20 of the standard. This one is that of every triple that the table does not list.
+const OTHER: u8 = 0;
 
-const BUSY: u8 = 2;
+pub(crate) const GOOD: u8 = 1;
 
+pub(crate) const BUSY: u8 = 2;
+
+// A frame could not be written.
 pub const WRITE_ERROR: u8 = 3;
 
-const VOLUME_OVERFLOW: u8 = 4;
+pub(crate) const VOLUME_OVERFLOW: u8 = 4;
 
-const RECOVERED: u8 = 5;
+pub(crate) const RECOVERED: u8 = 5;
 
-const UNREADABLE: u8 = 6;
+pub(crate) const UNREADABLE: u8 = 6;
 
-const END_OF_DATA: u8 = 7;
+pub(crate) const END_OF_DATA: u8 = 7;
 
-const END_OF_MEDIUM: u8 = 8;
+pub(crate) const END_OF_MEDIUM: u8 = 8;
 
-// In the order of 01.
-const SENSES: [Sense; 9] = [
+// How many triples are listed.
+const TRIPLES: usize = 9;
+
+// In the order of 01, "Replies".
+const SENSES: [Sense; TRIPLES] = [
     Sense {
         key: 0x00,
         asc: 0x00,
@@ -85,23 +91,24 @@ const SENSES: [Sense; 9] = [
     },
 ];
 
+// Whether an entry of the table is of this triple.
 fn is_triple(s: Sense, key: u8, asc: u8, ascq: u8) -> bool
     ensures { λ r. ⌜ r ≡ matches s key asc ascq ⌝ }
 {
     (s.key == key) & (s.asc == asc) & (s.ascq == ascq)
 }
 
-// The meaning of a triple, 0 for one that is not listed.
+// The meaning of a triple: that of the first entry of the table which has it, or `OTHER`.
 pub fn meaning(key: u8, asc: u8, ascq: u8) -> u8
     ensures { λ r. ⌜ r ≡ meaningOf key asc ascq ⌝ }
 {
     let mut i: usize = 0;
-    while i < 9 {
+    while i < TRIPLES {
         let s = SENSES[i];
         if is_triple(s, key, asc, ascq) {
             return s.meaning;
         }
         i += 1;
     }
-    0
+    OTHER
 }

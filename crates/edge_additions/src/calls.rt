@@ -10,7 +10,7 @@ use edge_recorder::session_of;
 use reading::Reading;
 use recording::Recording;
 
-// At the end of a reading, with a window of four blocks.
+// Opens an addition at the end of a reading, with a window of four blocks.
 pub fn add(reading: Reading) -> Recording {
     session_of(open_at_end(reading, 16, 4, 0))
 }
@@ -27,11 +27,13 @@ fn play_one(session: Recording, window: &[u8]) {
     finish(s, window, 3);
 }
 
+// An addition of one block.
 pub fn add_block(reading: Reading, window: &mut [u8]) {
     let s = accept_block(add(reading), window);
     play_one(s, window);
 }
 
+// An addition of one filemark.
 pub fn add_filemark(reading: Reading, window: &[u8]) {
     play_one(accept_filemark(add(reading)), window);
 }

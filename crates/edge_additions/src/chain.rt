@@ -1,4 +1,4 @@
-// Three additions to one cartridge, each at the end that a reading of the one before found, and a reading of all.
+// Three additions to one cartridge, each behind a reading of what the one before left, and a reading of all.
 use crate::calls::add_block;
 use crate::calls::add_filemark;
 use crate::readings::begun;
@@ -39,6 +39,7 @@ fn read_all() {
     play_element(s, Kind::Eod, 5, 0);
 }
 
+// All of it.
 pub fn three_times(window: &mut [u8]) {
     print(b"adding three times: block, filemark, block\n");
     add_first(window);

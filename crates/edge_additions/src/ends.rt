@@ -64,6 +64,7 @@ fn read_to_3000() -> Reading {
     play_element(s, Kind::Eod, 3, 0)
 }
 
+// One block, behind the second header group and its defect map.
 pub fn behind_gap(window: &mut [u8]) {
     print(b"adding at 3,000\n");
     add_block(read_to_3000(), window);

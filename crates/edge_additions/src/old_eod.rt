@@ -53,6 +53,7 @@ fn opening_header() -> Header {
     }
 }
 
+// EODs are judged by the old end where the header names no EOD.
 pub fn named_by_opening_header() {
     print(
         b"reading: an EOD below the old end that an opening header names, one with a number above\n",

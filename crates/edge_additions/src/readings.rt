@@ -9,6 +9,7 @@ use frame::Header;
 use frame::Kind;
 use reading::Reading;
 
+// A header with this pass, EOD address and update count.
 pub fn newest_header(pass: u16, eod: u32, update: u32) -> Header {
     header(11999, pass, eod, update)
 }

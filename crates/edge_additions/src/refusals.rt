@@ -43,6 +43,7 @@ pub fn elsewhere() {
     add_refused(play_element(s, Kind::Eod, 0, 0), 16, 4);
 }
 
+// Windows that no opening takes.
 pub fn windows() {
     print(b"adding with a window of 0 and of 65 blocks\n");
     let reading = read_none(newest_header(3, 10, 4));

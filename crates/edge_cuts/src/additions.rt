@@ -37,6 +37,7 @@ fn opening_at(last: u32, old: u32) -> Header {
     }
 }
 
+// The opening header of the addition at 12.
 pub fn opening_header() -> Header {
     opening_at(11999, 12)
 }
@@ -46,6 +47,7 @@ pub fn end_of_tape(reading: Reading) -> Reading {
     play_sense(reading, sense(0, 0, 2))
 }
 
+// No element was written.
 pub fn behind_opening_headers() {
     print(b"adding at 12, cut behind the opening headers: the old EOD ends the reading\n");
     add_refused(read_two(opening_header()), 16, 4);
@@ -61,6 +63,7 @@ fn read_unclosed(h: Header) {
     add_refused(end_of_tape(play_added(begun(h))), 16, 4);
 }
 
+// One element, and no EOD.
 pub fn behind_element() {
     print(b"adding at 12, cut behind the first element: the opening header, then the old one\n");
     read_unclosed(opening_header());
@@ -78,6 +81,7 @@ fn read_to_last() -> Reading {
     play_added(jump(s, 93))
 }
 
+// The same where that element has the last frame of the tape.
 pub fn at_last() {
     print(b"adding at LAST, cut behind the first element: the tape ends there\n");
     add_refused(look(read_to_last()), 16, 4);
@@ -94,6 +98,7 @@ fn read_to_13(h: Header) -> Reading {
     play_element(play_added(begun(h)), Kind::Eod, 3, 0)
 }
 
+// EOD, and no closing header.
 pub fn behind_eod() {
     print(b"adding at 12, cut behind EOD: the opening header\n");
     add_refused(read_to_13(opening_header()), 16, 4);

@@ -59,7 +59,7 @@ pub fn eod_alone(window: &[u8]) {
     finish(play_errors(r, window, 1, 1, 11), window, 2, 0);
 }
 
-// The third filemark is accepted once the first is known to be on tape, at 11.
+// The third filemark finds room in the window when the first is on tape, at 11.
 pub fn two_blocks(window: &[u8]) {
     let opened = open(
         b"D = 4, W = 2: three filemarks, two outstanding at each of two errors\n",

@@ -49,6 +49,7 @@ fn print_headers() {
     print_header_frames(HIGHEST, HIGHEST);
 }
 
+// Both kinds of frames.
 pub fn print_all() {
     print_elements();
     print_headers();

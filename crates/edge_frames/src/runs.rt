@@ -19,6 +19,7 @@ use frame_bounds::header_frames_sent_at_most;
 use recording::Recording;
 use recording::Stage;
 
+// A recording, and what its replies have told so far.
 pub struct Run {
     pub session: Recording,
     // Of elements and EOD.

@@ -4,6 +4,7 @@ use drive::WRITE_FAILED;
 use drive::WRITE_GOOD;
 use std::num::wrapping_add_u32;
 
+// Frames and errors of one kind, of elements or of headers.
 pub struct Tally {
     // WRITEs that the drive took: those answered good.
     pub frames: u32,
@@ -12,6 +13,7 @@ pub struct Tally {
 }
 
 impl Tally {
+    // Nothing counted yet.
     pub fn none() -> Tally {
         Tally {
             frames: 0,

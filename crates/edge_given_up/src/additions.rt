@@ -69,6 +69,7 @@ fn play_added(session: Recording, window: &[u8]) {
     finish(s, window, 4);
 }
 
+// The addition goes over the EOD, behind the block that still reads.
 pub fn behind_given_up(window: &mut [u8]) {
     give_up();
     let s = accept_block(session_of(open_at_end(read_given_up(), 16, 4, 0)), window);
@@ -90,6 +91,7 @@ fn play_in_tail(session: Recording, window: &[u8]) {
     finish(s, window, 2);
 }
 
+// Its first address is kept for EOD already.
 pub fn in_tail(window: &mut [u8]) {
     print(b"adding at 2,989 with a tail of 255: the block is given up\n");
     let s = accept_block(session_of(open_at_end(read_to_2989(), 16, 4, 255)), window);

@@ -20,11 +20,13 @@ fn read_two(h: Header) -> Reading {
     play_element(s, Kind::Data, 1, 2)
 }
 
+// An EOD that would end the reading but for its flags.
 pub fn foreign() {
     print(b"reading: EOD one below the expected number where the header has it, with flags 4C\n");
     look(play_foreign(read_two(header(11999, 2, 12, 3)), Kind::Eod, 1));
 }
 
+// EODs that are passed over.
 pub fn elsewhere() {
     print(b"reading: EOD two below where the header has it, then one below elsewhere\n");
     let mut s = play_element(read_two(header(11999, 2, 12, 3)), Kind::Eod, 0, 0);
@@ -41,6 +43,7 @@ fn opening_header() -> Header {
     }
 }
 
+// There one below ends no reading.
 pub fn old_end() {
     print(b"reading: EOD one below at the old end that an opening header names\n");
     let s = play_element(read_two(opening_header()), Kind::Eod, 1, 0);

@@ -6,7 +6,12 @@ use buffer::be16_at;
 use buffer::be32_at;
 use drive::Command;
 use frame::AUX_START;
+use frame::DATA_TYPE;
+use frame::EOD_TYPE;
+use frame::HEADER_TYPE;
 use frame::KIND_AT;
+use frame::MARKER_TYPE;
+use frame::NO_MARKER;
 use frame::OLD_AT;
 use frame::UPDATE_AT;
 
@@ -36,7 +41,7 @@ fn print_element(name: &[u8], frame: &[u8]) {
     print_pass(be16_at(frame, PASS_AT));
     print_number(b", filemarks ", be32_at(frame, FILEMARKS_AT));
     let marker = be32_at(frame, MARKER_AT);
-    if marker != 0xFFFFFFFF {
+    if marker != NO_MARKER {
         print_number(b", latest at ", marker);
     }
 }
@@ -59,10 +64,10 @@ fn print_old(frame: &[u8]) {
 // The kind of a frame and what it holds.
 fn print_frame(frame: &[u8]) {
     match be16_at(frame, KIND_AT) {
-        0x0800 => print_header(frame),
-        0x8000 => print_element(b" block ", frame),
-        0x0200 => print_element(b" filemark ", frame),
-        0x0100 => print_element(b" EOD ", frame),
+        HEADER_TYPE => print_header(frame),
+        DATA_TYPE => print_element(b" block ", frame),
+        MARKER_TYPE => print_element(b" filemark ", frame),
+        EOD_TYPE => print_element(b" EOD ", frame),
         _ => print_element(b" ", frame),
     }
     print_old(frame);

@@ -6,19 +6,23 @@ use geometry::Verdict;
 use geometry::number;
 use libc::STDOUT_FILENO;
 
+// A text.
 pub fn print(text: &[u8]) {
     io::write_all(STDOUT_FILENO, text);
 }
 
+// A text and a number of up to 64 bits.
 pub fn print_long(text: &[u8], n: u64) {
     io::write_all(STDOUT_FILENO, text);
     io::print_decimal(STDOUT_FILENO, n);
 }
 
+// A text and a number.
 pub fn print_number(text: &[u8], n: u32) {
     print_long(text, n as u64);
 }
 
+// A refusal by its number.
 pub fn print_refusal(r: Refusal) {
     print_number(b"refused ", number(r) as u32);
 }

@@ -16,6 +16,7 @@ pub fn sense(key: u8, asc: u8, ascq: u8) -> Reply {
     }
 }
 
+// Good, with so many frames buffered.
 pub fn good(buffered: u32) -> Reply {
     let plain = sense(0, 0, 0);
     Reply {
@@ -24,10 +25,12 @@ pub fn good(buffered: u32) -> Reply {
     }
 }
 
+// Busy.
 pub fn busy() -> Reply {
     sense(2, 4, 8)
 }
 
+// A write error at p with a skip.
 pub fn write_error(p: u32, skip: u8) -> Reply {
     let plain = sense(3, 0x0C, 0);
     Reply {
@@ -37,7 +40,7 @@ pub fn write_error(p: u32, skip: u8) -> Reply {
     }
 }
 
-// A cartridge loaded at its beginning.
+// A cartridge that is loaded at the beginning.
 pub fn cartridge(segtrk: u16, trks: u16) -> Geometry {
     Geometry {
         segtrk: segtrk,

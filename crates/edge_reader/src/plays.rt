@@ -13,6 +13,7 @@ use frame::DATA_LENGTH;
 use frame::Element;
 use frame::FRAME_LENGTH;
 use frame::Kind;
+use frame::NO_MARKER;
 use geometry::Address;
 use geometry::Seq;
 use reading::Answer;
@@ -74,6 +75,7 @@ pub fn play_sense(session: Reading, reply: Reply) -> Reading {
     play(session, reply, &frame)
 }
 
+// An address at which nothing reads.
 pub fn play_unreadable(session: Reading) -> Reading {
     play_sense(session, sense(3, 0x11, 0))
 }
@@ -87,7 +89,7 @@ fn element(session: Reading, pass: u16, kind: Kind, number: u32) -> Element {
         last: last,
         seq: Seq(number),
         filemarks: 0,
-        marker: Address(0xFFFFFFFF),
+        marker: Address(NO_MARKER),
     }
 }
 

@@ -17,6 +17,7 @@ use header_building::build_header;
 use header_choice::choice_verdict;
 use header_choice::choose;
 
+// Openings that are refused.
 pub fn openings() {
     print(b"headers: another name, 3,000 frames, a short one\n");
     let g = cartridge(1000, 12);
@@ -51,6 +52,7 @@ fn compare(first: Header, second: Header, byte: u8) {
     print_choice(&one, &other);
 }
 
+// Choices between two headers.
 pub fn choices() {
     print(
         b"headers: the higher update count, in both orders; one invalid; one count, unlike data\n",

@@ -39,6 +39,7 @@ pub fn example() {
     look(s);
 }
 
+// Frames and addresses that deliver nothing, and a busy drive.
 pub fn passed_over() {
     print(b"reading: another pass, a number below, unreadable, recovered, busy\n");
     let mut s = open_on(cartridge(1000, 12), header(11999, 2, 16, 3));
@@ -96,6 +97,7 @@ fn located() -> Reading {
     )
 }
 
+// Replies that end the reading.
 pub fn refusals() {
     print(b"reading: refused replies\n");
     look(play_sense(located(), sense(0, 0, 2)));

@@ -32,10 +32,12 @@ pub fn open(title: &[u8], g: Geometry, blocks: u8) -> Recording {
     open_tailed(title, g, blocks, 0)
 }
 
+// Accepts a filemark.
 pub fn accept_filemark(session: Recording) -> Recording {
     session_of(session.accept_filemark())
 }
 
+// Closes.
 pub fn close(session: Recording) -> Recording {
     session_of(session.close())
 }
@@ -127,6 +129,7 @@ fn run_errors(session: Recording, window: &[u8], n: u8, shown: bool) -> Recordin
     s
 }
 
+// n write errors with skip 255, from address 10 on, printed.
 pub fn play_errors(session: Recording, window: &[u8], n: u8) -> Recording {
     run_errors(session, window, n, true)
 }

@@ -47,6 +47,7 @@ fn record_filemarks(window: &mut [u8]) {
     play_filemarks(s, window);
 }
 
+// The recording, with a window of seven blocks.
 pub fn three_filemarks() {
     let mut window = [0u8; 7 * DATA_LENGTH];
     record_filemarks(&mut window);

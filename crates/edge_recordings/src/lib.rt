@@ -2,6 +2,7 @@
 mod filemarks;
 mod recordings;
 
+// Each with a window of its own.
 pub fn play_all() {
     recordings::example();
     recordings::crossing();

@@ -1,4 +1,4 @@
-// The first is the example of 01, "Edges": block, filemark, block sent to 10, 11, 12, with an error at 11, skip 3.
+// The first is the example of 01, "Edges": a filemark between two blocks, with a write error at 11.
 // The second goes by write errors to 2,985, over the second header group and to the end of a tape of 3,001 frames.
 // The third is a single block, with a busy WRITE and an error with skip 2.
 use edge_output::busy;
@@ -40,6 +40,7 @@ fn record_example(window: &mut [u8]) {
     play_example(s, window);
 }
 
+// The first, with a window of four blocks.
 pub fn example() {
     let mut window = [0u8; 4 * DATA_LENGTH];
     record_example(&mut window);
@@ -73,6 +74,7 @@ fn record_crossing(window: &mut [u8]) {
     play_crossing(s, window);
 }
 
+// The second, with a window of eight blocks.
 pub fn crossing() {
     let mut window = [0u8; 8 * DATA_LENGTH];
     record_crossing(&mut window);

@@ -26,6 +26,7 @@ fn play_target_above_end(session: Recording, window: &[u8]) {
     look_ended(s, window);
 }
 
+// A block fails, and its target is past the tape's end for EOD too.
 pub fn target_above_end(window: &mut [u8]) {
     let s = near_end(
         b"tail of 1: a target of 3,244, above the tape's end\n",
@@ -45,6 +46,7 @@ fn play_eod_fails(session: Recording, window: &[u8]) {
     look_ended(s, window);
 }
 
+// EOD fails on the last frame of the tape.
 pub fn eod_fails(window: &mut [u8]) {
     let s = near_end(b"tail of 1: an error of EOD at 3,000\n", 1, 174, window);
     play_eod_fails(s, window);

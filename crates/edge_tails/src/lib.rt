@@ -10,7 +10,7 @@ fn play_limits(window: &mut [u8]) {
     limits::before_gap(window);
     limits::closed_before(window);
     limits::target_refused(window);
-    limits::target_taken(window);
+    limits::target_at_limit(window);
     limits::stale_target(window);
 }
 

@@ -21,6 +21,7 @@ fn play_behind_gap(session: Recording, window: &[u8]) {
     finish(s, window, 2);
 }
 
+// An element finds no room at 3,000, and EOD goes there.
 pub fn behind_gap(window: &mut [u8]) {
     let s = near_end(
         b"tail of 1: no room for an element at 3,000\n",
@@ -38,6 +39,7 @@ fn play_before_gap(session: Recording, window: &[u8]) {
     finish(s, window, 3);
 }
 
+// An element finds no room behind 2,989, and EOD goes to 3,000.
 pub fn before_gap(window: &mut [u8]) {
     let s = near_end(
         b"tail of 11: no room for an element behind 2,989\n",
@@ -58,6 +60,7 @@ fn play_closed_before(session: Recording, window: &[u8]) {
     look(s, window);
 }
 
+// The same where close was called before, and is called twice behind.
 pub fn closed_before(window: &mut [u8]) {
     let s = near_end(
         b"tail of 11: closed, closed again, and a third time\n",
@@ -79,22 +82,24 @@ fn play_refused_target(session: Recording, window: &[u8]) {
     finish(s, window, 3);
 }
 
+// A target one past the limit of elements.
 pub fn target_refused(window: &mut [u8]) {
     let s = at_2560(b"tail of 255: a target of 2,746\n", 255, window);
     play_refused_target(s, window);
 }
 
 // A block at 2,745.
-fn play_taken_target(session: Recording, window: &[u8]) {
+fn play_target_at_limit(session: Recording, window: &[u8]) {
     let mut s = play_target(session, window, 185);
     s = play_good(s, window, 3);
     s = look(s, window);
     finish(s, window, 2);
 }
 
-pub fn target_taken(window: &mut [u8]) {
+// A target at the limit of elements.
+pub fn target_at_limit(window: &mut [u8]) {
     let s = at_2560(b"tail of 255: a target of 2,745\n", 255, window);
-    play_taken_target(s, window);
+    play_target_at_limit(s, window);
 }
 
 // Blocks at 2,985, the last error's target, and at 2,986.
@@ -104,6 +109,7 @@ fn play_stale_target(session: Recording, window: &[u8]) {
     finish(s, window, 2);
 }
 
+// The target of an error that was got over counts no more.
 pub fn stale_target(window: &mut [u8]) {
     let mut s = near_end(
         b"tail of 14: EOD goes behind the last block, and not to the last error's target\n",

@@ -5,7 +5,7 @@ ghost use lib.ListN.{length};
 ghost use Rattle.geometry.specs.Pick.{pick};
 ghost use Rattle.geometry.specs.Refusal.{verdictNumber};
 ghost use Rattle.frame.specs.Lengths.{frameLength, dataLength};
-ghost use Rattle.frame.specs.Frame.{dataBytes, elementFrame, elementFits};
+ghost use Rattle.frame.specs.Frame.{dataBytes, elementFrame, elementFits, lentFits};
 use aux_building::build_aux;
 use buffer_writing::clear;
 use buffer_writing::copy_all;
@@ -41,24 +41,26 @@ fn fill_data(front: &mut [u8], k: Kind, block: &[u8])
     }
 }
 
-fn fill_element(frame: &mut [u8], e: Element, block: &[u8])
+// Fills a frame, where the lengths are right: the data bytes, then the AUX.
+fn fill_element(frame: &mut [u8], e: Element, block: &[u8]) -> Verdict
     requires { ⌜ elementFits (e .kind) (length (now frame)) (length (now block)) ≡ true ⌝ }
-    ensures { λ _. ⌜ now (frame .exit) ≡ elementFrame e (now (block .entry)) ⌝ }
+    ensures answer { λ r. ⌜ verdictNumber r ≡ 0 ⌝ }
+    ensures bytes { λ _. ⌜ now (frame .exit) ≡ elementFrame e (now (block .entry)) ⌝ }
 {
     let k = e.kind;
     fill_data(&mut frame[..DATA_LENGTH], k, block);
-    build_aux(&mut frame[DATA_LENGTH..], element_aux(e));
+    build_aux(&mut frame[DATA_LENGTH..], element_aux(e))
 }
 
-// Fills a frame of 33,280 bytes, a data frame with a block of 32,768; other lengths are refused with 1 and the frame is left alone.
+// Fills the frame of an element, given its block, or of EOD. Lengths that do not fit are refused with 1, and the frame is left alone.
 pub fn build_element(frame: &mut [u8], e: Element, block: &[u8]) -> Verdict
-    ensures answer { λ r. ⌜ verdictNumber r ≡ pick (elementFits (e .kind) (length (now (frame .entry))) (length (now (block .entry)))) 0 1 ⌝ }
-    ensures bytes { λ _. ⌜ now (frame .exit) ≡ pick (elementFits (e .kind) (length (now (frame .entry))) (length (now (block .entry)))) (elementFrame e (now (block .entry))) (now (frame .entry)) ⌝ }
+    ensures answer { λ r. ⌜ verdictNumber r ≡ pick (lentFits e (now (frame .entry)) (now (block .entry))) 0 1 ⌝ }
+    ensures bytes { λ _.
+        ⌜ now (frame .exit) ≡ pick (lentFits e (now (frame .entry)) (now (block .entry))) (elementFrame e (now (block .entry))) (now (frame .entry)) ⌝ }
 {
     let k = e.kind;
     if fits(k, frame.len(), block.len()) {
-        fill_element(frame, e, block);
-        return Verdict::Accepted;
+        return fill_element(frame, e, block);
     }
     Verdict::Refused(Refusal::Length)
 }

@@ -19,24 +19,24 @@ use Rattle.elements.specs.Due.{DueSaid, send, idle, refused, dueOf}
 use Rattle.elements.specs.Reply.{SteppedSaid, ending, notedOf, failedTo, failedOf}
 use Rattle.elements.specs.Former.{formerDue, formerFailedTo, formerFailed, AsFormerly}
 
-untailed : (e : Elements) → limitOf 0 e ≡ e .limit
-untailed e = pick-by (λ (a : Address). a ≡ e .limit) (e .eod) (λ _. refl) (λ _. let n : e .limit .0 - 0 ≡ e .limit .0 = omega arith in ap asAddress n)
+untailed : (e : Elements) → limitOf 0 e ≡ e .course .limit
+untailed e = pick-by (λ (a : Address). a ≡ e .course .limit) (e .eod) (λ _. refl) (λ _. let n : e .course .limit .0 - 0 ≡ e .course .limit .0 = omega arith in ap asAddress n)
 
 -- rules 2 to 6 by a limit
 behind : ℕ → Elements → Address → DueSaid
 behind depth e limit =
-    pick (leb (e .pending) (e .outstanding)) (pick (eqb (e .outstanding) 0) idle (send readPosition))
-    (pick (leb depth (e .outstanding) || (ltb 0 (e .outstanding) && (eqb (e .next .0) 2990 || leb (limit .0) (e .next .0)))) (send readPosition)
-    (pick (leb (limit .0) (e .next .0)) (refused 9)
-    (pick (eqb (e .next .0) 2990) (send (locate 3000))
-    (send (write (e .next .0))))))
+    pick (leb (e .queue .pending) (e .queue .outstanding)) (pick (eqb (e .queue .outstanding) 0) idle (send readPosition))
+    (pick (leb depth (e .queue .outstanding) || (ltb 0 (e .queue .outstanding) && (eqb (e .course .next .0) 2990 || leb (limit .0) (e .course .next .0)))) (send readPosition)
+    (pick (leb (limit .0) (e .course .next .0)) (refused 9)
+    (pick (eqb (e .course .next .0) 2990) (send (locate 3000))
+    (send (write (e .course .next .0))))))
 
-due-formerly : (depth : ℕ) (e : Elements) → (e .locate ≡ true → e .target .0 < e .limit .0) → dueOf depth 0 e ≡ formerDue depth e
+due-formerly : (depth : ℕ) (e : Elements) → (e .course .locate ≡ true → e .course .target .0 < e .course .limit .0) → dueOf depth 0 e ≡ formerDue depth e
 unfolding dueOf behind
-due-formerly depth e near = go (e .locate) refl
+due-formerly depth e near = go (e .course .locate) refl
   where
-    go : (b : Bool) → e .locate ≡ b → dueOf depth 0 e ≡ formerDue depth e
-    go true t = pick-t _ t ∙ pick-f _ (lt-leb (e .limit .0) (e .target .0) (near t)) ∙ sym (pick-t _ t)
+    go : (b : Bool) → e .course .locate ≡ b → dueOf depth 0 e ≡ formerDue depth e
+    go true t = pick-t _ t ∙ pick-f _ (lt-leb (e .course .limit .0) (e .course .target .0) (near t)) ∙ sym (pick-t _ t)
     go false f = pick-f _ f ∙ ap (behind depth e) (untailed e) ∙ sym (pick-f _ f)
 
 -- the target of a 9, where it fits
@@ -50,8 +50,8 @@ noted-alike e p skip fits (place.refused n) = ap (λ (t : ℕ). ending (notedOf 
 failed-formerly : (e : Elements) (p : Address) (skip : ℕ) → targetAddress p skip < 2 ^ 32 → failedOf 0 e p skip ≡ formerFailed e p skip
 unfolding failedOf
 failed-formerly e p skip fits =
-    ap (λ (limit : Address). pick (ltb (p .0) (baseOf e .0)) (ending e 8) (pick (leb (e .next .0) (p .0)) (ending e 8) (failedTo e p skip (targetOf p skip limit)))) (untailed e)
-    ∙ ap (λ (x : SteppedSaid). pick (ltb (p .0) (baseOf e .0)) (ending e 8) (pick (leb (e .next .0) (p .0)) (ending e 8) x)) (noted-alike e p skip fits (targetOf p skip (e .limit)))
+    ap (λ (limit : Address). pick (ltb (p .0) (baseOf e .0)) (ending e 8) (pick (leb (e .course .next .0) (p .0)) (ending e 8) (failedTo e p skip (targetOf p skip limit)))) (untailed e)
+    ∙ ap (λ (x : SteppedSaid). pick (ltb (p .0) (baseOf e .0)) (ending e 8) (pick (leb (e .course .next .0) (p .0)) (ending e 8) x)) (noted-alike e p skip fits (targetOf p skip (e .course .limit)))
 
 pub as-formerly : AsFormerly
 as-formerly = record { due = due-formerly; failed = failed-formerly }

@@ -1,4 +1,4 @@
--- 01, "A recording session": elements and EOD, the first rule that applies.
+-- 01, "A recording session": the six rules for elements and EOD, tried in their order.
 use Prim.Native.Nat.{ℕ}
 use mathlib.Core.Bool.{Bool, _&&_, _||_}
 use lib.Dec.{eqb, ltb, leb}
@@ -11,11 +11,13 @@ use Rattle.elements.specs.Elements.{limitOf}
 use Rattle.elements.specs.declared.due.Due.{Due}
 use Rattle.elements.specs.declared.due.Due.the-variants as D
 
+-- a command, nothing, or a refusal by its number
 pub data DueSaid : Type 0 where
   send : CommandSaid → DueSaid
   idle : DueSaid
   refused : ℕ → DueSaid
 
+-- what the code answers, in these terms
 abbrev pub dueSaid : Due → DueSaid
 dueSaid (D.Send c) = send (commandSaid c)
 dueSaid D.Idle = idle
@@ -23,24 +25,24 @@ dueSaid (D.Refused r) = refused (refusalNumber r)
 
 -- the next address is above the highest that what is due may have
 abbrev pub aboveLimit : ℕ → Elements → Bool
-aboveLimit tail e = leb (limitOf tail e .0) (e .next .0)
+aboveLimit tail e = leb (limitOf tail e .0) (e .course .next .0)
 
 -- rule 3: the drive holds D frames, or it holds some and the next one would not go behind them
 abbrev pub mustConfirm : ℕ → ℕ → Elements → Bool
-mustConfirm depth tail e = leb depth (e .outstanding) || (ltb 0 (e .outstanding) && (eqb (e .next .0) secondGroup || aboveLimit tail e))
+mustConfirm depth tail e = leb depth (e .queue .outstanding) || (ltb 0 (e .queue .outstanding) && (eqb (e .course .next .0) secondGroup || aboveLimit tail e))
 
--- for a drive that buffers depth frames and a tail of T frames
+-- what is due where the drive buffers so many frames and the tail has so many
 unfoldable pub dueOf : ℕ → ℕ → Elements → DueSaid
 dueOf depth tail e =
     -- 1: the target of a write error. It is above END only once elements are given up: then refusal 9
-    pick (e .locate) (pick (leb (e .limit .0) (e .target .0)) (refused 9) (send (locate (e .target .0))))
-    -- 2: nothing due: READ POSITION if any is outstanding, else idle
-    (pick (leb (e .pending) (e .outstanding)) (pick (eqb (e .outstanding) 0) idle (send readPosition))
-    -- 3
+    pick (e .course .locate) (pick (leb (e .course .limit .0) (e .course .target .0)) (refused 9) (send (locate (e .course .target .0))))
+    -- 2: the drive has taken all: they are confirmed, if there are any
+    (pick (leb (e .queue .pending) (e .queue .outstanding)) (pick (eqb (e .queue .outstanding) 0) idle (send readPosition))
+    -- 3: the drive is full, or what it holds comes first
     (pick (mustConfirm depth tail e) (send readPosition)
     -- 4: no room for what is due: refusal 9
     (pick (aboveLimit tail e) (refused 9)
-    -- 5: next address 2,990: LOCATE 3,000
-    (pick (eqb (e .next .0) secondGroup) (send (locate secondUser))
-    -- 6: otherwise WRITE
-    (send (write (e .next .0)))))))
+    -- 5: the way past the second header group
+    (pick (eqb (e .course .next .0) secondGroup) (send (locate secondUser))
+    -- 6: the next frame goes out
+    (send (write (e .course .next .0)))))))

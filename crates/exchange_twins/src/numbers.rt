@@ -4,6 +4,10 @@ ghost use Rattle.drive.specs.Command.{commandBy};
 ghost use Rattle.exchange_twins.specs.Numbers.{flagNumber, isCommand, commandTwin, isExchange, exchangeOf, exchangeTwin};
 use drive::Command;
 use drive::Exchange;
+use drive::LOCATE;
+use drive::READ;
+use drive::READ_POSITION;
+use drive::WRITE;
 use drive::address;
 use drive::code;
 use geometry::Address;
@@ -15,6 +19,7 @@ pub struct AdrCommand {
     pub address: u32,
 }
 
+// An exchange: its command, and whether the reply is awaited and whether it is given once more, as flags.
 #[repr(C)]
 pub struct AdrExchange {
     pub command: AdrCommand,
@@ -22,6 +27,7 @@ pub struct AdrExchange {
     pub again: u8,
 }
 
+// A flag as 0 or 1.
 pub fn flag_number(b: bool) -> u8
     ensures { λ r. ⌜ r ≡ flagNumber b ⌝ }
 {
@@ -32,21 +38,26 @@ pub fn flag_number(b: bool) -> u8
 fn is_command(c: AdrCommand) -> bool
     ensures { λ r. ⌜ r ≡ isCommand c ⌝ }
 {
-    (c.code == 0x08) | (c.code == 0x0A) | (c.code == 0x2B) | ((c.code == 0x34) & (c.address == 0))
+    (c.code == READ)
+        | (c.code == WRITE)
+        | (c.code == LOCATE)
+        | ((c.code == READ_POSITION) & (c.address == 0))
 }
 
+// The command that has these numbers.
 fn command_of(c: AdrCommand) -> Command
     ensures { λ r. ⌜ r ≡ commandBy (c .code) (c .address) ⌝ }
 {
     let code = c.code;
     match code {
-        0x08 => Command::Read(Address(c.address)),
-        0x0A => Command::Write(Address(c.address)),
-        0x2B => Command::Locate(Address(c.address)),
+        READ => Command::Read(Address(c.address)),
+        WRITE => Command::Write(Address(c.address)),
+        LOCATE => Command::Locate(Address(c.address)),
         _ => Command::ReadPosition,
     }
 }
 
+// A command's numbers.
 pub fn command_twin(c: Command) -> AdrCommand
     ensures { λ r. ⌜ r ≡ commandTwin c ⌝ }
 {
@@ -57,6 +68,7 @@ pub fn command_twin(c: Command) -> AdrCommand
     }
 }
 
+// Whether the numbers are an exchange.
 pub fn is_exchange(x: AdrExchange) -> bool
     ensures { λ r. ⌜ r ≡ isExchange x ⌝ }
 {
@@ -64,6 +76,7 @@ pub fn is_exchange(x: AdrExchange) -> bool
     is_command(command) & (x.awaiting <= 1) & (x.again <= 1)
 }
 
+// The exchange that has these numbers, where they are one.
 pub fn exchange_of(x: AdrExchange) -> Exchange
     ensures { λ r. ⌜ r ≡ exchangeOf x ⌝ }
 {
@@ -75,6 +88,7 @@ pub fn exchange_of(x: AdrExchange) -> Exchange
     }
 }
 
+// An exchange's numbers.
 pub fn exchange_twin(x: Exchange) -> AdrExchange
     ensures { λ r. ⌜ r ≡ exchangeTwin x ⌝ }
 {

@@ -25,8 +25,12 @@ module _ {sent read : List ℕ} (r : ReadsAs sent read) where
   pub behind32 : (at : ℕ) → 32780 ≤ at → get32 read at ≡ get32 sent at
   behind32 at p = same32 read sent at at (r .behind at p) (r .behind (at + 1) (omega arith)) (r .behind (at + 2) (omega arith)) (r .behind (at + 3) (omega arith))
 
+  -- the first bytes, and all that are data
+  pub front-as-sent : (n : ℕ) → n ≤ 32772 → take n read ≡ take n sent
+  front-as-sent n p = same-part read sent 0 n (r .long) (λ i q. r .before (0 + i) (omega arith))
+
   pub data-as-sent : take 32768 read ≡ take 32768 sent
-  data-as-sent = same-part read sent 0 32768 (r .long) (λ i p. r .before (0 + i) (omega arith))
+  data-as-sent = front-as-sent 32768 (omega arith)
 
   -- AUX bytes 0 to 3, and from 12 on
   aux-before : (k : ℕ) → k < 4 → getD (drop 32768 read) k 0 ≡ getD (drop 32768 sent) k 0

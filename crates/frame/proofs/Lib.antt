@@ -4,3 +4,4 @@ pub mod AuxFields
 pub mod HeaderFields
 pub mod AsSent
 pub mod ReadBack
+pub mod FrameTypes

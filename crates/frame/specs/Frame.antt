@@ -3,6 +3,7 @@ use Prim.Native.Nat.{ℕ}
 use mathlib.Core.Bool.{Bool, _&&_}
 use mathlib.Core.List.{List, _++_}
 use lib.Dec.{eqb}
+use lib.ListN.{length}
 use Rattle.buffer.specs.Bytes.{zeros}
 use Rattle.frame.specs.Lengths.{frameLength, dataLength}
 use Rattle.frame.specs.Aux.{auxBytes, elementAux}
@@ -14,6 +15,7 @@ use Rattle.frame.specs.declared.element.Element.{Element}
 unfoldable pub blank : List ℕ
 blank = zeros dataLength
 
+-- the data bytes of a frame
 abbrev pub dataBytes : Kind → List ℕ → List ℕ
 dataBytes Data block = block
 dataBytes Marker block = blank
@@ -28,3 +30,7 @@ abbrev pub elementFits : Kind → ℕ → ℕ → Bool
 elementFits Data frame block = eqb frame frameLength && eqb block dataLength
 elementFits Marker frame block = eqb frame frameLength
 elementFits Eod frame block = eqb frame frameLength
+
+-- whether the buffers lent for an element do
+abbrev pub lentFits : Element → List ℕ → List ℕ → Bool
+lentFits e frame block = elementFits (e .kind) (length frame) (length block)

@@ -1,4 +1,4 @@
--- 01, "The cartridge": a frame is 33,280 bytes, 32,768 of data and then 512 of AUX.
+-- 01, "The cartridge" and "A recording session": lengths in bytes, and the window's in blocks.
 use Prim.Native.Nat.{ℕ}
 
 abbrev pub frameLength : ℕ
@@ -10,3 +10,7 @@ dataLength = 32768
 
 abbrev pub auxLength : ℕ
 auxLength = 512
+
+-- the most blocks of a window
+abbrev pub mostBlocks : ℕ
+mostBlocks = 64

@@ -2,11 +2,13 @@
 // A WRITE that is answered otherwise than good is not taken, and is not counted.
 ghost use mathlib.Core.Path.{_≡_};
 ghost use Rattle.frame_bounds.specs.Bounds.{smaller, framesAtMost, headerFramesAtMost};
+use geometry::GROUP_COPIES;
+use geometry::HEADER_GROUPS;
 
-const GROUP_COPIES: u32 = 5;
+// The header copies of a session: those of both groups at its opening, and again at its close.
+const SESSION_COPIES: u64 = 2 * (HEADER_GROUPS as u64) * (GROUP_COPIES as u64);
 
-const SESSION_COPIES: u64 = 20;
-
+// The smaller of two numbers.
 fn smaller(a: u32, b: u32) -> u32
     ensures { λ r. ⌜ r ≡ smaller a b ⌝ }
 {
@@ -24,7 +26,7 @@ pub fn frames_sent_at_most(elements: u32, errors: u32, depth: u32, blocks: u32) 
 pub fn header_frames_sent_at_most(errors: u32, depth: u32) -> u64
     ensures { λ r. ⌜ r ≡ headerFramesAtMost errors depth ⌝ }
 {
-    let held = smaller(depth, GROUP_COPIES);
+    let held = smaller(depth, GROUP_COPIES as u32);
     if held == 0 {
         return SESSION_COPIES;
     }

@@ -1,12 +1,11 @@
 -- Every header address is a header's, whatever the group and the copy. Assumes nothing.
-use Prim.Native.Nat.{ℕ, _+_, _%_, _≤_, _<_}
+use Prim.Native.Nat.{ℕ, _+_, _%_, _<_}
 use mathlib.Core.Path.{_≡_, refl}
 use mathlib.Core.Bool.{Bool, true, false}
 use native.Mathlib.Omega.{arith}
 use lib.Dec.{T, eqb}
 use Rattle.geometry.specs.Pick.{pick}
 use Rattle.geometry.specs.Cartridge.{headerAddress, isHeader}
-use Rattle.geometry.proofs.PickLaws.{pick-by}
 use Rattle.geometry.proofs.Table.{at-index}
 
 passed : (b : Bool) → T b → b ≡ true
@@ -19,11 +18,6 @@ in-group false n h = passed _ (at-index 5 (λ i. isHeader (2990 + i)) tt n h)
 
 pub is-header : (group copy : ℕ) → isHeader (headerAddress group copy) ≡ true
 is-header group copy = in-group (eqb (group % 2) 0) (copy % 5) (omega arith)
-
-pub header-bound : (group copy : ℕ) → headerAddress group copy ≤ 2994
-header-bound group copy =
-    let h : copy % 5 < 5 = omega arith in
-    pick-by (λ (a : ℕ). a + copy % 5 ≤ 2994) (eqb (group % 2) 0) (λ _. omega arith) (λ _. omega arith)
 
 -- within a group the addresses follow each other
 pub header-from-first : (group copy : ℕ) → copy < 5 → headerAddress group copy ≡ headerAddress group 0 + copy

@@ -8,3 +8,5 @@ pub mod NumberTests
 pub mod UserFrames
 pub mod HeaderPlaces
 pub mod Landing
+pub mod CopyPlaces
+pub mod Verdicts

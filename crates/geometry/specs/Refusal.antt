@@ -6,6 +6,7 @@ use Rattle.geometry.specs.declared.refusal.Refusal.the-variants.{Reply, 
 use Rattle.geometry.specs.declared.refusal.Verdict.{Verdict}
 use Rattle.geometry.specs.declared.refusal.Verdict.the-variants.{Accepted, Refused}
 
+-- the number of a refusal
 abbrev pub refusalNumber : Refusal → ℕ
 refusalNumber Length = 1
 refusalNumber Geometry = 2
@@ -21,6 +22,7 @@ refusalNumber Foreign = 11
 refusalNumber NotFound = 12
 refusalNumber EndElsewhere = 13
 
+-- the number of a verdict
 abbrev pub verdictNumber : Verdict → ℕ
 verdictNumber Accepted = 0
 verdictNumber (Refused r) = refusalNumber r

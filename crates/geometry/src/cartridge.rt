@@ -2,18 +2,18 @@
 ghost use mathlib.Core.Path.{_≡_};
 ghost use Prim.Native.Nat.{_+_};
 ghost use Rattle.geometry.specs.Place.{placeSaid};
-ghost use Rattle.geometry.specs.Cartridge.{trackFrames, framesOf, lastOf, isUser, pastReserved, headerAddress};
+ghost use Rattle.geometry.specs.Cartridge.{trackFrames, framesOf, lastOf, isUser, pastReserved, headerAddress, copyAt};
 use crate::address::Address;
 use crate::address::Place;
 use crate::refusal::Refusal;
 
-// Where the cartridge is loaded.
+// Where the cartridge is loaded, which decides how much of a track can be used.
 pub enum LoadPoint {
     Beginning,
     Centre,
 }
 
-// SEGTRK, frames per track, and TRKS, tracks, as the drive reports them.
+// A cartridge's size as the drive reports it: SEGTRK, the frames of a track, and TRKS, the tracks.
 pub struct Geometry {
     pub segtrk: u16,
     pub trks: u16,
@@ -29,11 +29,20 @@ pub const SECOND_GROUP: u32 = 2990;
 // Where the second user frames start, behind that group and a defect map.
 pub const SECOND_USER: u32 = 3000;
 
-// The frames that are needed.
+// The frames of each track that a cartridge loaded at its centre can't use.
+const CENTRE_FRAMES: u16 = 99;
+
+// The fewest frames that a cartridge must have: up to the first user frame behind the second group.
 const LEAST_FRAMES: u32 = 3001;
 
-// The header frames' addresses, by group and copy.
-const HEADERS: [[Address; 5]; 2] = [
+// The header groups.
+pub const HEADER_GROUPS: u8 = 2;
+
+// The copies of each.
+pub const GROUP_COPIES: u8 = 5;
+
+// The addresses of the header copies, by group and copy, both from 0.
+const HEADERS: [[Address; GROUP_COPIES as usize]; HEADER_GROUPS as usize] = [
     [Address(5), Address(6), Address(7), Address(8), Address(9)],
     [
         Address(2990),
@@ -53,10 +62,10 @@ impl Geometry {
         match load {
             LoadPoint::Beginning => self.segtrk,
             LoadPoint::Centre => {
-                if self.segtrk < 99 {
+                if self.segtrk < CENTRE_FRAMES {
                     0
                 } else {
-                    self.segtrk - 99
+                    self.segtrk - CENTRE_FRAMES
                 }
             }
         }
@@ -97,7 +106,8 @@ pub fn is_user(last: Address, a: Address) -> bool
     a.0 <= last.0
 }
 
-// What stands so much further, moved out of the second header group and the defect map behind it. The sum need not be an address.
+// The address so many frames further on; where that lies in the second header group or the defect map behind it, the first user frame behind
+// both. It may lie past the end of every cartridge, and past 32 bits.
 pub fn past_reserved(from: Address, further: u8) -> u64
     ensures { λ r. ⌜ r ≡ pastReserved (from .0 + further) ⌝ }
 {
@@ -112,11 +122,26 @@ pub fn past_reserved(from: Address, further: u8) -> u64
     }
 }
 
-// The address of a header copy. Groups count modulo 2 and copies modulo 5, so that every number has its place.
+// The address of a header copy. Numbers past the last group and past the last copy start from 0 again, so that each has its place.
 pub fn header_address(group: u8, copy: u8) -> Address
     ensures { λ r. ⌜ r .0 ≡ headerAddress group copy ⌝ }
 {
-    let g = (group % 2) as usize;
-    let c = (copy % 5) as usize;
+    let g = (group % HEADER_GROUPS) as usize;
+    let c = (copy % GROUP_COPIES) as usize;
     HEADERS[g][c]
+}
+
+// Which copy of a group stands at an address: the group's addresses are gone through in order. `GROUP_COPIES` where none does.
+pub fn copy_at(group: u8, a: Address) -> u8
+    ensures { λ r. ⌜ r ≡ copyAt group (a .0) ⌝ }
+{
+    let mut copy: u8 = 0;
+    while copy < GROUP_COPIES {
+        let at = header_address(group, copy);
+        if at.0 == a.0 {
+            return copy;
+        }
+        copy += 1;
+    }
+    GROUP_COPIES
 }

@@ -21,6 +21,7 @@ pub data CheckedSaid : Type 0 where
   valid : Header → CheckedSaid
   refused : ℕ → CheckedSaid
 
+-- what the code answers, in these terms
 abbrev pub checkedSaid : read.Checked → CheckedSaid
 checkedSaid (C.Valid h) = valid h
 checkedSaid (C.Refused r) = refused (refusalNumber r)

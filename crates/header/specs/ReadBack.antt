@@ -7,7 +7,7 @@ use mathlib.Core.Logic.{_⊎_}
 use Rattle.geometry.specs.Place.{address}
 use Rattle.geometry.specs.Cartridge.{lastOf, isUser}
 use Rattle.geometry.specs.declared.cartridge.Geometry.{Geometry}
-use Rattle.frame.specs.Header.{headerFrame}
+use Rattle.frame.specs.Header.{highestPass, headerFrame}
 use Rattle.frame.specs.Sent.{ReadsAs}
 use Rattle.frame.specs.ReadBack.{HeaderFit}
 use Rattle.frame.specs.declared.header.Header.{Header}
@@ -16,9 +16,10 @@ use Rattle.header.specs.Read.{valid, readHeader}
 
 -- what 01, "AUX bytes", asks of the pass and the EOD address of a valid header
 pub record Allowed (h : Header) : Type 0 where
-  pub pass : h .pass ≤ 65534
+  pub pass : h .pass ≤ highestPass
   pub eod : (h .eod .0 ≡ 0) ⊎ (isUser (h .last .0) (h .eod .0) ≡ true)
 
+-- of every header whose numbers fit their fields
 pub record HeaderReadBack : Type 0 where
   -- it tells the fields that it was built from
   pub fields : (h : Header) (read : List ℕ) → HeaderFit h → ReadsAs (headerFrame h) read → headerOf read ≡ h

@@ -10,6 +10,7 @@ use geometry::Geometry;
 use geometry::Place;
 use geometry::Refusal;
 
+// A header frame that was looked at: what it tells, or why it is refused.
 pub enum Checked {
     Valid(Header),
     Refused(Refusal),

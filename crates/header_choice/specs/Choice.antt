@@ -15,6 +15,7 @@ use Rattle.header_choice.specs.declared.Choice.{Choice}
 use Rattle.header_choice.specs.declared.Choice.the-variants.{First, Second, Refused}
 use Rattle.header.specs.Read.{CheckedSaid, valid, refused, readHeader}
 
+-- the first, the second, or neither, with the number of the refusal
 pub data ChoiceSaid : Type 0 where
   first : ChoiceSaid
   second : ChoiceSaid
@@ -26,14 +27,14 @@ choiceSaid First = first
 choiceSaid Second = second
 choiceSaid (Refused r) = neither (refusalNumber r)
 
--- of two valid ones that with the higher update count; equal counts give the first if all 32,768 data bytes agree, else refusal 3
+-- of two valid ones, by their update counts; where these are equal the first, if both hold the same data bytes, else refusal 3
 unfoldable pub newerOf : Header → Header → List ℕ → List ℕ → ChoiceSaid
 newerOf h k a b =
     pick (ltb (k .update) (h .update)) first
     (pick (ltb (h .update) (k .update)) second
     (pick (agree (take dataLength a) (take dataLength b)) first (neither 3)))
 
--- an invalid one gives way to a valid one; a wrong length or geometry stands
+-- beside a valid one refusal 3 is passed over, and any other refusal is the choice's
 abbrev pub givesWay : ℕ → ChoiceSaid → ChoiceSaid
 givesWay n other = pick (eqb n 3) other (neither n)
 
@@ -41,12 +42,14 @@ givesWay n other = pick (eqb n 3) other (neither n)
 abbrev pub lowerOf : ℕ → ℕ → ℕ
 lowerOf m n = pick (ltb n m) n m
 
+-- by what each of the two is by itself
 abbrev pub choiceBy : CheckedSaid → CheckedSaid → List ℕ → List ℕ → ChoiceSaid
 choiceBy (valid h) (valid k) a b = newerOf h k a b
 choiceBy (valid h) (refused n) a b = givesWay n first
 choiceBy (refused m) (valid k) a b = givesWay m second
 choiceBy (refused m) (refused n) a b = neither (lowerOf m n)
 
+-- of two lent frames
 unfoldable pub choiceOf : Geometry → List ℕ → List ℕ → ChoiceSaid
 choiceOf g a b = choiceBy (readHeader g a) (readHeader g b) a b
 

@@ -14,6 +14,7 @@ use geometry::number;
 use header::Checked;
 use header::read_header;
 
+// Which of two headers is chosen, or why none is.
 pub enum Choice {
     First,
     Second,
@@ -38,7 +39,7 @@ fn newer(one: Header, other: Header, first: &[u8], second: &[u8]) -> Choice
     Choice::Refused(Refusal::Header)
 }
 
-// A header that is refused beside a valid one: an invalid one gives way to it.
+// What is chosen where the other header is valid and this one was refused: an invalid one does not matter, any other refusal does.
 fn give_way(refusal: Refusal, other: Choice) -> Choice
     ensures { λ r. ⌜ choiceSaid r ≡ givesWay (refusalNumber refusal) (choiceSaid other) ⌝ }
 {
@@ -76,7 +77,7 @@ pub fn decide(g: Geometry, first: &[u8], second: &[u8]) -> Choice
     }
 }
 
-// The newer of two header frames, as that part of the caller's memory; an empty part where the choice is refused.
+// Hands back the newer of two lent header frames, or an empty part of the first where neither is chosen.
 pub fn choose<'a>(g: Geometry, first: &'a [u8], second: &'a [u8]) -> &'a [u8]
     ensures { λ r. ⌜ Returned (choiceOf g (now (first .entry)) (now (second .entry))) (first .entry) (second .entry) r ⌝ }
 {

@@ -1,6 +1,6 @@
 -- What is known of a frame by how it is judged. Assumes nothing.
 use mathlib.Core.Path.{_≡_, refl, sym, subst, _∙_}
-use mathlib.Core.Bool.{Bool, true, false, _&&_, not, true≢false}
+use mathlib.Core.Bool.{Bool, true, false, not, true≢false}
 use mathlib.Core.List.{List}
 use mathlib.Core.Logic.{_⊎_, inl, inr}
 use Prim.Native.Nat.{ℕ, _+_, _≤_, _<_}
@@ -20,22 +20,22 @@ use Rattle.frame.specs.declared.element.Kind.the-variants.{Data, Marker, Eod}
 use Rattle.geometry.specs.declared.address.Address.{Address}
 use Rattle.geometry.specs.declared.address.Seq.{Seq}
 use Rattle.judgement.specs.declared.told.Told.{Told}
-use Rattle.judgement.specs.Judgement.{JudgementSaid, skipped, refused, foundSaid, expectedElement, asTable, endsFrom, isEarlierEnd, isNamedEnd, isOneBelow, judgeTable, judgeNumber, judgeKind, judgeType, judgeAux, judgeFrame}
+use Rattle.judgement.specs.Judgement.{JudgementSaid, passedOver, refused, foundSaid, expectedElement, asTable, endsFrom, isEarlierEnd, isNamedEnd, isOneBelow, judgeTable, judgeNumber, judgeKind, judgeType, judgeAux, judgeFrame}
 use Rattle.judgement.proofs.Cases.{no-kind}
 use Rattle.judgement.proofs.Facts.{Typed, Alike, FoundAs, alike-so, so-alike}
 
 pub data JudgeView (told : Told) (at : Address) (expected : Seq) (frame : List ℕ) : JudgementSaid → Type 0 where
   wrong-length : (length frame ≡ 33280 → ⊥) → JudgeView told at expected frame (refused 1)
-  other-format : length frame ≡ 33280 → (get32 (drop 32768 frame) 0 ≡ 0 → ⊥) → JudgeView told at expected frame skipped
-  other-type : length frame ≡ 33280 → ((k : Kind) → get16 (drop 32768 frame) 16 ≡ typeOf k → ⊥) → JudgeView told at expected frame skipped
-  other-partition : length frame ≡ 33280 → (getD (drop 32768 frame) 20 0 ≡ 0 → ⊥) → JudgeView told at expected frame skipped
-  other-pass : length frame ≡ 33280 → (get16 (drop 32768 frame) 22 ≡ told .pass → ⊥) → JudgeView told at expected frame skipped
+  other-format : length frame ≡ 33280 → (get32 (drop 32768 frame) 0 ≡ 0 → ⊥) → JudgeView told at expected frame passedOver
+  other-type : length frame ≡ 33280 → ((k : Kind) → get16 (drop 32768 frame) 16 ≡ typeOf k → ⊥) → JudgeView told at expected frame passedOver
+  other-partition : length frame ≡ 33280 → (getD (drop 32768 frame) 20 0 ≡ 0 → ⊥) → JudgeView told at expected frame passedOver
+  other-pass : length frame ≡ 33280 → (get16 (drop 32768 frame) 22 ≡ told .pass → ⊥) → JudgeView told at expected frame passedOver
   -- an EOD where the header has it, numbered one below
   one-below : {j : JudgementSaid} → isNamedEnd Eod told at ≡ true → foundSaid Eod ≡ j → get32 (drop 32768 frame) 44 + 1 ≡ expected .0 → FoundAs told (asSeq (get32 (drop 32768 frame) 44)) Eod frame → JudgeView told at expected frame j
   foreign-below : Typed told Eod frame → get32 (drop 32768 frame) 44 + 1 ≡ expected .0 → (Alike (expectedElement Eod told (asSeq (get32 (drop 32768 frame) 44))) (drop 32768 frame) → ⊥) → JudgeView told at expected frame (refused 11)
-  below : (k : Kind) → Typed told k frame → get32 (drop 32768 frame) 44 < expected .0 → JudgeView told at expected frame skipped
+  below : (k : Kind) → Typed told k frame → get32 (drop 32768 frame) 44 < expected .0 → JudgeView told at expected frame passedOver
   above : (k : Kind) → Typed told k frame → expected .0 < get32 (drop 32768 frame) 44 → JudgeView told at expected frame (refused 10)
-  earlier : Typed told Eod frame → get32 (drop 32768 frame) 44 ≡ expected .0 → at .0 < endsFrom told → JudgeView told at expected frame skipped
+  earlier : Typed told Eod frame → get32 (drop 32768 frame) 44 ≡ expected .0 → at .0 < endsFrom told → JudgeView told at expected frame passedOver
   foreign : (k : Kind) → Typed told k frame → get32 (drop 32768 frame) 44 ≡ expected .0 → isEarlierEnd k told at ≡ false → (Alike (expectedElement k told expected) (drop 32768 frame) → ⊥) → JudgeView told at expected frame (refused 11)
   found : (k : Kind) {j : JudgementSaid} → foundSaid k ≡ j → isEarlierEnd k told at ≡ false → FoundAs told expected k frame → JudgeView told at expected frame j
 
@@ -65,7 +65,7 @@ module _ (told : Told) (at : Address) (expected : Seq) (frame : List ℕ) where
           pick-by View (asTable (expectedElement Eod told (asSeq (get32 aux 44))) aux) (λ a. one-below n refl e (record { typed = t; number = refl; alike = so-alike a }))
           (λ a. foreign-below t e (λ b. true≢false (sym (alike-so b) ∙ a)))
 
-      ends : (k : Kind) → Typed told k frame → get32 aux 44 ≡ expected .0 → isEarlierEnd k told at ≡ true → View skipped
+      ends : (k : Kind) → Typed told k frame → get32 aux 44 ≡ expected .0 → isEarlierEnd k told at ≡ true → View passedOver
       ends Data t same e = absurd (true≢false (sym e))
       ends Marker t same e = absurd (true≢false (sym e))
       ends Eod t same e = earlier t same (ltb-true _ _ e)

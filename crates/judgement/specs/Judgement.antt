@@ -8,7 +8,7 @@ use Rattle.geometry.specs.Pick.{pick}
 use Rattle.geometry.specs.Refusal.{refusalNumber}
 use Rattle.geometry.specs.Place.{asAddress, asSeq}
 use Rattle.buffer.specs.Bytes.{get16, get32, agree}
-use Rattle.frame.specs.Aux.{typeOf, auxBytes, elementAux}
+use Rattle.frame.specs.Aux.{dataType, markerType, typeOf, auxBytes, elementAux}
 use Rattle.frame.specs.declared.element.Element.{Element}
 use Rattle.frame.specs.declared.element.Kind.{Kind}
 use Rattle.frame.specs.declared.element.Kind.the-variants.{Data, Marker, Eod}
@@ -17,24 +17,29 @@ use Rattle.geometry.specs.declared.address.Seq.{Seq}
 use Rattle.frame.specs.Lengths.{frameLength, dataLength}
 use Rattle.judgement.specs.declared.told.Told.{Told}
 use Rattle.judgement.specs.declared.judge.Judgement.{Judgement}
-use Rattle.judgement.specs.declared.judge.Judgement.the-variants.{Skipped, Refused, Found}
+use Rattle.judgement.specs.declared.judge.Judgement.the-variants.{PassedOver, Refused, Found}
 
+-- what a frame is to a reading
 pub data JudgementSaid : Type 0 where
   -- passed over
-  skipped : JudgementSaid
+  passedOver : JudgementSaid
   refused : ℕ → JudgementSaid
   -- delivered: a block, a filemark; or the end
   block : JudgementSaid
   filemark : JudgementSaid
   end : JudgementSaid
 
-abbrev pub foundSaid : Kind → JudgementSaid
-foundSaid Data = block
-foundSaid Marker = filemark
-foundSaid Eod = end
+-- what is found, by its frame type: of the three that a reading looks at, EOD is the last
+abbrev foundType : ℕ → JudgementSaid
+foundType n = pick (eqb n dataType) block (pick (eqb n markerType) filemark end)
 
+-- the expected frame, by its kind
+abbrev pub foundSaid : Kind → JudgementSaid
+foundSaid k = foundType (typeOf k)
+
+-- what the code answers, in these terms
 abbrev pub judgementSaid : Judgement → JudgementSaid
-judgementSaid Skipped = skipped
+judgementSaid PassedOver = passedOver
 judgementSaid (Refused r) = refused (refusalNumber r)
 judgementSaid (Found k) = foundSaid k
 
@@ -59,7 +64,7 @@ asTable e aux =
     agree (part 18 36 aux) (part 18 36 (auxBytes (elementAux e)))
     && agree (part 44 68 aux) (part 44 68 (auxBytes (elementAux e)))
 
--- 02, Card 1: from which address on an EOD ends reading. That is the header's EOD address or, for want of one, the old end that it names
+-- 02, Card 1: from which address on an EOD ends reading: where the header says that EOD is or, if it says nothing, the old end that it names
 unfoldable pub endsFrom : Told → ℕ
 endsFrom told = pick (eqb (told .eod .0) 0) (told .old .0) (told .eod .0)
 
@@ -88,12 +93,12 @@ judgeTable k told number aux = pick (asTable (expectedElement k told number) aux
 unfoldable pub judgeNumber : Kind → Told → Address → Seq → List ℕ → JudgementSaid
 judgeNumber k told at expected aux =
     pick (isOneBelow k told at (get32 aux 44) expected) (judgeTable k told (asSeq (get32 aux 44)) aux)
-    (pick (ltb (get32 aux 44) (expected .0)) skipped
+    (pick (ltb (get32 aux 44) (expected .0)) passedOver
     (pick (ltb (expected .0) (get32 aux 44)) (refused 10)
-    (pick (isEarlierEnd k told at) skipped
+    (pick (isEarlierEnd k told at) passedOver
     (judgeTable k told expected aux))))
 
--- ---- a frame is passed over unless AUX 0-3 are 0, type is data, marker or EOD, partition 00, pass the header's: one after another
+-- ---- the tests that a frame must pass before its number is looked at, one after another
 
 abbrev unless : Bool → JudgementSaid → JudgementSaid → JudgementSaid
 unless test over next = pick test next over
@@ -101,8 +106,8 @@ unless test over next = pick test next over
 -- partition 00, then pass the header's
 unfoldable pub judgeKind : Kind → Told → Address → Seq → List ℕ → JudgementSaid
 judgeKind k told at expected aux =
-    unless (eqb (getD aux 20 0) 0) skipped
-    (unless (eqb (get16 aux 22) (told .pass)) skipped
+    unless (eqb (getD aux 20 0) 0) passedOver
+    (unless (eqb (get16 aux 22) (told .pass)) passedOver
     (judgeNumber k told at expected aux))
 
 -- type is data, marker or EOD
@@ -110,11 +115,11 @@ unfoldable pub judgeType : Told → Address → Seq → List ℕ → JudgementSa
 judgeType told at expected aux =
     pick (eqb (get16 aux 16) (typeOf Data)) (judgeKind Data told at expected aux)
     (pick (eqb (get16 aux 16) (typeOf Marker)) (judgeKind Marker told at expected aux)
-    (pick (eqb (get16 aux 16) (typeOf Eod)) (judgeKind Eod told at expected aux) skipped))
+    (pick (eqb (get16 aux 16) (typeOf Eod)) (judgeKind Eod told at expected aux) passedOver))
 
 -- AUX 0-3 are 0
 unfoldable pub judgeAux : Told → Address → Seq → List ℕ → JudgementSaid
-judgeAux told at expected aux = unless (eqb (get32 aux 0) 0) skipped (judgeType told at expected aux)
+judgeAux told at expected aux = unless (eqb (get32 aux 0) 0) passedOver (judgeType told at expected aux)
 
 -- a lent length that is not a frame's: refusal 1
 unfoldable pub judgeFrame : Told → Address → Seq → List ℕ → JudgementSaid

@@ -1,4 +1,4 @@
-// A frame that was read is skipped, refused, or the next element or the end.
+// A frame that was read is passed over, refused, or the next element or the end.
 ghost use mathlib.Core.Path.{_≡_};
 ghost use lib.ListN.{length};
 ghost use Rattle.frame.specs.Lengths.{auxLength};
@@ -10,16 +10,20 @@ use buffer::be16_at;
 use buffer::be32_at;
 use buffer::byte_at;
 use frame::DATA_LENGTH;
+use frame::DATA_TYPE;
+use frame::EOD_TYPE;
 use frame::Element;
 use frame::FRAME_LENGTH;
 use frame::Kind;
+use frame::MARKER_TYPE;
 use geometry::Address;
 use geometry::Refusal;
 use geometry::Seq;
 
+// What a frame is to a reading.
 pub enum Judgement {
     // Passed over.
-    Skipped,
+    PassedOver,
     // A wrong length, an element missing before this one, or a frame of another use model.
     Refused(Refusal),
     // The expected block or filemark, or the end of data.
@@ -63,7 +67,7 @@ fn is_earlier_end(k: Kind, told: Told, at: Address) -> bool
     }
 }
 
-// Whether it is an EOD at the header's EOD address.
+// Whether it is an EOD where the header says that EOD is.
 fn is_named_end(k: Kind, told: Told, at: Address) -> bool
     ensures { λ r. ⌜ r ≡ isNamedEnd k told at ⌝ }
 {
@@ -103,13 +107,13 @@ fn judge_number(k: Kind, told: Told, at: Address, expected: Seq, aux: &[u8]) -> 
         return judge_table(k, told, Seq(n), aux);
     }
     if n < expected.0 {
-        return Judgement::Skipped;
+        return Judgement::PassedOver;
     }
     if expected.0 < n {
         return Judgement::Refused(Refusal::Missing);
     }
     if is_earlier_end(k, told, at) {
-        return Judgement::Skipped;
+        return Judgement::PassedOver;
     }
     judge_table(k, told, expected, aux)
 }
@@ -121,11 +125,11 @@ fn judge_kind(k: Kind, told: Told, at: Address, expected: Seq, aux: &[u8]) -> Ju
 {
     let partition = byte_at(aux, 20);
     if partition != 0 {
-        return Judgement::Skipped;
+        return Judgement::PassedOver;
     }
     let pass = be16_at(aux, 22);
     if pass != told.pass {
-        return Judgement::Skipped;
+        return Judgement::PassedOver;
     }
     judge_number(k, told, at, expected, aux)
 }
@@ -137,20 +141,21 @@ fn judge_type(told: Told, at: Address, expected: Seq, aux: &[u8]) -> Judgement
 {
     let t = be16_at(aux, 16);
     match t {
-        0x8000 => judge_kind(Kind::Data, told, at, expected, aux),
-        0x0200 => judge_kind(Kind::Marker, told, at, expected, aux),
-        0x0100 => judge_kind(Kind::Eod, told, at, expected, aux),
-        _ => Judgement::Skipped,
+        DATA_TYPE => judge_kind(Kind::Data, told, at, expected, aux),
+        MARKER_TYPE => judge_kind(Kind::Marker, told, at, expected, aux),
+        EOD_TYPE => judge_kind(Kind::Eod, told, at, expected, aux),
+        _ => Judgement::PassedOver,
     }
 }
 
+// A frame of the right length.
 fn judge_aux(told: Told, at: Address, expected: Seq, aux: &[u8]) -> Judgement
     requires { ⌜ length (now aux) ≡ auxLength ⌝ }
     ensures { λ r. ⌜ judgementSaid r ≡ judgeAux told at expected (now (aux .entry)) ⌝ }
 {
     let format = be32_at(aux, 0);
     if format != 0 {
-        return Judgement::Skipped;
+        return Judgement::PassedOver;
     }
     judge_type(told, at, expected, aux)
 }

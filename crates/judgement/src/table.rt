@@ -8,6 +8,7 @@ use buffer::agrees;
 use frame::AUX_LENGTH;
 use frame::Element;
 use frame::element_aux;
+use geometry::Verdict;
 
 // Compares bytes 18 to 35 and 44 to 67 with those that a recording writes for the element. None of them depends on its filemarks and its marker.
 pub(crate) fn as_table(e: Element, aux: &[u8]) -> bool
@@ -15,7 +16,10 @@ pub(crate) fn as_table(e: Element, aux: &[u8]) -> bool
     ensures { λ r. ⌜ r ≡ asTable e (now (aux .entry)) ⌝ }
 {
     let mut table = [0u8; AUX_LENGTH];
-    build_aux(&mut table, element_aux(e));
+    let built = build_aux(&mut table, element_aux(e));
+    if let Verdict::Refused(_) = built {
+        return false;
+    }
     let description = agrees(&aux[18..36], &table[18..36]);
     let numbers = agrees(&aux[44..68], &table[44..68]);
     description & numbers

@@ -1,6 +1,7 @@
-// What the header tells a reading of its cartridge.
+// What a reading keeps of the header that it was opened on.
 use geometry::Address;
 
+// Told: what that header tells of the cartridge.
 pub struct Told {
     // LAST of the cartridge.
     pub last: Address,

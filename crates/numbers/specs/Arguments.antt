@@ -17,6 +17,7 @@ use Rattle.numbers.specs.declared.arguments.Sizes.{Sizes}
 abbrev pub isGeometry : AdrGeometry → Bool
 isGeometry g = (leb (g .segtrk) 65535 && leb (g .trks) 65535) && leb (g .load) 1
 
+-- the load point that a number is
 abbrev pub loadOf : ℕ → LoadPoint
 loadOf n = pick (eqb n 0) Beginning Centre
 
@@ -24,6 +25,7 @@ loadOf n = pick (eqb n 0) Beginning Centre
 abbrev pub withoutFrames : Geometry
 withoutFrames = record { segtrk = 0; trks = 0; load = Beginning }
 
+-- the geometry that has these numbers
 unfoldable pub geometryOf : AdrGeometry → Geometry
 geometryOf g = pick (isGeometry g) (record { segtrk = g .segtrk; trks = g .trks; load = loadOf (g .load) }) withoutFrames
 
@@ -35,6 +37,7 @@ fittingOf n = pick (leb n 255) n 0
 abbrev pub fittingDepth : ℕ → ℕ → ℕ
 fittingDepth depth tail = pick (leb tail 255) (fittingOf depth) 0
 
+-- D, W and T, as an opening takes them
 abbrev pub sizesOf : ℕ → ℕ → ℕ → Sizes
 sizesOf depth blocks tail = record { depth = fittingDepth depth tail; blocks = fittingOf blocks; tail = fittingOf tail }
 
@@ -42,6 +45,7 @@ sizesOf depth blocks tail = record { depth = fittingDepth depth tail; blocks = f
 abbrev pub meaningless : Reply
 meaningless = record { key = 0xFF; asc = 0xFF; ascq = 0xFF; buffered = 0; position = asAddress 0; skip = 0 }
 
+-- whether a reply is the one that a skip comes with
 abbrev pub isWriteError : AdrReply → Bool
 isWriteError r = eqb (meaningOf (r .key) (r .asc) (r .ascq)) writeError
 
@@ -49,7 +53,7 @@ isWriteError r = eqb (meaningOf (r .key) (r .asc) (r .ascq)) writeError
 abbrev pub skipOf : AdrReply → ℕ
 skipOf r = pick (isWriteError r) (r .skip) 0
 
--- skip is 0 to 255
+-- the reply that has these numbers, where its skip is 0 to 255
 unfoldable pub asReply : AdrReply → Reply
 asReply r =
     pick (leb (skipOf r) 255)

@@ -14,7 +14,7 @@ pub struct AdrPlace {
     pub number: u8,
 }
 
-// Which of two is taken: 1 the first, 2 the second, or 0 and the number of the refusal.
+// Which of two is the newer: 1 the first, 2 the second, or 0 and the number of the refusal.
 #[repr(C)]
 pub struct AdrChoice {
     pub which: u8,
@@ -22,6 +22,7 @@ pub struct AdrChoice {
 }
 
 impl AdrPlace {
+    // A place's numbers.
     pub fn of(p: Place) -> AdrPlace
         ensures { λ r. ⌜ r ≡ placeTwin (placeSaid p) ⌝ }
     {
@@ -39,6 +40,7 @@ impl AdrPlace {
 }
 
 impl AdrChoice {
+    // A choice's numbers.
     pub fn of(c: Choice) -> AdrChoice
         ensures { λ r. ⌜ r ≡ choiceTwin (choiceSaid c) ⌝ }
     {

@@ -2,10 +2,10 @@
 use Rattle.geometry.specs.Refusal.{verdictNumber}
 use Rattle.reading_state.specs.Open.{OpenedSaid}
 use Rattle.reading_state.specs.Fetch.{FetchedSaid, answerSaid}
-use Rattle.reading_state.specs.Reply.{TakenSaid, deliverySaid}
+use Rattle.reading_state.specs.Reply.{RepliedSaid, deliverySaid}
 use Rattle.reading.specs.declared.reading.Opened.{Opened}
 use Rattle.reading.specs.declared.reading.Fetched.{Fetched}
-use Rattle.reading.specs.declared.reading.Taken.{Taken}
+use Rattle.reading.specs.declared.reading.Replied.{Replied}
 
 -- the session and the number of the refusal, 0 for none
 abbrev pub openedSaid : Opened → OpenedSaid
@@ -16,5 +16,5 @@ abbrev pub fetchedSaid : Fetched → FetchedSaid
 fetchedSaid r = record { session = r .session .state; said = answerSaid (r .answer) }
 
 -- the session and what a reply is answered
-abbrev pub takenSaid : Taken → TakenSaid
-takenSaid t = record { session = t .session .state; said = deliverySaid (t .delivery) }
+abbrev pub repliedSaid : Replied → RepliedSaid
+repliedSaid t = record { session = t .session .state; said = deliverySaid (t .delivery) }

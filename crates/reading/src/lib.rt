@@ -4,7 +4,6 @@ mod reading;
 pub use reading::Fetched;
 pub use reading::Opened;
 pub use reading::Reading;
-pub use reading::Taken;
+pub use reading::Replied;
 pub use reading_state::Answer;
 pub use reading_state::Delivery;
-pub use reading_state::State;

@@ -6,7 +6,7 @@ ghost use Rattle.reading_state.specs.Fetch as fetch;
 ghost use Rattle.reading_state.specs.Fetch.{fetchOf};
 ghost use Rattle.reading_state.specs.Reply as reply;
 ghost use Rattle.reading_state.specs.Reply.{replyOf};
-ghost use Rattle.reading.specs.Reading.{openedSaid, fetchedSaid, takenSaid};
+ghost use Rattle.reading.specs.Reading.{openedSaid, fetchedSaid, repliedSaid};
 use drive::Reply;
 use geometry::Geometry;
 use geometry::Verdict;
@@ -14,21 +14,25 @@ use reading_state::Answer;
 use reading_state::Delivery;
 use reading_state::State;
 
+// A reading session. Each call takes it whole and gives it back.
 pub struct Reading {
     pub state: State,
 }
 
+// What opening returns.
 pub struct Opened {
     pub session: Reading,
     pub verdict: Verdict,
 }
 
+// What a fetch returns: the session and the command, the end or a refusal.
 pub struct Fetched {
     pub session: Reading,
     pub answer: Answer,
 }
 
-pub struct Taken {
+// What a reply returns: the session and what the reply delivers.
+pub struct Replied {
     pub session: Reading,
     pub delivery: Delivery,
 }
@@ -61,14 +65,14 @@ impl Fetched {
     }
 }
 
-impl Taken {
+impl Replied {
     // The same for a reply.
-    fn of(t: reading_state::Taken) -> Taken
-        ensures { λ r. ⌜ takenSaid r ≡ reply.takenSaid t ⌝ }
+    fn of(t: reading_state::Replied) -> Replied
+        ensures { λ r. ⌜ repliedSaid r ≡ reply.repliedSaid t ⌝ }
     {
         let s = t.session;
         let delivery = t.delivery;
-        Taken {
+        Replied {
             session: Reading { state: s },
             delivery: delivery,
         }
@@ -76,14 +80,14 @@ impl Taken {
 }
 
 impl Reading {
-    // On the newest header of the cartridge.
+    // Opens a reading on the newest header of the cartridge.
     pub fn open(g: Geometry, header: &[u8]) -> Opened
         ensures { λ r. ⌜ openedSaid r ≡ openOf g (now (header .entry)) ⌝ }
     {
         Opened::of(reading_opening::open(g, header))
     }
 
-    // The same command after busy, whichever rule then applies; else the next command, or the end once EOD was read.
+    // The command that was answered busy, once more; else the next command, or the end once EOD was read.
     pub fn fetch(self) -> Fetched
         ensures { λ r. ⌜ fetchedSaid r ≡ fetchOf (self .state) ⌝ }
     {
@@ -92,10 +96,10 @@ impl Reading {
     }
 
     // Brings the reply to the last command. A frame is lent with every reply, and looked at only where a READ brought one.
-    pub fn reply(self, reply: Reply, frame: &[u8]) -> Taken
-        ensures { λ r. ⌜ takenSaid r ≡ replyOf (self .state) reply (now (frame .entry)) ⌝ }
+    pub fn reply(self, reply: Reply, frame: &[u8]) -> Replied
+        ensures { λ r. ⌜ repliedSaid r ≡ replyOf (self .state) reply (now (frame .entry)) ⌝ }
     {
         let s = self.state;
-        Taken::of(reading_replying::reply(s, reply, frame))
+        Replied::of(reading_replying::reply(s, reply, frame))
     }
 }

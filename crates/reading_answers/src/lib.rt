@@ -3,4 +3,4 @@ mod reading_answers;
 
 pub use reading_answers::AdrReadFetched;
 pub use reading_answers::AdrReadOpened;
-pub use reading_answers::AdrReadTaken;
+pub use reading_answers::AdrReadReplied;

@@ -1,7 +1,7 @@
 // What the calls of a reading session return, as numbers.
 ghost use mathlib.Core.Path.{_≡_};
-ghost use Rattle.reading.specs.Reading.{openedSaid, fetchedSaid, takenSaid};
-ghost use Rattle.reading_answers.specs.Reading.{openedTwin, withoutCommand, unknownFetch, fetchedTwin, withAnswer, unknownReply, takenTwin};
+ghost use Rattle.reading.specs.Reading.{openedSaid, fetchedSaid, repliedSaid};
+ghost use Rattle.reading_answers.specs.Reading.{openedTwin, withoutCommand, unknownFetch, fetchedTwin, withAnswer, unknownReply, repliedTwin};
 use exchange_twins::AdrCommand;
 use exchange_twins::command_twin;
 use geometry::number;
@@ -16,9 +16,9 @@ use reading::Answer;
 use reading::Delivery;
 use reading::Fetched;
 use reading::Opened;
-use reading::Taken;
+use reading::Replied;
 use reading_twins::AdrReading;
-use reading_twins::reading_twin;
+use reading_twins::reading_state_twin;
 
 // The session and the number of the refusal, 0 for none.
 #[repr(C)]
@@ -38,20 +38,21 @@ pub struct AdrReadFetched {
 
 // What a reply is answered: nothing, a block, a filemark, the end, or refused with a number.
 #[repr(C)]
-pub struct AdrReadTaken {
+pub struct AdrReadReplied {
     pub session: AdrReading,
     pub answer: u8,
     pub number: u8,
 }
 
 impl AdrReadOpened {
+    // What an opening returned, as numbers.
     pub fn of(o: Opened) -> AdrReadOpened
         ensures { λ r. ⌜ r ≡ openedTwin (openedSaid o) ⌝ }
     {
         let session = o.session;
         let verdict = o.verdict;
         AdrReadOpened {
-            session: reading_twin(session.state),
+            session: reading_state_twin(session.state),
             number: verdict_number(verdict),
         }
     }
@@ -73,12 +74,13 @@ impl AdrReadFetched {
         }
     }
 
+    // What a fetch returned, as numbers.
     pub fn of(f: Fetched) -> AdrReadFetched
         ensures { λ r. ⌜ r ≡ fetchedTwin (fetchedSaid f) ⌝ }
     {
         let session = f.session;
         let answer = f.answer;
-        let s = reading_twin(session.state);
+        let s = reading_state_twin(session.state);
         match answer {
             Answer::Command(c) => AdrReadFetched {
                 session: s,
@@ -99,36 +101,38 @@ impl AdrReadFetched {
     }
 }
 
-impl AdrReadTaken {
-    fn with(s: AdrReading, answer: u8, number: u8) -> AdrReadTaken
+impl AdrReadReplied {
+    // An answer beside the session.
+    fn with(s: AdrReading, answer: u8, number: u8) -> AdrReadReplied
         ensures { λ r. ⌜ r ≡ withAnswer s answer number ⌝ }
     {
-        AdrReadTaken {
+        AdrReadReplied {
             session: s,
             answer: answer,
             number: number,
         }
     }
 
-    pub fn of(t: Taken) -> AdrReadTaken
-        ensures { λ r. ⌜ r ≡ takenTwin (takenSaid t) ⌝ }
+    // What a reply returned, as numbers.
+    pub fn of(t: Replied) -> AdrReadReplied
+        ensures { λ r. ⌜ r ≡ repliedTwin (repliedSaid t) ⌝ }
     {
         let session = t.session;
         let delivery = t.delivery;
-        let s = reading_twin(session.state);
+        let s = reading_state_twin(session.state);
         match delivery {
-            Delivery::Nothing => AdrReadTaken::with(s, NOTHING, 0),
-            Delivery::Block => AdrReadTaken::with(s, BLOCK, 0),
-            Delivery::Filemark => AdrReadTaken::with(s, FILEMARK, 0),
-            Delivery::End => AdrReadTaken::with(s, END, 0),
-            Delivery::Refused(r) => AdrReadTaken::with(s, REFUSED, number(r)),
+            Delivery::Nothing => AdrReadReplied::with(s, NOTHING, 0),
+            Delivery::Block => AdrReadReplied::with(s, BLOCK, 0),
+            Delivery::Filemark => AdrReadReplied::with(s, FILEMARK, 0),
+            Delivery::End => AdrReadReplied::with(s, END, 0),
+            Delivery::Refused(r) => AdrReadReplied::with(s, REFUSED, number(r)),
         }
     }
 
     // Numbers that are no session's.
-    pub fn unknown(s: AdrReading) -> AdrReadTaken
+    pub fn unknown(s: AdrReading) -> AdrReadReplied
         ensures { λ r. ⌜ r ≡ unknownReply s ⌝ }
     {
-        AdrReadTaken::with(s, REFUSED, 7)
+        AdrReadReplied::with(s, REFUSED, 7)
     }
 }

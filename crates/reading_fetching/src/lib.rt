@@ -26,6 +26,7 @@ fn due(s: State) -> Command
     Command::Read(next)
 }
 
+// The command goes out, and its reply is awaited.
 fn send(mut s: State, c: Command) -> Fetched
     ensures { λ r. ⌜ fetchedSaid r ≡ sending s c ⌝ }
 {
@@ -36,7 +37,7 @@ fn send(mut s: State, c: Command) -> Fetched
     }
 }
 
-// The same command after busy, whichever rule then applies; else the next command, or the end once EOD was read.
+// The command that was answered busy, once more; else the next command, or the end once EOD was read.
 pub fn fetch(mut s: State) -> Fetched
     ensures { λ r. ⌜ fetchedSaid r ≡ fetchOf s ⌝ }
 {

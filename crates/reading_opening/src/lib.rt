@@ -70,7 +70,7 @@ fn told_by(header: Header) -> Told
     }
 }
 
-// On the newest header of the cartridge.
+// Opens a reading on the newest header of the cartridge.
 pub fn open(g: Geometry, header: &[u8]) -> Opened
     ensures { λ r. ⌜ openedSaid r ≡ openOf g (now (header .entry)) ⌝ }
 {

@@ -3,8 +3,5 @@ pub mod ReplyView
 pub mod Cases
 pub mod Refusals
 pub mod Ended
-pub mod Busy
-pub mod Jump
-pub mod Onward
 pub mod Unread
 pub mod ListedReplies

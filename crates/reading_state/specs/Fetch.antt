@@ -30,15 +30,18 @@ pub data AnswerSaid : Type 0 where
 abbrev pub giving : CommandSaid → AnswerSaid
 giving x = command (x .code) (x .address)
 
+-- the code's answer, in 01's numbers
 abbrev pub answerSaid : Answer → AnswerSaid
 answerSaid (A.Command c) = giving (commandSaid c)
 answerSaid A.End = end
 answerSaid (A.Refused r) = refused (refusalNumber r)
 
+-- what a fetch returns: the session and the answer
 pub record FetchedSaid : Type 0 where
   pub session : State
   pub said : AnswerSaid
 
+-- the same of the code's fetch
 abbrev pub fetchedSaid : Fetched → FetchedSaid
 fetchedSaid r = record { session = r .session; said = answerSaid (r .answer) }
 
@@ -46,11 +49,12 @@ fetchedSaid r = record { session = r .session; said = answerSaid (r .answer) }
 abbrev pub awaits : State → Command → State
 awaits s c = withExchange s (sentOf c)
 
+-- a fetch that gives this command
 abbrev pub sending : State → Command → FetchedSaid
 sending s c = record { session = awaits s c; said = giving (commandSaid c) }
 
--- refusal 7 where the session has ended or a reply is awaited; after busy the same command, whichever rule then applies;
--- the end, said again at each fetch; next address above LAST: refusal 12
+-- in this order: 7 if the session has ended or a reply is awaited; the command that was answered busy, once more; the end, said again at
+-- each fetch; 12 if the next address is past LAST; the command that is due
 unfoldable pub fetchOf : State → FetchedSaid
 fetchOf s =
     pick (s .ended || s .exchange .awaiting) (record { session = s; said = refused 7 })

@@ -1,4 +1,4 @@
--- 01, "Reading a cartridge": it opens on the geometry and the newest header.
+-- 01, "Reading a cartridge": opening, with the geometry and a header that the host has read.
 use Prim.Native.Nat.{ℕ}
 use mathlib.Core.Bool.{true, false}
 use mathlib.Core.List.{List}
@@ -20,6 +20,7 @@ pub record OpenedSaid : Type 0 where
   pub session : State
   pub number : ℕ
 
+-- what an opening returned, with its refusal by number
 abbrev pub openedSaid : Opened → OpenedSaid
 openedSaid r = record { session = r .session; number = verdictNumber (r .verdict) }
 
@@ -52,5 +53,6 @@ abbrev pub openFor : CheckedSaid → OpenedSaid
 openFor (valid header) = record { session = fresh (toldOf header); number = 0 }
 openFor (refused n) = openRefused n
 
+-- the opening of a reading
 unfoldable pub openOf : Geometry → List ℕ → OpenedSaid
 openOf g h = openFor (readHeader g h)

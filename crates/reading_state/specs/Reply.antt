@@ -1,5 +1,5 @@
 -- 01, "Reading a cartridge" and "Replies", on READ: what a reply with a lent frame answers and leaves.
-use Prim.Native.Nat.{ℕ, _+_, _%_, _^_}
+use Prim.Native.Nat.{ℕ, _+_}
 use mathlib.Core.Bool.{Bool, true, false, _||_, not}
 use mathlib.Core.List.{List}
 use lib.Dec.{eqb}
@@ -8,6 +8,7 @@ use Rattle.geometry.specs.Place.{asAddress, asSeq}
 use Rattle.geometry.specs.Pick.{pick}
 use Rattle.geometry.specs.Refusal.{refusalNumber}
 use Rattle.geometry.specs.Cartridge.{pastReserved}
+use Rattle.geometry.specs.Wrap.{wrap32}
 use Rattle.geometry.specs.declared.address.Address.{Address}
 use Rattle.frame.specs.Lengths.{frameLength}
 use Rattle.frame.specs.Trail.{marked}
@@ -19,7 +20,7 @@ use Rattle.drive.specs.Exchange as exchange
 use Rattle.drive.specs.declared.reply.Reply.{Reply}
 use Rattle.judgement.specs.Judgement as judgement
 use Rattle.reading_state.specs.declared.state.State.{State}
-use Rattle.reading_state.specs.declared.state.Taken.{Taken}
+use Rattle.reading_state.specs.declared.state.Replied.{Replied}
 use Rattle.reading_state.specs.declared.state.Delivery.{Delivery}
 use Rattle.reading_state.specs.declared.state.Delivery.the-variants as D
 use Rattle.reading_state.specs.State.{withExchange, withPosition, withExpected, withEnd, endedOf}
@@ -32,6 +33,7 @@ pub data DeliverySaid : Type 0 where
   end : DeliverySaid
   refused : ℕ → DeliverySaid
 
+-- the code's delivery, in 01's numbers
 abbrev pub deliverySaid : Delivery → DeliverySaid
 deliverySaid D.Nothing = nothing
 deliverySaid D.Block = block
@@ -39,22 +41,25 @@ deliverySaid D.Filemark = filemark
 deliverySaid D.End = end
 deliverySaid (D.Refused r) = refused (refusalNumber r)
 
-pub record TakenSaid : Type 0 where
+-- what a reply returns: the session and the delivery
+pub record RepliedSaid : Type 0 where
   pub session : State
   pub said : DeliverySaid
 
-abbrev pub takenSaid : Taken → TakenSaid
-takenSaid t = record { session = t .session; said = deliverySaid (t .delivery) }
+-- the same of the code's reply
+abbrev pub repliedSaid : Replied → RepliedSaid
+repliedSaid t = record { session = t .session; said = deliverySaid (t .delivery) }
 
 -- a session beside what it answers
-abbrev pub delivering : State → DeliverySaid → TakenSaid
+abbrev pub delivering : State → DeliverySaid → RepliedSaid
 delivering s said = record { session = s; said = said }
 
--- refusals 1 to 7: session unchanged; from 8 on: session ended
-abbrev pub refusing : State → ℕ → TakenSaid
+-- 01, "Refused calls": 1 to 7 leave the session as it is
+abbrev pub refusing : State → ℕ → RepliedSaid
 refusing s n = delivering s (refused n)
 
-abbrev pub ending : State → ℕ → TakenSaid
+-- and those from 8 on end it
+abbrev pub ending : State → ℕ → RepliedSaid
 ending s n = delivering (endedOf s) (refused n)
 
 -- the address of the command
@@ -63,9 +68,9 @@ addressOf s = commandAddress (s .exchange .command)
 
 -- a number as an address; it wraps only in a session that no call returned
 abbrev pub wrapped : ℕ → Address
-wrapped n = asAddress (n % 2 ^ 32)
+wrapped n = asAddress (wrap32 n)
 
--- busy: the next fetch gives the same command; nothing else changes
+-- busy: the command is given once more, and all else stays
 abbrev pub repeatedOf : State → State
 repeatedOf s = withExchange s (exchange.repeatedOf (s .exchange))
 
@@ -78,45 +83,47 @@ abbrev pub advancedOf : State → State
 advancedOf s = movedOf s (wrapped (addressOf s .0 + 1)) (s .position .locate)
 
 -- a LOCATE answered good
-abbrev pub locatedOf : State → TakenSaid
+abbrev pub locatedOf : State → RepliedSaid
 locatedOf s = delivering (movedOf s (addressOf s) false) nothing
 
 -- passed over, or unreadable
-abbrev pub skippedOf : State → TakenSaid
-skippedOf s = delivering (advancedOf s) nothing
+abbrev pub passedOverOf : State → RepliedSaid
+passedOverOf s = delivering (advancedOf s) nothing
 
 -- an element delivered: the next number is expected, behind a trail
-abbrev pub deliveredOf : State → Trail → DeliverySaid → TakenSaid
-deliveredOf s trail said = delivering (withExpected (advancedOf s) (asSeq ((s .expected .0 + 1) % 2 ^ 32)) trail) said
+abbrev pub deliveredOf : State → Trail → DeliverySaid → RepliedSaid
+deliveredOf s trail said = delivering (withExpected (advancedOf s) (asSeq (wrap32 (s .expected .0 + 1))) trail) said
 
 -- a filemark counts in the trail, at the address that was read
 abbrev pub markedOf : State → Trail
 markedOf s = marked (s .trail) (addressOf s)
 
 -- EOD ends reading
-abbrev pub finishedOf : State → TakenSaid
+abbrev pub finishedOf : State → RepliedSaid
 finishedOf s = delivering (withEnd (advancedOf s)) end
 
 -- a frame that was read, by its judgement
-abbrev pub judgedBy : judgement.JudgementSaid → State → TakenSaid
-judgedBy judgement.skipped s = skippedOf s
+abbrev pub judgedBy : judgement.JudgementSaid → State → RepliedSaid
+judgedBy judgement.passedOver s = passedOverOf s
 judgedBy (judgement.refused n) s = ending s n
 judgedBy judgement.block s = deliveredOf s (s .trail) block
 judgedBy judgement.filemark s = deliveredOf s (markedOf s) filemark
 judgedBy judgement.end s = finishedOf s
 
-unfoldable pub judgedOf : State → List ℕ → TakenSaid
+-- as the header and the expected number judge it at the address that was read
+unfoldable pub judgedOf : State → List ℕ → RepliedSaid
 judgedOf s frame = judgedBy (judgement.judgeFrame (s .told) (addressOf s) (s .expected) frame) s
 
--- after 08/00/05 at address a, LOCATE a + 32, 2,990 to 2,999 becoming 3,000
-abbrev pub jumpedOf : State → TakenSaid
+-- 08/00/05: a LOCATE 32 addresses further, past the second header group and its defect map
+abbrev pub jumpedOf : State → RepliedSaid
 jumpedOf s = delivering (movedOf s (wrapped (pastReserved (addressOf s .0 + 32))) true) nothing
 
+-- the number of a reply's case: the session's command and what the sense triple means (drive specs/Cases)
 abbrev pub caseOf : State → Reply → ℕ
 caseOf s r = cases.caseOf (s .exchange .command) r
 
--- by the command and the meaning of its reply; anything else: refusal 8
-unfoldable pub replyBy : State → ℕ → List ℕ → TakenSaid
+-- by that number; 8 for a reply that is not listed for the command
+unfoldable pub replyBy : State → ℕ → List ℕ → RepliedSaid
 replyBy s n frame =
     -- LOCATE and READ, busy
     pick (eqb n locateBusy || eqb n readBusy) (delivering (repeatedOf s) nothing)
@@ -124,8 +131,8 @@ replyBy s n frame =
     (pick (eqb n locateGood) (locatedOf s)
     -- READ, good or recovered, with a frame
     (pick (eqb n readGood || eqb n readRecovered) (judgedOf s frame)
-    -- READ, 03/11/00: one unreadable address
-    (pick (eqb n readUnreadable) (skippedOf s)
+    -- READ, 03/11/00: this address has nothing
+    (pick (eqb n readUnreadable) (passedOverOf s)
     -- READ, 08/00/05
     (pick (eqb n readEndOfData) (jumpedOf s)
     -- READ, 00/00/02
@@ -133,7 +140,7 @@ replyBy s n frame =
     (ending s 8))))))
 
 -- refusal 7 without a command; 1 where the frame's length is wrong
-unfoldable pub replyOf : State → Reply → List ℕ → TakenSaid
+unfoldable pub replyOf : State → Reply → List ℕ → RepliedSaid
 replyOf s r frame =
     pick (s .ended || not (s .exchange .awaiting)) (refusing s 7)
     (pick (eqb (length frame) frameLength) (replyBy s (caseOf s r) frame) (refusing s 1))

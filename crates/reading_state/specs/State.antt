@@ -7,6 +7,7 @@ use Rattle.frame.specs.declared.trail.Trail.{Trail}
 use Rattle.drive.specs.declared.exchange.Exchange.{Exchange}
 use Rattle.reading_state.specs.declared.state.State.{State}
 
+-- the exchange: the last command, and how it stands with its reply
 abbrev pub withExchange : State → Exchange → State
 withExchange s x = record {
   told = s .told;

@@ -1,17 +1,18 @@
 // What a reply changes, and what it is answered: a step for each case that `reading_replying` tells apart.
 ghost use mathlib.Core.Path.{_≡_};
 ghost use Rattle.geometry.specs.Refusal.{refusalNumber};
-ghost use Rattle.reading_state.specs.Reply.{deliverySaid, takenSaid, delivering, refusing, ending, wrapped, block, filemark};
-ghost use Rattle.reading_state.specs.Reply.{repeatedOf, movedOf, advancedOf, locatedOf, skippedOf, markedOf, deliveredOf, finishedOf, jumpedOf};
+ghost use Rattle.reading_state.specs.Reply.{deliverySaid, repliedSaid, delivering, refusing, ending, wrapped, block, filemark};
+ghost use Rattle.reading_state.specs.Reply.{repeatedOf, movedOf, advancedOf, locatedOf, passedOverOf, markedOf, deliveredOf, finishedOf, jumpedOf};
 ghost use Rattle.reading_state.specs.State.{isAtEnd, endOf};
 use crate::state::Delivery;
 use crate::state::Position;
+use crate::state::Replied;
 use crate::state::State;
-use crate::state::Taken;
 use drive::address;
 use frame::Trail;
 use frame::marked;
 use geometry::Address;
+use geometry::HIGHEST_ADDRESS;
 use geometry::Refusal;
 use geometry::Seq;
 use geometry::past_reserved;
@@ -21,36 +22,36 @@ use geometry::preceding;
 fn wrapped(n: u64) -> Address
     ensures { λ r. ⌜ r ≡ wrapped n ⌝ }
 {
-    Address((n % 4294967296) as u32)
+    Address((n % ((HIGHEST_ADDRESS as u64) + 1)) as u32)
 }
 
 impl State {
     // The session beside what it answers.
-    pub fn deliver(self, delivery: Delivery) -> Taken
-        ensures { λ r. ⌜ takenSaid r ≡ delivering self (deliverySaid delivery) ⌝ }
+    pub fn deliver(self, delivery: Delivery) -> Replied
+        ensures { λ r. ⌜ repliedSaid r ≡ delivering self (deliverySaid delivery) ⌝ }
     {
-        Taken {
+        Replied {
             session: self,
             delivery: delivery,
         }
     }
 
     // Refusals 1 to 7 leave the session unchanged.
-    pub fn refuse(self, refusal: Refusal) -> Taken
-        ensures { λ r. ⌜ takenSaid r ≡ refusing self (refusalNumber refusal) ⌝ }
+    pub fn refuse(self, refusal: Refusal) -> Replied
+        ensures { λ r. ⌜ repliedSaid r ≡ refusing self (refusalNumber refusal) ⌝ }
     {
         self.deliver(Delivery::Refused(refusal))
     }
 
     // Refusals from 8 on end the session.
-    pub fn end(mut self, refusal: Refusal) -> Taken
-        ensures { λ r. ⌜ takenSaid r ≡ ending self (refusalNumber refusal) ⌝ }
+    pub fn end(mut self, refusal: Refusal) -> Replied
+        ensures { λ r. ⌜ repliedSaid r ≡ ending self (refusalNumber refusal) ⌝ }
     {
         self.ended = true;
         self.deliver(Delivery::Refused(refusal))
     }
 
-    // Busy: the next fetch gives the same command.
+    // Busy: the command is given once more.
     pub fn repeated(mut self) -> State
         ensures { λ r. ⌜ r ≡ repeatedOf self ⌝ }
     {
@@ -84,8 +85,8 @@ impl State {
     }
 
     // The drive stands at the command's address.
-    pub fn located(self) -> Taken
-        ensures { λ r. ⌜ takenSaid r ≡ locatedOf self ⌝ }
+    pub fn located(self) -> Replied
+        ensures { λ r. ⌜ repliedSaid r ≡ locatedOf self ⌝ }
     {
         let exchange = self.exchange;
         let c = exchange.command;
@@ -93,15 +94,15 @@ impl State {
     }
 
     // The address is passed over.
-    pub fn skipped(self) -> Taken
-        ensures { λ r. ⌜ takenSaid r ≡ skippedOf self ⌝ }
+    pub fn passed_over(self) -> Replied
+        ensures { λ r. ⌜ repliedSaid r ≡ passedOverOf self ⌝ }
     {
         self.advanced().deliver(Delivery::Nothing)
     }
 
     // The expected element is delivered, and the next one expected, behind a trail.
-    fn delivered(self, trail: Trail, delivery: Delivery) -> Taken
-        ensures { λ r. ⌜ takenSaid r ≡ deliveredOf self trail (deliverySaid delivery) ⌝ }
+    fn delivered(self, trail: Trail, delivery: Delivery) -> Replied
+        ensures { λ r. ⌜ repliedSaid r ≡ deliveredOf self trail (deliverySaid delivery) ⌝ }
     {
         let expected = Seq(std::num::wrapping_add_u32(self.expected.0, 1));
         let mut session = self.advanced();
@@ -111,16 +112,16 @@ impl State {
     }
 
     // A block is delivered.
-    pub fn delivered_block(self) -> Taken
-        ensures { λ r. ⌜ takenSaid r ≡ deliveredOf self (self .trail) block ⌝ }
+    pub fn delivered_block(self) -> Replied
+        ensures { λ r. ⌜ repliedSaid r ≡ deliveredOf self (self .trail) block ⌝ }
     {
         let trail = self.trail;
         self.delivered(trail, Delivery::Block)
     }
 
     // A filemark is delivered, at the command's address.
-    pub fn delivered_filemark(self) -> Taken
-        ensures { λ r. ⌜ takenSaid r ≡ deliveredOf self (markedOf self) filemark ⌝ }
+    pub fn delivered_filemark(self) -> Replied
+        ensures { λ r. ⌜ repliedSaid r ≡ deliveredOf self (markedOf self) filemark ⌝ }
     {
         let trail = self.trail;
         let exchange = self.exchange;
@@ -129,8 +130,8 @@ impl State {
     }
 
     // EOD ends reading.
-    pub fn finished(self) -> Taken
-        ensures { λ r. ⌜ takenSaid r ≡ finishedOf self ⌝ }
+    pub fn finished(self) -> Replied
+        ensures { λ r. ⌜ repliedSaid r ≡ finishedOf self ⌝ }
     {
         let mut session = self.advanced();
         session.finished = true;
@@ -138,8 +139,8 @@ impl State {
     }
 
     // Nothing reads for 32 addresses: LOCATE behind them, or behind the second header group and its defect map.
-    pub fn jumped(self) -> Taken
-        ensures { λ r. ⌜ takenSaid r ≡ jumpedOf self ⌝ }
+    pub fn jumped(self) -> Replied
+        ensures { λ r. ⌜ repliedSaid r ≡ jumpedOf self ⌝ }
     {
         let exchange = self.exchange;
         let c = exchange.command;

@@ -14,6 +14,7 @@ pub struct Position {
     pub locate: bool,
 }
 
+// A reading as it stands between two calls.
 pub struct State {
     // What the newest header tells.
     pub told: Told,
@@ -31,6 +32,7 @@ pub struct State {
     pub ended: bool,
 }
 
+// What opening a reading returns: the session, ended if the opening was refused.
 pub struct Opened {
     pub session: State,
     pub verdict: Verdict,
@@ -44,6 +46,7 @@ pub enum Answer {
     Refused(Refusal),
 }
 
+// What a fetch returns.
 pub struct Fetched {
     pub session: State,
     pub answer: Answer,
@@ -62,7 +65,8 @@ pub enum Delivery {
     Refused(Refusal),
 }
 
-pub struct Taken {
+// What a reply returns.
+pub struct Replied {
     pub session: State,
     pub delivery: Delivery,
 }

@@ -10,8 +10,9 @@ use Rattle.reading_twins.specs.declared.reading_numbers.AdrReading.{AdrR
 unfoldable pub isReading : AdrReading → Bool
 isReading s = ((isExchange (s .exchange) && isFlag (s .position .locate)) && isFlag (s .finished)) && isFlag (s .ended)
 
-unfoldable pub readingOf : AdrReading → State
-readingOf s = record {
+-- the session that has these numbers
+unfoldable pub readingStateOf : AdrReading → State
+readingStateOf s = record {
   told = record {
     last = asAddress (s .told .last);
     pass = s .told .pass;
@@ -27,8 +28,9 @@ readingOf s = record {
   ended = flagOf (s .ended);
 }
 
-unfoldable pub readingTwin : State → AdrReading
-readingTwin s = record {
+-- its numbers
+unfoldable pub readingStateTwin : State → AdrReading
+readingStateTwin s = record {
   told = record { last = s .told .last .0; eod = s .told .eod .0; old = s .told .old .0; update = s .told .update; pass = s .told .pass };
   position = record { next = s .position .next .0; locate = flagNumber (s .position .locate) };
   expected = s .expected .0;

@@ -1,7 +1,7 @@
 // A reading session as numbers.
 ghost use mathlib.Core.Path.{_≡_};
 ghost use Rattle.exchange_twins.specs.ComesBack.{ComesBack};
-ghost use Rattle.reading_twins.specs.Reading.{isReading, readingOf, readingTwin};
+ghost use Rattle.reading_twins.specs.Reading.{isReading, readingStateOf, readingStateTwin};
 use exchange_twins::AdrExchange;
 use exchange_twins::AdrTrail;
 use exchange_twins::exchange_of;
@@ -16,6 +16,7 @@ use judgement::Told;
 use reading_state::Position;
 use reading_state::State;
 
+// What the header tells.
 #[repr(C)]
 pub struct AdrTold {
     pub last: u32,
@@ -25,12 +26,14 @@ pub struct AdrTold {
     pub pass: u16,
 }
 
+// The next address, and whether a LOCATE of it comes first, as a flag.
 #[repr(C)]
 pub struct AdrPosition {
     pub next: u32,
     pub locate: u8,
 }
 
+// A reading session's numbers. A host keeps them between calls and looks into none.
 #[repr(C)]
 pub struct AdrReading {
     pub told: AdrTold,
@@ -51,8 +54,8 @@ pub fn is_reading(s: AdrReading) -> bool
 }
 
 // The session that the numbers stand for, where they are one's. The contract also says that no session is lost on the way to its numbers and back.
-pub fn reading_of(s: AdrReading) -> State
-    ensures { λ r. ⌜ (r ≡ readingOf s) × ComesBack isReading readingOf readingTwin ⌝ }
+pub fn reading_state_of(s: AdrReading) -> State
+    ensures { λ r. ⌜ (r ≡ readingStateOf s) × ComesBack isReading readingStateOf readingStateTwin ⌝ }
 {
     let told = s.told;
     let position = s.position;
@@ -78,8 +81,9 @@ pub fn reading_of(s: AdrReading) -> State
     }
 }
 
-pub fn reading_twin(s: State) -> AdrReading
-    ensures { λ r. ⌜ r ≡ readingTwin s ⌝ }
+// A session's numbers.
+pub fn reading_state_twin(s: State) -> AdrReading
+    ensures { λ r. ⌜ r ≡ readingStateTwin s ⌝ }
 {
     let told = s.told;
     let position = s.position;

@@ -5,6 +5,4 @@ pub use recording::Fetched;
 pub use recording::Outcome;
 pub use recording::Recording;
 pub use recording_state::Answer;
-pub use recording_state::Setup;
 pub use recording_state::Stage;
-pub use recording_state::State;

@@ -15,6 +15,7 @@ use geometry::Verdict;
 use recording_state::Answer;
 use recording_state::State;
 
+// A recording session. Each call takes it whole and gives it back.
 pub struct Recording {
     pub state: State,
 }
@@ -25,6 +26,7 @@ pub struct Outcome {
     pub verdict: Verdict,
 }
 
+// What a fetch returns: the session and the command, idle, done or a refusal.
 pub struct Fetched {
     pub session: Recording,
     pub answer: Answer,
@@ -59,14 +61,15 @@ impl Fetched {
 }
 
 impl Recording {
-    // On the newest header of the cartridge, for a drive that buffers `depth` frames, with a window of `blocks` blocks and the last `tail` frames kept for EOD.
+    // Opens a recording on the newest header of the cartridge, for a drive that buffers `depth` frames, with a window of `blocks`
+    // blocks and the last `tail` frames kept for EOD.
     pub fn open(g: Geometry, depth: u8, blocks: u8, tail: u8, header: &[u8]) -> Outcome
         ensures { λ r. ⌜ outcomeSaid r ≡ openOf g depth blocks tail (now (header .entry)) ⌝ }
     {
         Outcome::of(recording_opening::open(g, depth, blocks, tail, header))
     }
 
-    // On a cartridge that holds no valid header.
+    // Opens one on a cartridge that holds no valid header.
     pub fn open_blank(g: Geometry, depth: u8, blocks: u8, tail: u8) -> Outcome
         ensures { λ r. ⌜ outcomeSaid r ≡ openBlankOf g depth blocks tail ⌝ }
     {
@@ -81,7 +84,7 @@ impl Recording {
         Outcome::of(recording_accepting::accept_filemark(s))
     }
 
-    // Accepts a block and stores it in the window, where it stays until it is known to be on tape.
+    // Accepts a block and copies it into the window, which has to keep it until the drive has told that it is on tape.
     pub fn accept_block(self, block: &[u8], window: &mut [u8]) -> Outcome
         ensures { λ r. ⌜ storedSaid r (now (window .exit)) ≡ blockOf (self .state) (now (block .entry)) (now (window .entry)) ⌝ }
     {
@@ -98,7 +101,7 @@ impl Recording {
         Outcome::of(recording_accepting::close(s))
     }
 
-    // The next command, or idle, or done. The window is lent as the accepts left it; the frame is written only for a WRITE, and then all of it.
+    // The next command, or idle, or done. The window is lent as the accepts left it; the frame is filled for a WRITE and else left alone.
     pub fn fetch(self, window: &[u8], frame: &mut [u8]) -> Fetched
         ensures { λ r. ⌜ fetchedSaid r (now (frame .exit)) ≡ fetchOf (self .state) (now (window .entry)) (now (frame .entry)) ⌝ }
     {

@@ -17,20 +17,18 @@ fn accepts_none(s: State) -> bool
     s.ended | s.closed
 }
 
-// W elements are not known to be on tape.
+// As many elements are not known to be on tape as the window has blocks.
 fn is_full(s: State) -> bool
     ensures { λ r. ⌜ r ≡ isFull s ⌝ }
 {
-    let elements = s.elements;
-    let setup = s.setup;
-    (setup.highest as u16) < elements.pending
+    (s.setup.highest as u16) < s.elements.queue.pending
 }
 
+// One element more, a filemark or not.
 fn with_element(mut s: State, mark: bool) -> State
     ensures { λ r. ⌜ r ≡ withElement s mark ⌝ }
 {
-    let elements = s.elements;
-    s.elements = elements.accept(mark);
+    s.elements = s.elements.accept(mark);
     s
 }
 
@@ -47,7 +45,7 @@ pub fn accept_filemark(s: State) -> Outcome
     with_element(s, true).accepted()
 }
 
-// Accepts a block and stores it in the window, where it stays until it is known to be on tape.
+// Accepts a block and stores it in the window, from which it is written and, after an error, written again.
 pub fn accept_block(s: State, block: &[u8], window: &mut [u8]) -> Outcome
     ensures { λ r. ⌜ storedSaid r (now (window .exit)) ≡ blockOf s (now (block .entry)) (now (window .entry)) ⌝ }
 {
@@ -64,8 +62,8 @@ pub fn accept_block(s: State, block: &[u8], window: &mut [u8]) -> Outcome
     if is_full(s) {
         return s.refuse(Refusal::WindowFull);
     }
-    let elements = s.elements;
-    let number = elements.number(elements.pending);
+    let queue = s.elements.queue;
+    let number = queue.number(queue.pending);
     put_block(window, (number.0 as usize) % w, block);
     with_element(s, false).accepted()
 }

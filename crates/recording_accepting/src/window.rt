@@ -1,4 +1,4 @@
-// A block into the window.
+// Storing in the window.
 ghost use mathlib.Core.Path.{_≡_};
 ghost use Prim.Native.Nat.{_+_, _*_, _≤_, _<_};
 ghost use lib.ListN.{length};
@@ -7,7 +7,7 @@ ghost use Rattle.recording_state.specs.Window.{putBlock};
 use buffer_writing::copy_all;
 use frame::DATA_LENGTH;
 
-// Stores a block.
+// Puts a block in the place of the window's block i.
 pub(crate) fn put_block(window: &mut [u8], i: usize, block: &[u8])
     requires { ⌜ i < 256 ⌝ }
     requires { ⌜ i * dataLength + dataLength ≤ length (now window) ⌝ }

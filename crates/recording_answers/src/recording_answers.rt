@@ -2,7 +2,7 @@
 ghost use mathlib.Core.Path.{_≡_};
 ghost use Rattle.recording.specs.Recording.{outcomeSaid};
 ghost use Rattle.recording_state.specs.Answer.{answerSaid};
-ghost use Rattle.recording_twins.specs.Recording.{recordingTwin};
+ghost use Rattle.recording_twins.specs.Recording.{recordingStateTwin};
 ghost use Rattle.recording_answers.specs.Recording.{outcomeTwin, unknown, withoutCommand, unknownFetch, fetchedTwin};
 use exchange_twins::AdrCommand;
 use exchange_twins::command_twin;
@@ -16,7 +16,7 @@ use recording::Answer;
 use recording::Fetched;
 use recording::Outcome;
 use recording_twins::AdrRecording;
-use recording_twins::recording_twin;
+use recording_twins::recording_state_twin;
 
 // The session and the number of the refusal, 0 for none.
 #[repr(C)]
@@ -35,13 +35,14 @@ pub struct AdrRecordFetched {
 }
 
 impl AdrRecordOutcome {
+    // What a call returned, as numbers.
     pub fn of(o: Outcome) -> AdrRecordOutcome
         ensures { λ r. ⌜ r ≡ outcomeTwin (outcomeSaid o) ⌝ }
     {
         let session = o.session;
         let verdict = o.verdict;
         AdrRecordOutcome {
-            session: recording_twin(session.state),
+            session: recording_state_twin(session.state),
             number: verdict_number(verdict),
         }
     }
@@ -73,12 +74,13 @@ impl AdrRecordFetched {
         }
     }
 
+    // What a fetch returned, as numbers.
     pub fn of(f: Fetched) -> AdrRecordFetched
-        ensures { λ r. ⌜ r ≡ fetchedTwin (answerSaid (f .answer)) (recordingTwin (f .session .state)) ⌝ }
+        ensures { λ r. ⌜ r ≡ fetchedTwin (answerSaid (f .answer)) (recordingStateTwin (f .session .state)) ⌝ }
     {
         let session = f.session;
         let answer = f.answer;
-        let s = recording_twin(session.state);
+        let s = recording_state_twin(session.state);
         match answer {
             Answer::Command(c) => AdrRecordFetched {
                 session: s,

@@ -2,18 +2,20 @@
 mod window;
 
 ghost use mathlib.Core.Path.{_≡_};
-ghost use mathlib.Core.Bool.{_&&_};
-ghost use lib.Dec.{eqb};
 ghost use lib.ListN.{length};
 ghost use Rattle.geometry.specs.Pick.{pick};
+ghost use Rattle.geometry.specs.Refusal.{verdictNumber};
 ghost use Rattle.frame.specs.Lengths.{frameLength};
 ghost use Rattle.recording_state.specs.State.{windowLength};
+ghost use Rattle.recording_state.specs.Fetch.{hasLengths};
 ghost use Rattle.recording_state.specs.Written.{elementOf, elementPlace, writtenElement, writtenHeader, writtenFrame};
 use crate::window::block_at;
 use element_building::build_element;
 use frame::DATA_LENGTH;
 use frame::Element;
 use frame::FRAME_LENGTH;
+use geometry::Refusal;
+use geometry::Verdict;
 use header_building::build_header;
 use recording_state::Stage;
 use recording_state::State;
@@ -24,15 +26,16 @@ fn element(s: State) -> Element
 {
     let copies = s.copies;
     let elements = s.elements;
+    let queue = elements.queue;
     let header = copies.header;
     let last = header.last;
-    let trail = elements.trail_after(elements.outstanding);
+    let trail = elements.trail_after(queue.outstanding);
     let marker = trail.marker;
     Element {
         kind: elements.kind(),
         pass: header.pass,
         last: last,
-        seq: elements.number(elements.outstanding),
+        seq: queue.number(queue.outstanding),
         filemarks: trail.filemarks,
         marker: marker,
     }
@@ -42,33 +45,39 @@ fn element(s: State) -> Element
 fn element_place(s: State) -> usize
     ensures { λ r. ⌜ r ≡ elementPlace s ⌝ }
 {
-    let elements = s.elements;
-    let number = elements.number(elements.outstanding);
+    let queue = s.elements.queue;
+    let number = queue.number(queue.outstanding);
     (number.0 as usize) % s.blocks()
 }
 
-fn fill_element(s: State, window: &[u8], frame: &mut [u8])
+// Fills the frame of the next element, or of EOD.
+fn fill_element(s: State, window: &[u8], frame: &mut [u8]) -> Verdict
     requires { ⌜ length (now window) ≡ windowLength s ⌝ }
     requires { ⌜ length (now frame) ≡ frameLength ⌝ }
-    ensures { λ _. ⌜ now (frame .exit) ≡ writtenElement s (now (window .entry)) ⌝ }
+    ensures answer { λ r. ⌜ verdictNumber r ≡ 0 ⌝ }
+    ensures bytes { λ _. ⌜ now (frame .exit) ≡ writtenElement s (now (window .entry)) ⌝ }
 {
     let place = element_place(s);
-    build_element(frame, element(s), block_at(window, place));
+    build_element(frame, element(s), block_at(window, place))
 }
 
-fn fill_header(s: State, frame: &mut [u8])
+// Fills the frame of the header that the copies carry.
+fn fill_header(s: State, frame: &mut [u8]) -> Verdict
     requires { ⌜ length (now frame) ≡ frameLength ⌝ }
-    ensures { λ _. ⌜ now (frame .exit) ≡ writtenHeader s ⌝ }
+    ensures answer { λ r. ⌜ verdictNumber r ≡ 0 ⌝ }
+    ensures bytes { λ _. ⌜ now (frame .exit) ≡ writtenHeader s ⌝ }
 {
     let copies = s.copies;
     let header = copies.header;
-    build_header(frame, header);
+    build_header(frame, header)
 }
 
-fn fill_stage(s: State, window: &[u8], frame: &mut [u8])
+// Fills one or the other, by the stage.
+fn fill_stage(s: State, window: &[u8], frame: &mut [u8]) -> Verdict
     requires { ⌜ length (now window) ≡ windowLength s ⌝ }
     requires { ⌜ length (now frame) ≡ frameLength ⌝ }
-    ensures { λ _. ⌜ now (frame .exit) ≡ writtenFrame s (now (window .entry)) ⌝ }
+    ensures answer { λ r. ⌜ verdictNumber r ≡ 0 ⌝ }
+    ensures bytes { λ _. ⌜ now (frame .exit) ≡ writtenFrame s (now (window .entry)) ⌝ }
 {
     let stage = s.stage;
     match stage {
@@ -77,15 +86,17 @@ fn fill_stage(s: State, window: &[u8], frame: &mut [u8])
     }
 }
 
-// Fills the frame of a WRITE; where the window or the frame has another length, the frame is left alone.
-pub fn fill(s: State, window: &[u8], frame: &mut [u8])
-    ensures { λ _. ⌜ now (frame .exit) ≡ pick (eqb (length (now (window .entry))) (windowLength s) && eqb (length (now (frame .entry))) frameLength) (writtenFrame s (now (window .entry))) (now (frame .entry)) ⌝ }
+// Fills the frame of a WRITE. A window or a frame of another length is refused with 1, and the frame is left alone.
+pub fn fill(s: State, window: &[u8], frame: &mut [u8]) -> Verdict
+    ensures answer { λ r. ⌜ verdictNumber r ≡ pick (hasLengths s (now (window .entry)) (now (frame .entry))) 0 1 ⌝ }
+    ensures bytes { λ _.
+        ⌜ now (frame .exit) ≡ pick (hasLengths s (now (window .entry)) (now (frame .entry))) (writtenFrame s (now (window .entry))) (now (frame .entry)) ⌝ }
 {
     if window.len() != s.blocks() * DATA_LENGTH {
-        return;
+        return Verdict::Refused(Refusal::Length);
     }
     if frame.len() != FRAME_LENGTH {
-        return;
+        return Verdict::Refused(Refusal::Length);
     }
-    fill_stage(s, window, frame);
+    fill_stage(s, window, frame)
 }

@@ -10,6 +10,7 @@ use copies::Copies;
 use drive::Exchange;
 use elements::Elements;
 use frame::Header;
+use frame::MOST_BLOCKS;
 use frame::Trail;
 use frame::no_trail;
 use geometry::Address;
@@ -79,7 +80,7 @@ pub fn refuse_opening(refusal: Refusal) -> Outcome
 pub fn is_misfit(depth: u8, blocks: u8) -> bool
     ensures { λ r. ⌜ r ≡ isMisfit depth blocks ⌝ }
 {
-    (depth == 0) | ((blocks == 0) | (64 < blocks))
+    (depth == 0) | ((blocks == 0) | (MOST_BLOCKS < blocks))
 }
 
 // D, W, of which a session holds W - 1, and T.

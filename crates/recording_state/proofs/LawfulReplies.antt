@@ -4,6 +4,7 @@ use mathlib.Core.Path.{_≡_, refl, sym, ap, _∙_}
 use mathlib.Core.Bool.{true, false}
 use mathlib.Core.Logic.{inl, inr}
 use native.Mathlib.Omega.{arith}
+use Rattle.geometry.specs.Cartridge.{copyAt}
 use Rattle.geometry.proofs.Impossible.{clash}
 use Rattle.geometry.proofs.NumberTests.{is-unless}
 use Rattle.drive.specs.Command.{commandCode}
@@ -14,7 +15,7 @@ use Rattle.drive.specs.declared.command.Command.the-variants.{ReadPosition}
 use Rattle.drive.specs.declared.reply.Reply.{Reply}
 use Rattle.drive.proofs.CaseLaws.{case-parts}
 use Rattle.copies.specs.Copies as copies
-use Rattle.copies.specs.Copies.{oldestAddress, nextAddress}
+use Rattle.copies.specs.Copies.{oldestCopy}
 use Rattle.copies.proofs.ReplyView as copying
 use Rattle.elements.specs.Elements.{baseOf}
 use Rattle.elements.specs.Reply as reply
@@ -22,11 +23,12 @@ use Rattle.elements.proofs.ReplyView as steps
 use Rattle.recording_state.specs.State.{OutcomeSaid}
 use Rattle.recording_state.specs.Reply.{headerReplyBy, elementReplyBy, stageReply, caseOf, replyOf}
 use Rattle.recording_state.specs.Lawful.{Possible, Lawful}
+use Rattle.recording_state.specs.declared.report.Report.{Report}
 use Rattle.recording_state.specs.declared.state.State.{State}
 use Rattle.recording_state.proofs.Stages.{HeaderStage, ElementStage}
 use Rattle.recording_state.proofs.ListedReplies.{is-counted, is-failed}
 use Rattle.recording_state.proofs.ReplyView as view
-use Rattle.recording_state.proofs.ReplyView.{Busy, ReplyView, reply-view, by-headers, by-elements}
+use Rattle.recording_state.proofs.ReplyView.{onCopies, onElements, Busy, ReplyView, reply-view, by-headers, by-elements}
 
 -- ---- what the machines do not refuse with 8
 
@@ -35,18 +37,22 @@ module _ (s : State) (r : Reply) where
   copies-few (copying.tooMany _) h = absurd (h refl)
   copies-few (copying.counted l) h = l
 
-  elements-few : {x : reply.SteppedSaid} → steps.CountedView (s .elements) (r .buffered) x → (elementReplyBy x s .number ≡ 8 → ⊥) → r .buffered ≤ s .elements .outstanding
+  elements-few : {x : reply.SteppedSaid} → steps.CountedView (s .elements) (r .buffered) x → (elementReplyBy x s .number ≡ 8 → ⊥) → r .buffered ≤ s .elements .queue .outstanding
   elements-few (steps.tooMany _) h = absurd (h refl)
   elements-few (steps.counted l) h = l
 
-  copies-there : {x : copies.ProgressSaid} → copying.FailedView (s .copies) (r .position) x → (headerReplyBy x s .number ≡ 8 → ⊥)
-      → (oldestAddress (s .copies) .0 ≤ r .position .0) × (r .position .0 < nextAddress (s .copies) .0)
+  -- the copy at p
+  abbrev failing : ℕ
+  failing = copyAt (s .copies .group) (r .position .0)
+
+  copies-there : {x : copies.ProgressSaid} → copying.FailedView (s .copies) failing x → (headerReplyBy x s .number ≡ 8 → ⊥)
+      → (oldestCopy (s .copies) ≤ failing) × (failing < s .copies .copy)
   copies-there (copying.before _) h = absurd (h refl)
   copies-there (copying.behind _) h = absurd (h refl)
   copies-there (copying.failed l u) h = (l, u)
 
   elements-there : {x : reply.SteppedSaid} → steps.FailedView (s .setup .tail) (s .elements) (r .position) (r .skip) x → (elementReplyBy x s .number ≡ 8 → ⊥)
-      → (baseOf (s .elements) .0 ≤ r .position .0) × (r .position .0 < s .elements .next .0)
+      → (baseOf (s .elements) .0 ≤ r .position .0) × (r .position .0 < s .elements .course .next .0)
   elements-there (steps.tooLow _) h = absurd (h refl)
   elements-there (steps.tooHigh _) h = absurd (h refl)
   elements-there (steps.failed l u _) h = (l, u)
@@ -58,15 +64,15 @@ module _ (s : State) (r : Reply) where
   command = s .exchange .command
 
   -- the same of the machine of the stage
-  module _ (c : copies.ProgressSaid) (x : reply.SteppedSaid) (h : stageReply s c x .number ≡ 8 → ⊥) where
-    header-so : HeaderStage s → headerReplyBy c s .number ≡ 8 → ⊥
-    header-so st e = h (ap (λ (y : OutcomeSaid). y .number) (by-headers s c x st) ∙ e)
+  module _ (x : Report) (h : stageReply s x .number ≡ 8 → ⊥) where
+    header-so : HeaderStage s → headerReplyBy (onCopies s x) s .number ≡ 8 → ⊥
+    header-so st e = h (ap (λ (y : OutcomeSaid). y .number) (by-headers s x st) ∙ e)
 
-    element-so : ElementStage s → elementReplyBy x s .number ≡ 8 → ⊥
-    element-so st e = h (ap (λ (y : OutcomeSaid). y .number) (by-elements s c x st) ∙ e)
+    element-so : ElementStage s → elementReplyBy (onElements s x) s .number ≡ 8 → ⊥
+    element-so st e = h (ap (λ (y : OutcomeSaid). y .number) (by-elements s x st) ∙ e)
 
   -- f and p are looked at in no other reply than those two
-  other : (command ≡ ReadPosition → Means r good → ⊥) → (Means r writeError → ⊥) → {outstanding oldest next : ℕ} → Possible outstanding oldest next command r
+  other : (command ≡ ReadPosition → Means r good → ⊥) → (Means r writeError → ⊥) → {outstanding oldest next place : ℕ} → Possible outstanding oldest next place command r
   other no-count no-error = record { counted = λ p g. absurd (no-count p g); from = λ e. absurd (no-error e); below = λ e. absurd (no-error e) }
 
   unlooked : (command ≡ ReadPosition → Means r good → ⊥) → (Means r writeError → ⊥) → Lawful s command r
@@ -86,13 +92,13 @@ module _ (s : State) (r : Reply) where
   busy-means (inr (inl e)) = case-parts command r 0x2B busy (omega arith) e .1
   busy-means (inr (inr e)) = case-parts command r 0x34 busy (omega arith) e .1
 
-  counted : {outstanding oldest next : ℕ} → Means r good → r .buffered ≤ outstanding → Possible outstanding oldest next command r
+  counted : {outstanding oldest next place : ℕ} → Means r good → r .buffered ≤ outstanding → Possible outstanding oldest next place command r
   counted m l = record { counted = λ _ _. omega (arith, l); from = λ e. absurd (good-failed e); below = λ e. absurd (good-failed e) }
     where
       good-failed : Means r writeError → ⊥
       good-failed e = let both : good ≡ writeError = sym m ∙ e in omega arith
 
-  failed : {outstanding oldest next : ℕ} → Means r writeError → (oldest ≤ r .position .0) × (r .position .0 < next) → Possible outstanding oldest next command r
+  failed : {outstanding oldest next place : ℕ} → Means r writeError → (oldest ≤ place) × (place < next) → Possible outstanding oldest next place command r
   failed m l = record { counted = λ _ e. absurd (let both : writeError ≡ good = sym m ∙ e in omega arith); from = λ _. omega (arith, l .0); below = λ _. omega (arith, l .1) }
 
   pub taken-lawful : s .ended ≡ false → s .exchange .awaiting ≡ true → (replyOf s r .number ≡ 8 → ⊥) → Lawful s command r
@@ -105,12 +111,12 @@ module _ (s : State) (r : Reply) where
       go (view.located e) h = on-other 0x2B (λ x. omega arith) (case-parts command r 0x2B good (omega arith) e)
       go (view.taken e) h = on-other 0x0A (λ x. omega arith) (case-parts command r 0x0A good (omega arith) e)
       go (view.counted e) h = record {
-        in-headers = λ st. counted (is-counted s r e .1) (copies-few (copying.counted-view (s .copies) (r .buffered)) (header-so _ _ h st));
-        in-elements = λ st. counted (is-counted s r e .1) (elements-few (steps.counted-view (s .elements) (r .buffered)) (element-so _ _ h st));
+        in-headers = λ st. counted (is-counted s r e .1) (copies-few (copying.counted-view (s .copies) (r .buffered)) (header-so _ h st));
+        in-elements = λ st. counted (is-counted s r e .1) (elements-few (steps.counted-view (s .elements) (r .buffered)) (element-so _ h st));
       }
       go (view.failed e) h = record {
-        in-headers = λ st. failed (is-failed s r e) (copies-there (copying.failed-view (s .copies) (r .position)) (header-so _ _ h st));
-        in-elements = λ st. failed (is-failed s r e) (elements-there (steps.failed-view (s .setup .tail) (s .elements) (r .position) (r .skip)) (element-so _ _ h st));
+        in-headers = λ st. failed (is-failed s r e) (copies-there (copying.failed-view (s .copies) failing) (header-so _ h st));
+        in-elements = λ st. failed (is-failed s r e) (elements-there (steps.failed-view (s .setup .tail) (s .elements) (r .position) (r .skip)) (element-so _ h st));
       }
       go (view.overflowed e) h = meant volumeOverflow (λ x. omega arith) (λ x. omega arith) (case-parts command r 0x0A volumeOverflow (omega arith) e .1)
       go (view.unlisted _) h = absurd (h refl)

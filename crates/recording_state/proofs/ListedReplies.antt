@@ -6,7 +6,7 @@ use mathlib.Core.Logic.{_⊎_, inl, inr, ⊎-elim}
 use native.Mathlib.Omega.{arith}
 use lib.Dec.{eqb}
 use Rattle.geometry.proofs.PickLaws.{pick-by}
-use Rattle.geometry.specs.Cartridge.{isHeader}
+use Rattle.geometry.specs.Cartridge.{isHeader, copyAt}
 use Rattle.geometry.specs.declared.address.Address.{Address}
 use Rattle.geometry.proofs.Impossible.{never, clash}
 use Rattle.geometry.proofs.NumberTests.{is-unless}
@@ -21,7 +21,7 @@ use Rattle.drive.specs.declared.reply.Reply.{Reply}
 use Rattle.drive.proofs.CaseLaws.{case-parts, by-position}
 use Rattle.drive.proofs.ListedCases.{at-write, at-locate, at-position}
 use Rattle.copies.specs.Copies as copies
-use Rattle.copies.specs.Copies.{oldestAddress, nextAddress}
+use Rattle.copies.specs.Copies.{oldestCopy}
 use Rattle.copies.proofs.ReplyView as copying
 use Rattle.elements.specs.Elements.{baseOf}
 use Rattle.elements.specs.Reply as reply
@@ -29,6 +29,7 @@ use Rattle.elements.proofs.ReplyView as steps
 use Rattle.recording_state.specs.State.{OutcomeSaid}
 use Rattle.recording_state.specs.Reply.{headerReplyBy, elementReplyBy, stageReply, caseOf, replyOf}
 use Rattle.recording_state.specs.Lawful.{Lawful}
+use Rattle.recording_state.specs.declared.report.Report.{Report}
 use Rattle.recording_state.specs.declared.state.State.{State}
 use Rattle.recording_state.proofs.Stages.{HeaderStage, ElementStage, header-not-done, element-not-done}
 use Rattle.recording_state.proofs.Refusals.{onward-number}
@@ -60,10 +61,10 @@ module _ (s : State) (r : Reply) where
   error-listed (inl e) = at-write (s .exchange .command) r writeError (omega arith) (λ _ _. on.write-error) e
   error-listed (inr e) = at-position (s .exchange .command) r writeError (omega arith) on.position-error e
 
-  overflow-listed : {c : copies.ProgressSaid} {x : reply.SteppedSaid} {y : OutcomeSaid} → caseOf s r ≡ writeOverflow → OffHeaders s → c ≡ copies.refused 8 → view.StageView s c x y → (y .number ≡ 8 → ⊥) → Here
-  overflow-listed e off q (view.in-headers _) h = absurd (h (ap (λ (p : copies.ProgressSaid). headerReplyBy p s .number) q))
-  overflow-listed e off q (view.in-elements st) h = at-write (s .exchange .command) r volumeOverflow (omega arith) (λ a w. on.write-overflow (off st a w)) e
-  overflow-listed e off q (view.in-done _) h = absurd (h refl)
+  overflow-listed : (x : Report) {y : OutcomeSaid} → caseOf s r ≡ writeOverflow → OffHeaders s → view.onCopies s x ≡ copies.refused 8 → view.StageView s x y → (y .number ≡ 8 → ⊥) → Here
+  overflow-listed x e off q (view.in-headers _) h = absurd (h (ap (λ (p : copies.ProgressSaid). headerReplyBy p s .number) q))
+  overflow-listed x e off q (view.in-elements st) h = at-write (s .exchange .command) r volumeOverflow (omega arith) (λ a w. on.write-overflow (off st a w)) e
+  overflow-listed x e off q (view.in-done _) h = absurd (h refl)
 
   pub taken-listed : s .ended ≡ false → s .exchange .awaiting ≡ true → OffHeaders s → (replyOf s r .number ≡ 8 → ⊥) → Here
   taken-listed running awaited off = go (reply-view s r)
@@ -76,7 +77,7 @@ module _ (s : State) (r : Reply) where
       go (view.taken e) h = at-write (s .exchange .command) r good (omega arith) (λ _ _. on.write-good) e
       go (view.counted e) h = at-position (s .exchange .command) r good (omega arith) on.position-good e
       go (view.failed e) h = error-listed e
-      go (view.overflowed e) h = overflow-listed e off refl (view.stage-view s _ _) h
+      go (view.overflowed e) h = overflow-listed _ e off refl (view.stage-view s _) h
       go (view.unlisted _) h = absurd (h refl)
 
   -- so one that is not listed is refused with 8
@@ -142,16 +143,20 @@ module _ (s : State) (r : Reply) where
   copies-counted p (copying.tooMany l) e = omega (arith, p)
   copies-counted p (copying.counted _) e = omega (arith, onward-number _ (copying.onward-view _) e)
 
-  copies-failed : {x : copies.ProgressSaid} → oldestAddress (s .copies) .0 ≤ r .position .0 → r .position .0 < nextAddress (s .copies) .0 → copying.FailedView (s .copies) (r .position) x → x ≡ copies.refused 8 → ⊥
+  -- the copy at p
+  abbrev failing : ℕ
+  failing = copyAt (s .copies .group) (r .position .0)
+
+  copies-failed : {x : copies.ProgressSaid} → oldestCopy (s .copies) ≤ failing → failing < s .copies .copy → copying.FailedView (s .copies) failing x → x ≡ copies.refused 8 → ⊥
   copies-failed p l (copying.before h) e = omega (arith, p)
   copies-failed p l (copying.behind h) e = omega (arith, l)
   copies-failed p l (copying.failed _ _) e = omega (arith, onward-number _ (copying.onward-view _) e)
 
-  elements-counted : {x : reply.SteppedSaid} → r .buffered ≤ s .elements .outstanding → steps.CountedView (s .elements) (r .buffered) x → x .number ≡ 8 → ⊥
+  elements-counted : {x : reply.SteppedSaid} → r .buffered ≤ s .elements .queue .outstanding → steps.CountedView (s .elements) (r .buffered) x → x .number ≡ 8 → ⊥
   elements-counted p (steps.tooMany l) q = omega (arith, p)
   elements-counted p (steps.counted _) q = omega arith
 
-  elements-failed : {x : reply.SteppedSaid} → baseOf (s .elements) .0 ≤ r .position .0 → r .position .0 < s .elements .next .0 → steps.FailedView (s .setup .tail) (s .elements) (r .position) (r .skip) x → x .number ≡ 8 → ⊥
+  elements-failed : {x : reply.SteppedSaid} → baseOf (s .elements) .0 ≤ r .position .0 → r .position .0 < s .elements .course .next .0 → steps.FailedView (s .setup .tail) (s .elements) (r .position) (r .skip) x → x .number ≡ 8 → ⊥
   elements-failed p l (steps.tooLow h) q = omega (arith, p)
   elements-failed p l (steps.tooHigh h) q = omega (arith, l)
   elements-failed p l (steps.failed _ _ _) q = omega arith
@@ -159,12 +164,12 @@ module _ (s : State) (r : Reply) where
 
   module _ (stage : HeaderStage s ⊎ ElementStage s) (no-read : (a : Address) → s .exchange .command ≡ Read a → ⊥) (on-headers : OnHeaders s) (lawful : Lawful s (s .exchange .command) r) (listed : Here) where
     -- by stage, where neither machine refuses with 8
-    stage-number : (c : copies.ProgressSaid) (x : reply.SteppedSaid) → (HeaderStage s → c ≡ copies.refused 8 → ⊥) → (ElementStage s → x .number ≡ 8 → ⊥) → stageReply s c x .number ≡ 8 → ⊥
-    stage-number c x h k = go (view.stage-view s c x)
+    stage-number : (x : Report) → (HeaderStage s → view.onCopies s x ≡ copies.refused 8 → ⊥) → (ElementStage s → view.onElements s x .number ≡ 8 → ⊥) → stageReply s x .number ≡ 8 → ⊥
+    stage-number x h k = go (view.stage-view s x)
       where
-        go : {y : OutcomeSaid} → view.StageView s c x y → y .number ≡ 8 → ⊥
-        go (view.in-headers st) q = header-number c (h st) q
-        go (view.in-elements st) q = element-number x (k st) q
+        go : {y : OutcomeSaid} → view.StageView s x y → y .number ≡ 8 → ⊥
+        go (view.in-headers st) q = header-number _ (h st) q
+        go (view.in-elements st) q = element-number _ (k st) q
         go (view.in-done e) q = ⊎-elim (λ st. header-not-done s st e) (λ st. element-not-done s st e) stage
 
     pub listed-taken : replyOf s r .number ≡ 8 → ⊥
@@ -173,15 +178,15 @@ module _ (s : State) (r : Reply) where
         go : {x : OutcomeSaid} → ReplyView s r x → x .number ≡ 8 → ⊥
         go (view.unasked _) q = omega arith
         go (view.busy _) q = omega arith
-        go (view.located _) q = stage-number _ _ (λ _ e. never (cc)) (λ _ e. omega arith) q
-        go (view.taken _) q = stage-number _ _ (λ _ e. never (cc)) (λ _ e. omega arith) q
+        go (view.located _) q = stage-number _ (λ _ e. never (cc)) (λ _ e. omega arith) q
+        go (view.taken _) q = stage-number _ (λ _ e. never (cc)) (λ _ e. omega arith) q
         go (view.counted n) q =
             let m = is-counted n in
-            stage-number _ _ (λ st. copies-counted (omega (arith, lawful .in-headers st .counted (m .0) (m .1))) (copying.counted-view (s .copies) (r .buffered)))
+            stage-number _ (λ st. copies-counted (omega (arith, lawful .in-headers st .counted (m .0) (m .1))) (copying.counted-view (s .copies) (r .buffered)))
             (λ st. elements-counted (omega (arith, lawful .in-elements st .counted (m .0) (m .1))) (steps.counted-view (s .elements) (r .buffered))) q
         go (view.failed n) q =
             let m = is-failed n in
-            stage-number _ _ (λ st. copies-failed (omega (arith, lawful .in-headers st .from m)) (omega (arith, lawful .in-headers st .below m)) (copying.failed-view (s .copies) (r .position)))
+            stage-number _ (λ st. copies-failed (omega (arith, lawful .in-headers st .from m)) (omega (arith, lawful .in-headers st .below m)) (copying.failed-view (s .copies) failing))
             (λ st. elements-failed (omega (arith, lawful .in-elements st .from m)) (omega (arith, lawful .in-elements st .below m)) (steps.failed-view (s .setup .tail) (s .elements) (r .position) (r .skip))) q
-        go (view.overflowed n) q = stage-number _ _ (λ st _. no-overflow (s .exchange .command) meaning listed (on-headers st) n) (λ _ e. omega arith) q
+        go (view.overflowed n) q = stage-number _ (λ st _. no-overflow (s .exchange .command) meaning listed (on-headers st) n) (λ _ e. omega arith) q
         go (view.unlisted u) q = u (listed-case (s .exchange .command) meaning listed no-read)

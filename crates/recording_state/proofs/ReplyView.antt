@@ -11,46 +11,50 @@ use Rattle.drive.specs.Cases.{locateGood, locateBusy, writeGood, writeBusy, wri
 use Rattle.drive.specs.declared.reply.Reply.{Reply}
 use Rattle.copies.specs.Copies as copies
 use Rattle.elements.specs.Reply as reply
+use Rattle.recording_state.specs.declared.report.Report.{Report}
 use Rattle.recording_state.specs.declared.state.State.{State}
 use Rattle.recording_state.specs.declared.state.Stage.{Stage}
 use Rattle.recording_state.specs.declared.state.Stage.the-variants as S
 use Rattle.recording_state.specs.State.{OutcomeSaid, accepting, refusing, ending}
-use Rattle.recording_state.specs.Reply.{repeatedOf, headerReplyBy, elementReplyBy, stageReplyBy, stageReply, locatedOf, takenOf, countedOf, failedOf, overflowedOf, replyBy, caseOf, replyOf}
+use Rattle.recording_state.specs.Reply.{repeatedOf, headerReplyBy, elementReplyBy, copiesAfter, elementsAfter, stageReplyBy, stageReply, locatedOf, takenOf, countedOf, failedOf, overflowedOf, replyBy, caseOf, replyOf}
 use Rattle.recording_state.proofs.Stages.{HeaderStage, ElementStage}
 
 -- ---- by stage
 
-module _ (s : State) (c : copies.ProgressSaid) (e : reply.SteppedSaid) where
+module _ (s : State) (x : Report) where
+  -- what it is to the header copies, and to the elements and EOD
+  abbrev pub onCopies : copies.ProgressSaid
+  onCopies = copiesAfter x (s .copies)
+
+  abbrev pub onElements : reply.SteppedSaid
+  onElements = elementsAfter x (s .setup .tail) (s .elements)
+
   pub data StageView : OutcomeSaid → Type 0 where
-    in-headers : HeaderStage s → StageView (headerReplyBy c s)
-    in-elements : ElementStage s → StageView (elementReplyBy e s)
+    in-headers : HeaderStage s → StageView (headerReplyBy onCopies s)
+    in-elements : ElementStage s → StageView (elementReplyBy onElements s)
     in-done : s .stage ≡ S.Done → StageView (ending s 8)
 
-  pub stage-view : StageView (stageReply s c e)
+  pub stage-view : StageView (stageReply s x)
   stage-view = go (s .stage) refl
     where
-      go : (k : Stage) → s .stage ≡ k → StageView (stageReplyBy k c e s)
+      go : (k : Stage) → s .stage ≡ k → StageView (stageReplyBy k x s)
       go S.OpeningHeaders q = in-headers (inl q)
       go S.Elements q = in-elements q
       go S.ClosingHeaders q = in-headers (inr q)
       go S.Done q = in-done q
 
-  by : {k : Stage} → s .stage ≡ k → stageReply s c e ≡ stageReplyBy k c e s
-  by q = ap (λ (x : Stage). stageReplyBy x c e s) q
+  by : {k : Stage} → s .stage ≡ k → stageReply s x ≡ stageReplyBy k x s
+  by q = ap (λ (k : Stage). stageReplyBy k x s) q
 
-  pub by-headers : HeaderStage s → stageReply s c e ≡ headerReplyBy c s
+  pub by-headers : HeaderStage s → stageReply s x ≡ headerReplyBy onCopies s
   by-headers (inl q) = by q
   by-headers (inr q) = by q
 
-  pub by-elements : ElementStage s → stageReply s c e ≡ elementReplyBy e s
+  pub by-elements : ElementStage s → stageReply s x ≡ elementReplyBy onElements s
   by-elements q = by q
 
-  pub by-done : s .stage ≡ S.Done → stageReply s c e ≡ ending s 8
+  pub by-done : s .stage ≡ S.Done → stageReply s x ≡ ending s 8
   by-done q = by q
-
--- alike to the header copies and to the elements, alike to the session
-pub stage-alike : (s : State) {c d : copies.ProgressSaid} {e f : reply.SteppedSaid} → c ≡ d → e ≡ f → stageReply s c e ≡ stageReply s d f
-stage-alike s p q = rw (p, q)
 
 -- ---- by the command and the meaning
 

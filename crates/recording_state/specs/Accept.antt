@@ -1,4 +1,4 @@
--- 01, "A recording session": elements may be accepted from opening until close is called.
+-- 01, "A recording session": accepting blocks and filemarks, and close.
 use Prim.Native.Nat.{ℕ, _%_}
 use mathlib.Core.Bool.{Bool, true, false, _&&_, _||_}
 use mathlib.Core.List.{List}
@@ -7,6 +7,7 @@ use lib.ListN.{length}
 use Rattle.geometry.specs.Pick.{pick}
 use Rattle.frame.specs.Lengths.{dataLength}
 use Rattle.elements.specs.Elements as elements
+use Rattle.elements.specs.Queue as queue
 use Rattle.recording_state.specs.declared.state.State.{State}
 use Rattle.recording_state.specs.declared.state.Outcome.{Outcome}
 use Rattle.recording_state.specs.State.{blocksOf, windowLength, OutcomeSaid, outcomeSaid, accepting, refusing}
@@ -17,32 +18,35 @@ use Rattle.recording_state.specs.Window.{putBlock}
 abbrev pub acceptsNone : State → Bool
 acceptsNone s = s .ended || s .closed
 
--- refusal 6: W elements not yet on tape
+-- refusal 6: as many elements are not known to be on tape as the window has blocks
 abbrev pub isFull : State → Bool
-isFull s = ltb (s .setup .highest) (s .elements .pending)
+isFull s = ltb (s .setup .highest) (s .elements .queue .pending)
 
+-- one element more, a filemark or not
 abbrev pub withElement : State → Bool → State
 withElement s mark = withElements s (elements.acceptedOf (s .elements) mark)
 
--- a filemark writes nothing to the window
+-- accepting a filemark: the window is not lent, and stays
 unfoldable pub filemarkOf : State → OutcomeSaid
 filemarkOf s =
     pick (acceptsNone s) (refusing s 7)
     (pick (isFull s) (refusing s 6)
     (accepting (withElement s true)))
 
--- element i uses window block i mod W
+-- the window block of the next element to be accepted: its number mod W
 abbrev pub placeOf : State → ℕ
-placeOf s = elements.numberOf (s .elements) (s .elements .pending) .0 % blocksOf s
+placeOf s = queue.numberOf (s .elements .queue) (s .elements .queue .pending) .0 % blocksOf s
 
 -- a call's result, and the window that it leaves
 pub record StoredSaid : Type 0 where
   pub result : OutcomeSaid
   pub window : List ℕ
 
+-- what the code returns and leaves, in these terms
 abbrev pub storedSaid : Outcome → List ℕ → StoredSaid
 storedSaid r window = record { result = outcomeSaid r; window = window }
 
+-- accepting a block: 7, 1 and 6 in this order; else it is stored at its place
 unfoldable pub blockOf : State → List ℕ → List ℕ → StoredSaid
 blockOf s block window =
     pick (acceptsNone s) (record { result = refusing s 7; window = window })
@@ -59,5 +63,6 @@ unspentClose s = pick (acceptsNone s) (refusing s 7) (accepting (settledOf (clos
 abbrev pub isSpent : State → Bool
 isSpent s = s .ended && s .spent
 
+-- close: a spent session gives up what is not on tape
 unfoldable pub closeOf : State → OutcomeSaid
 closeOf s = pick (isSpent s) (accepting (givenUpOf s)) (unspentClose s)

@@ -16,6 +16,7 @@ pub data AnswerSaid : Type 0 where
 abbrev pub giving : CommandSaid → AnswerSaid
 giving x = command (x .code) (x .address)
 
+-- what the code answers, in these terms
 abbrev pub answerSaid : Answer → AnswerSaid
 answerSaid (A.Command c) = giving (commandSaid c)
 answerSaid A.Idle = idle

@@ -8,14 +8,17 @@ use Rattle.recording_state.specs.declared.state.Stage.{Stage}
 use Rattle.recording_state.specs.declared.state.Stage.the-variants as S
 use Rattle.recording_state.specs.Answer.{AnswerSaid, idle, done, refused, giving}
 
+-- among header copies
 abbrev pub headerDue : State → AnswerSaid
 headerDue s = giving (copies.commandOf (s .setup .depth) (s .copies))
 
+-- what the rules come to, as an answer
 abbrev pub elementDueBy : due.DueSaid → AnswerSaid
 elementDueBy (due.send x) = giving x
 elementDueBy due.idle = idle
 elementDueBy (due.refused n) = refused n
 
+-- among elements and EOD
 abbrev pub elementDue : State → AnswerSaid
 elementDue s = elementDueBy (due.dueOf (s .setup .depth) (s .setup .tail) (s .elements))
 
@@ -26,6 +29,6 @@ decisionBy S.Elements s = elementDue s
 decisionBy S.ClosingHeaders s = headerDue s
 decisionBy S.Done s = done
 
--- after busy the same command, whichever rule then applies
+-- behind a busy reply the command goes out again, and no rule is asked
 unfoldable pub decisionOf : State → AnswerSaid
 decisionOf s = pick (s .exchange .again) (giving (commandSaid (s .exchange .command))) (decisionBy (s .stage) s)

@@ -18,10 +18,11 @@ use Rattle.recording_state.specs.declared.state.Outcome.{Outcome}
 use Rattle.recording_state.specs.declared.state.Stage.{Stage}
 use Rattle.recording_state.specs.declared.state.Stage.the-variants as S
 
--- W, the number of blocks of the window, of which a session holds W − 1; and the window's length
+-- W, the number of blocks of the window, of which a session holds W − 1
 abbrev pub blocksOf : State → ℕ
 blocksOf s = s .setup .highest + 1
 
+-- the window's length in bytes
 abbrev pub windowLength : State → ℕ
 windowLength s = blocksOf s * dataLength
 
@@ -30,13 +31,15 @@ pub record OutcomeSaid : Type 0 where
   pub session : State
   pub number : ℕ
 
+-- what the code returns, in these terms
 abbrev pub outcomeSaid : Outcome → OutcomeSaid
 outcomeSaid r = record { session = r .session; number = verdictNumber (r .verdict) }
 
+-- not refused
 abbrev pub accepting : State → OutcomeSaid
 accepting s = record { session = s; number = 0 }
 
--- refusals 1 to 7: session unchanged
+-- refused, and the session as it was: 1 to 7
 abbrev pub refusing : State → ℕ → OutcomeSaid
 refusing s n = record { session = s; number = n }
 
@@ -73,16 +76,19 @@ withPhase s closed ended spent = record {
   elements = s .elements;
 }
 
--- the session with one field set
+-- the session in another stage
 abbrev pub withStage : State → Stage → State
 withStage s stage = withParts s stage (s .exchange) (s .copies) (s .elements)
 
+-- with another exchange
 abbrev pub withExchange : State → Exchange → State
 withExchange s x = withParts s (s .stage) x (s .copies) (s .elements)
 
+-- with other header copies
 abbrev pub withCopies : State → Copies → State
 withCopies s c = withParts s (s .stage) (s .exchange) c (s .elements)
 
+-- with other elements
 abbrev pub withElements : State → Elements → State
 withElements s e = withParts s (s .stage) (s .exchange) (s .copies) e
 
@@ -98,6 +104,7 @@ isSpending s n = eqb n 9 && (ltb 0 (s .setup .tail) && not (s .elements .eod))
 abbrev pub endedOf : State → ℕ → State
 endedOf s n = withPhase s (s .closed) true (isSpending s n)
 
+-- refused, and the session ended: from 8 on
 abbrev pub ending : State → ℕ → OutcomeSaid
 ending s n = record { session = endedOf s n; number = n }
 
@@ -111,8 +118,9 @@ eodDue s = withElements s (elements.eodDue (s .elements))
 
 -- closing headers, behind EOD, which was the last frame taken: its address is the one before the next
 abbrev pub closingHeader : State → Header
-closingHeader s = closingOf (s .copies .header) (s .elements .next)
+closingHeader s = closingOf (s .copies .header) (s .elements .course .next)
 
+-- they are due
 abbrev pub closingStarted : State → State
 closingStarted s = withStage (withCopies s (copies.startOf (closingHeader s))) S.ClosingHeaders
 
@@ -123,5 +131,6 @@ settledBy S.Elements s = pick (s .elements .eod) (closingStarted s) (pick (s .cl
 settledBy S.ClosingHeaders s = s
 settledBy S.Done s = s
 
+-- the session goes on where nothing is left to confirm
 unfoldable pub settledOf : State → State
-settledOf s = pick (ltb 0 (s .elements .pending)) s (settledBy (s .stage) s)
+settledOf s = pick (ltb 0 (s .elements .queue .pending)) s (settledBy (s .stage) s)

@@ -1,4 +1,4 @@
--- 01, "A recording session": a window of W blocks of 32,768 bytes.
+-- 01, "A recording session": the blocks of the window.
 use Prim.Native.Nat.{ℕ, _*_}
 use mathlib.Core.List.{List, _++_}
 use lib.ListN.{take, drop}

@@ -7,6 +7,7 @@ use Rattle.frame.specs.Frame.{elementFrame}
 use Rattle.frame.specs.Header.{headerFrame}
 use Rattle.frame.specs.declared.element.Element.{Element}
 use Rattle.elements.specs.Elements as elements
+use Rattle.elements.specs.Queue as queue
 use Rattle.elements.specs.Trail.{trailBefore}
 use Rattle.recording_state.specs.declared.state.State.{State}
 use Rattle.recording_state.specs.declared.state.Stage.{Stage}
@@ -14,24 +15,26 @@ use Rattle.recording_state.specs.declared.state.Stage.the-variants as S
 use Rattle.recording_state.specs.State.{blocksOf}
 use Rattle.recording_state.specs.Window.{blockAt}
 
--- the next element to be written, or EOD, its AUX for the present position of the latest marker
+-- the next element to be written, or EOD, with the filemarks before it where they now stand
 unfoldable pub elementOf : State → Element
 elementOf s = record {
   kind = elements.kindOf (s .elements);
   pass = s .copies .header .pass;
   last = s .copies .header .last;
-  seq = elements.numberOf (s .elements) (s .elements .outstanding);
+  seq = queue.numberOf (s .elements .queue) (s .elements .queue .outstanding);
   filemarks = trailBefore (s .elements) .filemarks;
   marker = trailBefore (s .elements) .marker;
 }
 
--- element i uses window block i mod W
+-- the window block of the next element to be written: its number mod W
 abbrev pub elementPlace : State → ℕ
-elementPlace s = elements.numberOf (s .elements) (s .elements .outstanding) .0 % blocksOf s
+elementPlace s = queue.numberOf (s .elements .queue) (s .elements .queue .outstanding) .0 % blocksOf s
 
+-- its frame, with that block for its data
 unfoldable pub writtenElement : State → List ℕ → List ℕ
 writtenElement s window = elementFrame (elementOf s) (blockAt window (elementPlace s))
 
+-- the frame of a header copy
 abbrev pub writtenHeader : State → List ℕ
 writtenHeader s = headerFrame (s .copies .header)
 

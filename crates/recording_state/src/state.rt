@@ -13,6 +13,7 @@ use geometry::Refusal;
 use geometry::Verdict;
 use geometry::number;
 
+// What the session writes at present.
 pub enum Stage {
     OpeningHeaders,
     // The LOCATE of the first element's address, the elements and EOD.
@@ -42,6 +43,7 @@ pub struct Setup {
     pub tail: u8,
 }
 
+// All that a session holds between two calls.
 pub struct State {
     pub setup: Setup,
     pub stage: Stage,
@@ -70,6 +72,7 @@ pub enum Answer {
     Refused(Refusal),
 }
 
+// What a fetch returns.
 pub struct Fetched {
     pub session: State,
     pub answer: Answer,
@@ -84,6 +87,7 @@ impl State {
         (setup.highest as usize) + 1
     }
 
+    // The call is not refused.
     pub fn accepted(self) -> Outcome
         ensures { λ r. ⌜ outcomeSaid r ≡ accepting self ⌝ }
     {
@@ -120,6 +124,7 @@ impl State {
         self
     }
 
+    // The call is refused, and ends the session.
     pub fn end(self, refusal: Refusal) -> Outcome
         ensures { λ r. ⌜ outcomeSaid r ≡ ending self (refusalNumber refusal) ⌝ }
     {
@@ -159,13 +164,14 @@ impl State {
         self
     }
 
+    // EOD is on tape, and the closing headers are due.
     fn start_closing(self) -> State
         ensures { λ r. ⌜ r ≡ closingStarted self ⌝ }
     {
         let copies = self.copies;
         let elements = self.elements;
         let header = copies.header;
-        let next = elements.next;
+        let next = elements.course.next;
         State {
             stage: Stage::ClosingHeaders,
             copies: Copies::start(closing_header(header, next)),
@@ -173,12 +179,12 @@ impl State {
         }
     }
 
-    // EOD becomes due when close was called and every element is on tape; once EOD is on tape, the closing headers follow.
+    // Goes on where nothing is left to confirm: to the closing headers behind EOD, to EOD after close.
     pub fn settle(self) -> State
         ensures { λ r. ⌜ r ≡ settledOf self ⌝ }
     {
         let elements = self.elements;
-        if 0 < elements.pending {
+        if 0 < elements.queue.pending {
             return self;
         }
         let stage = self.stage;

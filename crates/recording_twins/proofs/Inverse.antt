@@ -18,7 +18,7 @@ use Rattle.exchange_twins.proofs.Inverse.{exchange-back, exchange-known, exchan
 use Rattle.recording_twins.specs.declared.recording_numbers.AdrRecording.{AdrRecording}
 use Rattle.recording_twins.specs.Stages.{isStage, stageOf, stageNumber}
 use Rattle.recording_twins.specs.Marks.{allFlags}
-use Rattle.recording_twins.specs.Recording.{copiesOf, copiesTwin, elementsOf, elementsTwin, isRecording, recordingOf, recordingTwin}
+use Rattle.recording_twins.specs.Recording.{copiesOf, copiesTwin, elementsOf, elementsTwin, isRecording, recordingStateOf, recordingStateTwin}
 use Rattle.recording_twins.proofs.MarkLaws.{flags-back, flags-known, flag-numbers}
 
 -- ---- the parts
@@ -59,23 +59,23 @@ copies-back : (c : Copies) → copiesOf (copiesTwin c) ≡ c
 copies-back c = rw (flag-back (c .locate))
 
 elements-back : (e : Elements) → elementsOf (elementsTwin e) ≡ e
-elements-back e = rw (flag-back (e .locate), flag-back (e .eod), flags-back (e .marks))
+elements-back e = rw (flag-back (e .course .locate), flag-back (e .eod), flags-back (e .queue .marks))
 
 -- ---- the session
 
 -- every session comes back from its numbers
-pub recording-back : (s : State) → recordingOf (recordingTwin s) ≡ s
-unfolding recordingOf recordingTwin
+pub recording-back : (s : State) → recordingStateOf (recordingStateTwin s) ≡ s
+unfolding recordingStateOf recordingStateTwin
 recording-back s = rw (stage-back (s .stage), exchange-back (s .exchange), flag-back (s .closed), flag-back (s .ended), flag-back (s .spent), copies-back (s .copies), elements-back (s .elements))
 
 -- and its numbers are a session's
-pub recording-known : (s : State) → isRecording (recordingTwin s) ≡ true
-unfolding isRecording recordingTwin
-recording-known s = rw (stage-known (s .stage), exchange-known (s .exchange), flag-known (s .closed), flag-known (s .ended), flag-known (s .spent), flag-known (s .copies .locate), flag-known (s .elements .locate), flag-known (s .elements .eod), flags-known (s .elements .marks))
+pub recording-known : (s : State) → isRecording (recordingStateTwin s) ≡ true
+unfolding isRecording recordingStateTwin
+recording-known s = rw (stage-known (s .stage), exchange-known (s .exchange), flag-known (s .closed), flag-known (s .ended), flag-known (s .spent), flag-known (s .copies .locate), flag-known (s .elements .course .locate), flag-known (s .elements .eod), flags-known (s .elements .queue .marks))
 
 -- numbers that are a session's come back from their session: so a refusal that leaves the session leaves its numbers
-pub recording-numbers : (t : AdrRecording) → isRecording t ≡ true → recordingTwin (recordingOf t) ≡ t
-unfolding isRecording recordingOf recordingTwin
+pub recording-numbers : (t : AdrRecording) → isRecording t ≡ true → recordingStateTwin (recordingStateOf t) ≡ t
+unfolding isRecording recordingStateOf recordingStateTwin
 recording-numbers t h =
     let h8 = and-true _ (allFlags (t .elements .marks)) h in
     let h7 = and-true _ (isFlag (t .elements .eod)) (h8 .0) in
@@ -87,5 +87,5 @@ recording-numbers t h =
     let h1 = and-true (isExchange (t .exchange)) (isStage (t .stage)) (h2 .0) in
     rw (exchange-number (t .exchange) (h1 .0), stage-number (t .stage) (h1 .1), flag-number (t .closed) (h2 .1), flag-number (t .ended) (h3 .1), flag-number (t .spent) (h4 .1), flag-number (t .copies .locate) (h5 .1), flag-number (t .elements .locate) (h6 .1), flag-number (t .elements .eod) (h7 .1), flag-numbers (t .elements .marks) (h8 .1))
 
-pub recording-comes-back : ComesBack isRecording recordingOf recordingTwin
+pub recording-comes-back : ComesBack isRecording recordingStateOf recordingStateTwin
 recording-comes-back = record { back = recording-back; known = recording-known; numbers = recording-numbers }

@@ -21,6 +21,7 @@ setupOf n = record { depth = n .depth; highest = n .highest; tail = n .tail }
 abbrev setupTwin : Setup → AdrSetup
 setupTwin s = record { depth = s .depth; highest = s .highest; tail = s .tail }
 
+-- the header copies that have these numbers
 abbrev pub copiesOf : AdrCopies → Copies
 copiesOf c = record {
   header = record {
@@ -37,6 +38,7 @@ copiesOf c = record {
   locate = flagOf (c .locate);
 }
 
+-- their numbers
 abbrev pub copiesTwin : Copies → AdrCopies
 copiesTwin c = record {
   header = record { last = c .header .last .0; eod = c .header .eod .0; old = c .header .old .0; update = c .header .update; pass = c .header .pass };
@@ -47,32 +49,28 @@ copiesTwin c = record {
   locate = flagNumber (c .locate);
 }
 
+-- the elements and EOD that have these numbers
 abbrev pub elementsOf : AdrElements → Elements
 elementsOf e = record {
-  first = asSeq (e .first);
-  pending = e .pending;
-  outstanding = e .outstanding;
-  next = asAddress (e .next);
-  limit = asAddress (e .limit);
-  locate = flagOf (e .locate);
-  target = asAddress (e .target);
+  queue = record { first = asSeq (e .first); pending = e .pending; outstanding = e .outstanding; marks = map flagOf (e .marks) };
+  course = record { next = asAddress (e .next); limit = asAddress (e .limit); locate = flagOf (e .locate); target = asAddress (e .target) };
   eod = flagOf (e .eod);
   trail = trailOf (e .trail);
-  marks = map flagOf (e .marks);
 }
 
+-- their numbers
 abbrev pub elementsTwin : Elements → AdrElements
 elementsTwin e = record {
-  first = e .first .0;
-  next = e .next .0;
-  limit = e .limit .0;
-  target = e .target .0;
+  first = e .queue .first .0;
+  next = e .course .next .0;
+  limit = e .course .limit .0;
+  target = e .course .target .0;
   trail = trailTwin (e .trail);
-  pending = e .pending;
-  outstanding = e .outstanding;
-  locate = flagNumber (e .locate);
+  pending = e .queue .pending;
+  outstanding = e .queue .outstanding;
+  locate = flagNumber (e .course .locate);
   eod = flagNumber (e .eod);
-  marks = map flagNumber (e .marks);
+  marks = map flagNumber (e .queue .marks);
 }
 
 -- whether the numbers are a session's
@@ -83,8 +81,9 @@ isRecording s =
     && isFlag (s .copies .locate)) && isFlag (s .elements .locate)) && isFlag (s .elements .eod))
     && allFlags (s .elements .marks)
 
-unfoldable pub recordingOf : AdrRecording → State
-recordingOf s = record {
+-- the session that has these numbers
+unfoldable pub recordingStateOf : AdrRecording → State
+recordingStateOf s = record {
   setup = setupOf (s .setup);
   stage = stageOf (s .stage);
   exchange = exchangeOf (s .exchange);
@@ -95,8 +94,9 @@ recordingOf s = record {
   elements = elementsOf (s .elements);
 }
 
-unfoldable pub recordingTwin : State → AdrRecording
-recordingTwin s = record {
+-- its numbers
+unfoldable pub recordingStateTwin : State → AdrRecording
+recordingStateTwin s = record {
   setup = setupTwin (s .setup);
   stage = stageNumber (s .stage);
   closed = flagNumber (s .closed);

@@ -10,9 +10,11 @@ use Rattle.recording_state.specs.declared.state.Stage.the-variants as S
 abbrev pub isStage : ℕ → Bool
 isStage n = leb n 3
 
+-- the stage that a number is
 abbrev pub stageOf : ℕ → Stage
 stageOf n = pick (eqb n 0) S.OpeningHeaders (pick (eqb n 1) S.Elements (pick (eqb n 2) S.ClosingHeaders S.Done))
 
+-- a stage's number
 abbrev pub stageNumber : Stage → ℕ
 stageNumber S.OpeningHeaders = 0
 stageNumber S.Elements = 1

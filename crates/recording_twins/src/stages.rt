@@ -3,6 +3,7 @@ ghost use mathlib.Core.Path.{_≡_};
 ghost use Rattle.recording_twins.specs.Stages.{stageOf, stageNumber};
 use recording_state::Stage;
 
+// The stage that has this number.
 pub(crate) fn stage_of(n: u8) -> Stage
     ensures { λ r. ⌜ r ≡ stageOf n ⌝ }
 {
@@ -14,6 +15,7 @@ pub(crate) fn stage_of(n: u8) -> Stage
     }
 }
 
+// The number of a stage.
 pub(crate) fn stage_number(s: Stage) -> u8
     ensures { λ r. ⌜ r ≡ stageNumber s ⌝ }
 {

@@ -14,10 +14,12 @@ pub data Question : Type 0 where
   -- the target of an error at p with a skip, where END is given
   targetFor : ℕ → ℕ → ℕ → Question
 
+-- a question with what it must give
 pub record Case : Type 0 where
   pub question : Question
   pub expected : PlaceSaid
 
+-- what the definitions give
 abbrev pub answer : Question → PlaceSaid
 answer (lastFor segtrk trks load) = lastOf (record { segtrk = segtrk; trks = trks; load = load })
 answer (targetFor p skip end) = targetOf (asAddress p) skip (asAddress (end + 1))
@@ -25,6 +27,7 @@ answer (targetFor p skip end) = targetOf (asAddress p) skip (asAddress (end + 1)
 abbrev case : Question → PlaceSaid → Case
 case q e = record { question = q; expected = e }
 
+-- the table
 abbrev pub cases : List Case
 cases =
     case (lastFor 1000 12 Beginning) (address 11999)

@@ -3,6 +3,7 @@ ghost use mathlib.Core.Path.{_≡_};
 ghost use Rattle.geometry.specs.Place.{placeSaid};
 ghost use Rattle.write_error.specs.WriteError.{stepOf, targetAddress, targetWithin, targetOf};
 use geometry::Address;
+use geometry::HIGHEST_ADDRESS;
 use geometry::Place;
 use geometry::Refusal;
 use geometry::past_reserved;
@@ -21,15 +22,15 @@ fn target_number(p: Address, skip: u8) -> u64
     past_reserved(p, step(skip))
 }
 
-// The same as an address: where 32 bits don't hold it, the highest that they do. No cartridge has so many frames.
+// The same as an address: where 32 bits don't hold it, the highest that they do.
 pub fn target_address(p: Address, skip: u8) -> Address
     ensures { λ r. ⌜ r ≡ targetWithin p skip ⌝ }
 {
     let t = target_number(p, skip);
-    if t < 0xFFFFFFFF {
+    if t < (HIGHEST_ADDRESS as u64) {
         return Address(t as u32);
     }
-    Address(0xFFFFFFFF)
+    Address(HIGHEST_ADDRESS)
 }
 
 // The target of a write error at p, if it is below the limit.

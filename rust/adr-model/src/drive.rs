@@ -17,7 +17,7 @@ use crate::tape::{Shared, Storage, Tape};
 /// The ways of being hostile, counted.
 #[derive(Clone, Copy, Debug, PartialEq, Eq, Hash)]
 pub enum Deed {
-    /// A failed address reads as before.
+    /// At a failed address the old frame is read.
     FailedAsBefore,
     /// A failed address reads as the new frame.
     FailedAsNew,

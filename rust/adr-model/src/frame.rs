@@ -73,7 +73,7 @@ pub struct Label {
     pub number: SequenceNumber,
     /// Filemarks before this frame.
     pub filemarks: u32,
-    /// The address of the latest earlier marker.
+    /// Where the latest filemark before it stands.
     pub latest_marker: Option<Address>,
 }
 

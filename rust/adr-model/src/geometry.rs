@@ -79,13 +79,13 @@ pub struct Geometry {
     pub frames_per_track: u16,
     /// TRKS, tracks.
     pub tracks: u16,
-    /// 0 for a cartridge loaded at its beginning, 1 for one loaded at its
-    /// centre; any other value describes a cartridge without frames.
+    /// Where it is loaded: 0 the beginning, 1 the centre; any other value
+    /// describes a cartridge without frames.
     pub load_point: u8,
 }
 
 impl Geometry {
-    /// A cartridge loaded at its beginning.
+    /// A cartridge that is loaded at the beginning.
     #[must_use]
     pub fn beginning(frames_per_track: u16, tracks: u16) -> Geometry {
         Geometry {

@@ -7,7 +7,7 @@ use crate::geometry::{Address, Geometry, FIRST_USER};
 const WRONG_LENGTH: u8 = 1;
 /// Refusal number: too few frames.
 const TOO_FEW_FRAMES: u8 = 2;
-/// Refusal number: header invalid, or equal counts with unlike data.
+/// Refusal number: no valid header, or two of one count that differ.
 const UNFIT_HEADER: u8 = 3;
 
 /// The fields of a valid header of a cartridge that ends at `last`.

@@ -1,5 +1,5 @@
 //! A plain model of the layer between an archive program and an OnStream ADR
-//! tape drive (ADR Logical Tape Format 1.3 as narrowed in the scope), and a
+//! tape drive (ADR Logical Tape Format 1.3, by the rules of the scope), and a
 //! simulated drive that is hostile within the conduct it is held to.
 //!
 //! * [`geometry`], [`frame`], [`header`], [`judgement`]: what stands on tape.

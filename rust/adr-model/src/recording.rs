@@ -92,7 +92,7 @@ impl Recording {
         Recording::opened(Recording::try_open(geometry, sizes, newest))
     }
 
-    /// Opens a session at the end that a reading found, which goes on with
+    /// Opens a session behind what a reading has delivered, which goes on with
     /// the recording read; a refused opening returns an ended session.
     #[must_use]
     pub fn open_at_end(

@@ -270,7 +270,7 @@ fn earlier_ends() {
         let read = end_of(&two_ends().with_header(&fields));
         assert_eq!(read, (None, 12), "{fields:?}");
     }
-    // Passed over before 11 is looked at, refused with 11 where it ends.
+    // Below the named end it is passed over all the same; there it is refused with 11.
     let mut foreign = two_ends();
     foreign.frames.get_mut(&13).expect("EOD")[BLOCK_LENGTH + 60] = 1;
     assert_eq!(
@@ -287,7 +287,7 @@ fn earlier_ends() {
     assert_eq!(end_of(&below.with_header(&closed(10))), (Some(20), 0));
 }
 
-/// A reading at the end of a cartridge closed at 13, on another header.
+/// A reading to the EOD at 13 of a closed cartridge, on another header.
 fn read_on(fields: &HeaderFields) -> Reading {
     let (reading, _, refused) = Cartridge::closed_at(13).with_header(fields).read();
     assert_eq!(refused, 0);

@@ -413,8 +413,8 @@ struct Left {
 }
 
 /// Every run of a session: elements accepted at any time, any number of frames
-/// confirmed, any outstanding frame failing on WRITE or READ POSITION, with a
-/// few skips. Busy replies change nothing, and an early end leaves less tape:
+/// confirmed, any outstanding frame failing, told at a WRITE or a READ POSITION,
+/// with a few skips. Busy replies change nothing, and an early end leaves less tape:
 /// neither is tried.
 struct Search {
     window: Vec<u8>,

@@ -25,8 +25,8 @@ pub enum HeaderError<D> {
 /// nothing was written, it was cut short, as where the mains go. What stands on
 /// tape can be read on the newest header that reads:
 ///
-/// * Of a recording that was added, while a copy of the header that it was opened
-///   on or a newer one reads: everything that was there before, then elements of
+/// * Of a recording that was added, if that header is a copy of the one that it
+///   was opened on, or newer: everything that was there before, then elements of
 ///   this one from its first on, in order.
 /// * Of a fresh one, on a header of its own: the same with nothing before. Before
 ///   its first header was written: what was there before.

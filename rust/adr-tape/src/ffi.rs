@@ -122,7 +122,7 @@ mod calls {
             reply: Reply,
             frame: *const u8,
             frame_length: usize,
-        ) -> ReadTaken;
+        ) -> ReadReplied;
     }
 }
 
@@ -189,7 +189,7 @@ pub fn record_open_blank(geometry: Geometry, depth: u32, blocks: u32, tail: u32)
     unsafe { calls::adr_record_open_blank(geometry, depth, blocks, tail) }
 }
 
-/// `adr_record_open_at_end`: opens a recording at the end that a reading found.
+/// `adr_record_open_at_end`: opens a recording behind what a reading has delivered.
 #[must_use]
 pub fn record_open_at_end(reading: Reading, depth: u32, blocks: u32, tail: u32) -> RecordOutcome {
     // SAFETY: only numbers go over.
@@ -279,7 +279,7 @@ pub fn read_fetch(session: Reading) -> ReadFetched {
 
 /// `adr_read_reply`: brings the drive's reply and the frame read.
 #[must_use]
-pub fn read_reply(session: Reading, reply: Reply, frame: &[u8]) -> ReadTaken {
+pub fn read_reply(session: Reading, reply: Reply, frame: &[u8]) -> ReadReplied {
     // SAFETY: the slice is lent for the call and only read.
     unsafe { calls::adr_read_reply(session, reply, frame.as_ptr(), frame.len()) }
 }

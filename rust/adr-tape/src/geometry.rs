@@ -7,7 +7,7 @@ use crate::refusal::Refusal;
 
 /// Bytes of a block, and of the data in a frame.
 pub const BLOCK_LENGTH: usize = 32_768;
-/// Bytes of a whole frame: 32,768 of data, then 512 of AUX.
+/// Bytes of a whole frame: as many data bytes as a block has, then 512 of AUX.
 pub const FRAME_LENGTH: usize = 33_280;
 
 /// A frame address: a place on tape, counted from 0.
@@ -69,7 +69,7 @@ pub struct Geometry {
 }
 
 impl Geometry {
-    /// A cartridge loaded at its beginning.
+    /// A cartridge that is loaded at the beginning.
     #[must_use]
     pub const fn beginning(segtrk: u32, trks: u32) -> Geometry {
         Geometry {

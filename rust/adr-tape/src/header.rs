@@ -7,8 +7,8 @@ use crate::geometry::{header_addresses, Address, Geometry, FRAME_LENGTH};
 use crate::refusal::Refusal;
 use crate::reply::Sense;
 
-/// The newer of two header frames, by update count. An invalid one gives way
-/// to a valid one.
+/// The newer of two header frames, by update count. If one is not valid,
+/// the other is the newer.
 ///
 /// ```
 /// use adr_tape::{newer, Geometry, Refusal};

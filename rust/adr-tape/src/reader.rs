@@ -114,10 +114,10 @@ impl Reader {
     /// [`Refusal::Reply`], [`Refusal::Missing`], [`Refusal::Foreign`] or
     /// [`Refusal::NotFound`].
     pub fn reply<'f>(&mut self, reply: Reply, frame: &'f [u8]) -> Result<Delivery<'f>, Refusal> {
-        let taken = ffi::read_reply(self.session, reply.into(), frame);
-        self.session = taken.session;
-        Refusal::check(taken.number)?;
-        Ok(match taken.answer {
+        let replied = ffi::read_reply(self.session, reply.into(), frame);
+        self.session = replied.session;
+        Refusal::check(replied.number)?;
+        Ok(match replied.answer {
             ffi::BLOCK => Delivery::Block(frame.get(..BLOCK_LENGTH).unwrap_or(frame)),
             ffi::FILEMARK => Delivery::Filemark,
             ffi::END => Delivery::End,

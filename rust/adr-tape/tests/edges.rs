@@ -55,8 +55,8 @@ fn recorded() -> (Vec<(u32, Vec<u8>)>, Vec<u8>) {
     (frames, header)
 }
 
-/// "Block, filemark, block sent to 10, 11, 12; error at 11 skip 3: filemark
-/// at 14, block at 15 with 200-203 = 14."
+/// The example of 01, "Edges": the filemark between two blocks fails at 11 and
+/// moves to 14, which the block behind it names.
 #[test]
 fn marker_address_after_an_error() {
     let (frames, header) = recorded();

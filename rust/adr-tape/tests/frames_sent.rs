@@ -81,7 +81,7 @@ fn blocks(count: u16) -> Vec<Element<'static>> {
 }
 
 /// A session in which as much is sent as can be: elements, errors, errors of
-/// headers, and the smaller of D and W.
+/// headers, and how many frames an error costs.
 #[test]
 fn as_many_as_can_be() {
     for (depth, window, count, errors, header_errors, smaller) in [

@@ -258,7 +258,7 @@ fn calls_after_the_refusal() {
     }
 }
 
-/// What is known to be on tape grows to all that was accepted, and no further.
+/// The count of elements on tape grows to all that was accepted, and no further.
 #[test]
 fn on_tape() {
     let mut recorder = Recorder::open(GEOMETRY, SETUP, None).expect("opens");

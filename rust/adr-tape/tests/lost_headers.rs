@@ -200,7 +200,7 @@ const LOST: [Lost; 3] = [
         between: (&[], Some(Refusal::Missing)),
         wrong: (&[3, 2, 2], Some(Refusal::NotFound)),
     },
-    // One block less: EOD's number is one below the expected one, as where an
+    // One block less: EOD has the number of the last delivery, as where an
     // element was given up that still reads, and not even 12 tells.
     Lost {
         before: &[1, 1, 1],

@@ -6,8 +6,8 @@ use adr_model::random::Random;
 /// How a drive behaves: without a seed it does as it is told.
 ///
 /// A seed picks faults that a recording gets over: write errors, reported
-/// late and with frames buffered behind them, failed addresses that read as
-/// before, as the new frame or not at all, busy replies, corrected reads.
+/// late and with frames buffered behind them, failed addresses at which the old
+/// frame, the new one or nothing is read, busy replies, corrected reads.
 pub fn hostility(seed: Option<u64>) -> Hostility {
     let Some(seed) = seed else {
         // Blank stretches are passed over 32 addresses at a time.

@@ -11,7 +11,7 @@ use Rattle.drive.specs.declared.reply.Reply.{Reply}
 use Rattle.judgement.specs.declared.told.Told.{Told}
 use Rattle.reading_state.specs.Reply as reply
 use Rattle.reading_state.specs.declared.state.State.{State as Reading}
-use Rattle.reading_state.proofs.ReplyView.{Taken}
+use Rattle.reading_state.proofs.ReplyView.{TakenIn}
 use Rattle.reading_state.proofs.ListedReplies.{taken-listed, listed-taken}
 use Rattle.archive_lists.specs.Tape.{Tape}
 use Rattle.archive_lists.specs.Readings as readings
@@ -22,7 +22,7 @@ use Rattle.archive_lists.proofs.reading.Invariant.{Under, Ordered, locates, cro
 
 -- what a reading has sent, and awaits the reply to
 record Issued (s : Reading) (lent : List ℕ) (c : Command) : Type 0 where
-  takes : Taken s lent
+  takes : TakenIn s lent
   is : s .exchange .command ≡ c
   no-write : commandCode c ≡ 0x0A → ⊥
   no-position : commandCode c ≡ 0x34 → ⊥

@@ -1,5 +1,5 @@
 -- A session that was opened at the end of a reading starts behind what the reading delivered. Assumes nothing.
-use Prim.Native.Nat.{ℕ, _+_, _-_, _%_, _^_, _≤_, _<_}
+use Prim.Native.Nat.{ℕ, _+_, _%_, _^_, _≤_, _<_}
 use mathlib.Core.Path.{_≡_, refl, sym, ap, subst, _∙_}
 use mathlib.Core.Bool.{Bool, true, false, _||_, not, true≢false}
 use mathlib.Core.List.{List}
@@ -261,13 +261,13 @@ module _ (told : Told) (last : ℕ) (t : Tape) (r : Reading) (earlier : List Ele
     quiet-there : Cartridge last t → NoneAbove last t end-at (told .pass) → Quiet last (told .pass) (length earlier) end-at t
     quiet-there cart none a f l u e i base = go (eq-or-lt-of-le l)
       where
-        eod-quiet : (end-at ≡ a) → (get32 (drop 32768 (here .frame)) 44 ≡ i) ⊎ (get32 (drop 32768 (here .frame)) 44 < i) → judgeFrame (unending last (told .pass)) (record { 0 = a }) (record { 0 = i }) (here .frame) ≡ judgement.skipped
+        eod-quiet : (end-at ≡ a) → (get32 (drop 32768 (here .frame)) 44 ≡ i) ⊎ (get32 (drop 32768 (here .frame)) 44 < i) → judgeFrame (unending last (told .pass)) (record { 0 = a }) (record { 0 = i }) (here .frame) ≡ judgement.passedOver
         eod-quiet at (inl same) = earlier-so (unending last (told .pass)) (record { 0 = a }) (record { 0 = i }) (here .frame) old-typed same (old-early a at)
         eod-quiet at (inr above) =
             below-so (unending last (told .pass)) (record { 0 = a }) (record { 0 = i }) (here .frame) Eod (unnamed (unending last (told .pass)) (record { 0 = a }) (old-early a at) Eod) old-typed above
 
-        go : (end-at ≡ a) ⊎ (end-at < a) → judgeFrame (unending last (told .pass)) (record { 0 = a }) (record { 0 = i }) f ≡ judgement.skipped
-        go (inl at) = subst (λ (x : List ℕ). judgeFrame (unending last (told .pass)) (record { 0 = a }) (record { 0 = i }) x ≡ judgement.skipped) (frame-at a f at e) (eod-quiet at (eq-or-lt-of-le (le-trans (old-eod .1) (omega (arith, count-is)))))
+        go : (end-at ≡ a) ⊎ (end-at < a) → judgeFrame (unending last (told .pass)) (record { 0 = a }) (record { 0 = i }) f ≡ judgement.passedOver
+        go (inl at) = subst (λ (x : List ℕ). judgeFrame (unending last (told .pass)) (record { 0 = a }) (record { 0 = i }) x ≡ judgement.passedOver) (frame-at a f at e) (eod-quiet at (eq-or-lt-of-le (le-trans (old-eod .1) (omega (arith, count-is)))))
         go (inr above) = other-pass (unending last (told .pass)) (record { 0 = a }) (record { 0 = i }) f (cart .long a f e) (none a f u above e)
 
     -- frames from the old end on are of another pass, or as the table has them

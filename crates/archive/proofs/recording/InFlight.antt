@@ -142,7 +142,7 @@ module _ {last pass : ℕ} {on-newest none-bears : Type 0} {prior : Prior} (w : 
 
   element-out : ElementStage (w .session) → Writing last (w .session) (w .drive) (l .k) (l .edge) (recordings.sent (Write a) f) → ElementGoesOut last pass (prior .base) xs (w .drive) (prior .same) (a .0) f
   element-out st (elements.under-way _ _ _ _ _ (elements.writes _ p due off low x)) =
-      let n = w .session .elements .first .0 + w .session .elements .outstanding in
+      let n = w .session .elements .queue .first .0 + w .session .elements .queue .outstanding in
       let taken-is = x .taken-is in
       let next-is = x .next-is in
       let spread = x .spread in
@@ -151,9 +151,9 @@ module _ {last pass : ℕ} {on-newest none-bears : Type 0} {prior : Prior} (w : 
       let least = most (w .session .elements .eod) (length xs) in
       let says = l .trailing .sent a f st q in
       let number : n ≡ sequenceNumber f = sym (says .found .number) in
-      let here : a .0 ≡ w .session .elements .next .0 = ap (λ (y : Address). y .0) p in
+      let here : a .0 ≡ w .session .elements .course .next .0 = ap (λ (y : Address). y .0) p in
       record {
-        user = subst (λ (b : ℕ). isUser last b ≡ true) (sym here) (ranges-user last (w .session .elements .next .0) (⊎-elim (λ z. inl (omega arith, omega (arith, off))) (λ z. inr (omega arith, low)) (x .zone)));
+        user = subst (λ (b : ℕ). isUser last b ≡ true) (sym here) (ranges-user last (w .session .elements .course .next .0) (⊎-elim (λ z. inl (omega arith, omega (arith, off))) (λ z. inr (omega arith, low)) (x .zone)));
         own = omega arith;
         among = omega arith;
         in-turn = λ i h. behind-held (l .k) i (length (w .drive .buffer)) _ n (sequenceNumber f) (numbered-at st x i h) (omega arith) number;

@@ -100,7 +100,7 @@ module _ {D W n : ℕ} {u : Tally} (s : State) (g : Flight) (y : Under D W n u s
   under-closed = under-as s (closedOf s) refl refl refl (λ t f. fit-closed s f) y
 
   -- EOD is not due before close, so close starts no closing headers
-  settled-closed : s .ended ≡ false → s .closed ≡ false → s .elements .pending ≡ 0 → (k : Stage) → s .stage ≡ k → After (settledBy k (closedOf s))
+  settled-closed : s .ended ≡ false → s .closed ≡ false → s .elements .queue .pending ≡ 0 → (k : Stage) → s .stage ≡ k → After (settledBy k (closedOf s))
   settled-closed going unclosed none S.OpeningHeaders st = under-closed
   settled-closed going unclosed none S.Elements st =
       pick-by After (s .elements .eod) (λ is. clash (eod-closed y is) unclosed)
@@ -111,8 +111,8 @@ module _ {D W n : ℕ} {u : Tally} (s : State) (g : Flight) (y : Under D W n u s
   under-settled : s .ended ≡ false → s .closed ≡ false → After (settledOf (closedOf s))
   unfolding settledOf
   under-settled going unclosed =
-      pick-by After (ltb 0 (s .elements .pending)) (λ _. under-closed)
-      (λ e. settled-closed going unclosed (let z = ltb-false 0 (s .elements .pending) e in omega arith) (s .stage) refl)
+      pick-by After (ltb 0 (s .elements .queue .pending)) (λ _. under-closed)
+      (λ e. settled-closed going unclosed (let z = ltb-false 0 (s .elements .queue .pending) e in omega arith) (s .stage) refl)
 
   abbrev Closed : OutcomeSaid → Type 0
   Closed r = After (r .session)

@@ -4,7 +4,6 @@ use Prim.Native.Nat.{ℕ, _+_, _-_, _*_, _≤_, _<_}
 use mathlib.Core.Path.{_≡_, ap, sym, _∙_}
 use mathlib.Core.Logic.{_⊎_, inl, inr}
 use native.Mathlib.Omega.{arith}
-use Rattle.geometry.specs.declared.address.Address.{Address}
 use Rattle.frame.specs.declared.header.Header.{Header}
 use Rattle.frame_bounds.specs.Bounds.{copiesAgain}
 use Rattle.frame_bounds.proofs.SmallerLaws.{below-smaller}
@@ -137,16 +136,16 @@ module _ {D : ℕ} (k : Stage) (st : InHeaders k) where
         let most = below-smaller (c .outstanding) D 5 (f .deep) (omega arith) in
         omega arith
 
-    pub failed-onward : {fewer y : ℕ} {p : Address} {z : copies.ProgressSaid} → fewer ≤ taken → x + copiesAgain D ≤ y → copying.FailedView c p z → Onward D fewer y k c z
+    pub failed-onward : {fewer y i : ℕ} {z : copies.ProgressSaid} → fewer ≤ taken → x + copiesAgain D ≤ y → copying.FailedView c i z → Onward D fewer y k c z
     failed-onward under over (copying.before _) = refused 8 (counts-more under (omega arith) f)
     failed-onward under over (copying.behind _) = refused 8 (counts-more under (omega arith) f)
-    failed-onward {p = p} under over (copying.failed low high) =
+    failed-onward {i = i} under over (copying.failed low high) =
         let held = f .counts .held in
         let tally = f .tally in
         let again = again-most in
-        let after = copies.failedAt c (p .0 - copies.oldestAddress c .0) (p .0 - copies.firstAddress c .0) in
+        let after = copies.failedAt c (i - copies.oldestCopy c) i in
         onward after (counts-more under (omega arith) f) (record {
-          counts = failed-counts c (f .counts) p low high;
+          counts = failed-counts c (f .counts) i low high;
           deep = omega arith;
           tally = omega (arith, gone-in k c st, gone-in k after st);
         }) (copying.onward-view after)

@@ -7,6 +7,7 @@ use native.Mathlib.Nat.{add-mul}
 use native.Mathlib.Omega.{arith}
 use borrow.Author.Tests.{ne-eqb}
 use lib.Dec.{eqb}
+use Rattle.geometry.specs.Cartridge.{copyAt}
 use Rattle.geometry.proofs.Impossible.{clash}
 use Rattle.geometry.proofs.PickLaws.{pick-by}
 use Rattle.frame_bounds.specs.Bounds.{smaller, copiesAgain}
@@ -16,17 +17,21 @@ use Rattle.drive.specs.declared.reply.Reply.{Reply}
 use Rattle.drive.proofs.CaseLaws.{case-parts}
 use Rattle.copies.specs.Copies as copies
 use Rattle.copies.proofs.ReplyView as copying
+use Rattle.elements.specs.Course as course
+use Rattle.elements.specs.Elements.{withCourse}
 use Rattle.elements.specs.Reply as reply
-use Rattle.elements.specs.declared.elements.Elements.{Elements}
+use Rattle.elements.specs.declared.course.Course.{Course}
 use Rattle.elements.proofs.ReplyView as steps
 use Rattle.recording_state.specs.State.{OutcomeSaid, endedOf, withCopies, withElements}
 use Rattle.recording_state.specs.Reply as recording
 use Rattle.recording_state.specs.Reply.{repliedOf, completedOf, headerReplyBy, elementReplyBy, stageReply, caseOf}
+use Rattle.recording_state.specs.declared.report.Report.{Report}
+use Rattle.recording_state.specs.declared.report.Report.the-variants as R
 use Rattle.recording_state.specs.declared.state.State.{State}
 use Rattle.recording_state.specs.declared.state.Stage.the-variants as S
 use Rattle.recording_state.proofs.Stages.{HeaderStage, ElementStage}
 use Rattle.recording_state.proofs.ReplyView as replying
-use Rattle.recording_state.proofs.ReplyView.{Failed, failed-of}
+use Rattle.recording_state.proofs.ReplyView.{onCopies, onElements, Failed, failed-of}
 use Rattle.archive_counts.specs.Counts.{isFailed}
 use Rattle.archive_counts.proofs.Tallies.{Tally, elementsMore, headersMore, adding}
 use Rattle.archive_counts.proofs.bound.ElementCounts as element
@@ -76,11 +81,11 @@ module _ {D W n : ℕ} {t : Tally} (s : State) (a : Awaits s) (f : Fit D W n t s
       (λ _. ended-fit (withElements s (y .elements)) (y .number) (f .sizes) (e .counts) h closed (f .once))
 
   -- by stage
-  stage-left : (u : Tally) (c : copies.ProgressSaid) (y : reply.SteppedSaid) → (HeaderStage s → Left u (headerReplyBy c s)) → (ElementStage s → Left u (elementReplyBy y s))
-      → (s .stage ≡ S.Done → u ≡ t) → Left u (stageReply s c y)
-  stage-left u c y h e d = go (replying.stage-view s c y)
+  stage-left : (u : Tally) (x : Report) → (HeaderStage s → Left u (headerReplyBy (onCopies s x) s)) → (ElementStage s → Left u (elementReplyBy (onElements s x) s))
+      → (s .stage ≡ S.Done → u ≡ t) → Left u (stageReply s x)
+  stage-left u x h e d = go (replying.stage-view s x)
     where
-      go : {z : OutcomeSaid} → replying.StageView s c y z → Left u z
+      go : {z : OutcomeSaid} → replying.StageView s x z → Left u z
       go (replying.in-headers st) = h st
       go (replying.in-elements st) = e st
       go (replying.in-done st) = ending-left u (d st) 8
@@ -93,20 +98,20 @@ module _ {D W n : ℕ} {t : Tally} (s : State) (a : Awaits s) (f : Fit D W n t s
   same-left r {v} e g = subst (λ (u : Tally). Fit D W n u v) (sym e) g
 
   -- so many frames are taken and so many errors met, of the kind that the stage writes
-  counted-left : (r : Reply) (k i : ℕ) → heard s r t ≡ adding (s .stage) k i t → (c : copies.ProgressSaid) (y : reply.SteppedSaid)
-      → (HeaderStage s → header.Onward D (k + t .headers) ((i + t .header-errors) * copiesAgain D) (s .stage) (s .copies) c)
-      → (ElementStage s → element.Stepped D W n (k + t .taken) ((i + t .errors) * smaller D W) (s .elements) (y .elements))
-      → Left (heard s r t) (stageReply s c y)
-  counted-left r k i is c y h e =
-      subst (λ (u : Tally). Left u (stageReply s c y)) (sym is)
-      (stage-left (adding (s .stage) k i t) c y
-      (λ st. subst (λ (u : Tally). Left u (headerReplyBy c s)) (sym (adding-headers s k i t st)) (header-left (headersMore k i t) (f .elements) (h st)))
-      (λ st. subst (λ (u : Tally). Left u (elementReplyBy y s)) (sym (adding-elements s k i t st)) (element-left (elementsMore k i t) y (f .headers) (e st)))
+  counted-left : (r : Reply) (k i : ℕ) → heard s r t ≡ adding (s .stage) k i t → (x : Report)
+      → (HeaderStage s → header.Onward D (k + t .headers) ((i + t .header-errors) * copiesAgain D) (s .stage) (s .copies) (onCopies s x))
+      → (ElementStage s → element.Stepped D W n (k + t .taken) ((i + t .errors) * smaller D W) (s .elements) (onElements s x .elements))
+      → Left (heard s r t) (stageReply s x)
+  counted-left r k i is x h e =
+      subst (λ (u : Tally). Left u (stageReply s x)) (sym is)
+      (stage-left (adding (s .stage) k i t) x
+      (λ st. subst (λ (u : Tally). Left u (headerReplyBy (onCopies s x) s)) (sym (adding-headers s k i t st)) (header-left (headersMore k i t) (f .elements) (h st)))
+      (λ st. subst (λ (u : Tally). Left u (elementReplyBy (onElements s x) s)) (sym (adding-elements s k i t st)) (element-left (elementsMore k i t) (onElements s x) (f .headers) (e st)))
       (adding-done s k i t))
 
   taken-left : (r : Reply) → caseOf s r ≡ writeGood → Left (heard s r t) (recording.takenOf s)
   taken-left r z =
-      counted-left r 1 0 (heard-as s r t z) _ (reply.kept (reply.takenOf (s .elements)))
+      counted-left r 1 0 (heard-as s r t z) R.Taken
       (λ st. header.more _ (header.counts-more (omega arith) (no-more (t .header-errors) (copiesAgain D)) (header.counts-taken (s .stage) st (s .copies) (f .headers) (room r z .headers st))))
       (λ st. record {
         counts = element.counts-more _ (element.counts-taken (s .elements) (f .elements) (f .sizes .narrow) (room r z .elements st)) (omega arith) (no-more (t .errors) (smaller D W));
@@ -115,19 +120,18 @@ module _ {D W n : ℕ} {t : Tally} (s : State) (a : Awaits s) (f : Fit D W n t s
 
   failed-left : (r : Reply) → Failed (caseOf s r) → Left (heard s r t) (recording.failedOf s (r .position) (r .skip))
   failed-left r z =
-      counted-left r 0 1 (⊎-elim (heard-as s r t) (heard-as s r t) z) _ (reply.failedOf (s .setup .tail) (s .elements) (r .position) (r .skip))
-      (λ st. header.failed-onward (s .stage) st (s .copies) (f .headers) (omega arith) (one-more (t .header-errors) (copiesAgain D)) (copying.failed-view (s .copies) (r .position)))
+      counted-left r 0 1 (⊎-elim (heard-as s r t) (heard-as s r t) z) (R.Failed (r .position) (r .skip))
+      (λ st. header.failed-onward (s .stage) st (s .copies) (f .headers) (omega arith) (one-more (t .header-errors) (copiesAgain D)) (copying.failed-view (s .copies) (copyAt (s .copies .group) (r .position .0))))
       (λ _. element.failed-stepped (s .elements) (f .elements) (omega arith) (one-more (t .errors) (smaller D W)) (steps.failed-view (s .setup .tail) (s .elements) (r .position) (r .skip)))
 
   -- nothing is taken and nothing fails: what is counted stays, and so do the elements' own counts where they are given
-  other-left : (c : copies.ProgressSaid) (y : reply.SteppedSaid) → (HeaderStage s → header.Onward D (t .headers) (t .header-errors * copiesAgain D) (s .stage) (s .copies) c)
-      → element.Stepped D W n (t .taken) (t .errors * smaller D W) (s .elements) (y .elements) → Left t (stageReply s c y)
-  other-left c y h e = stage-left t c y (λ st. header-left t (f .elements) (h st)) (λ _. element-left t y (f .headers) e) (λ _. refl)
+  other-left : (x : Report) → (HeaderStage s → header.Onward D (t .headers) (t .header-errors * copiesAgain D) (s .stage) (s .copies) (onCopies s x))
+      → element.Stepped D W n (t .taken) (t .errors * smaller D W) (s .elements) (onElements s x .elements) → Left t (stageReply s x)
+  other-left x h e = stage-left t x (λ st. header-left t (f .elements) (h st)) (λ _. element-left t (onElements s x) (f .headers) e) (λ _. refl)
 
-  -- where the counts of the elements are what they were
-  kept : (e : Elements) → e .outstanding ≡ s .elements .outstanding → e .pending ≡ s .elements .pending → e .eod ≡ s .elements .eod
-      → element.Stepped D W n (t .taken) (t .errors * smaller D W) (s .elements) e
-  kept e p q b = element.same-stepped (s .elements) e (f .elements) p q b
+  -- where only the elements' course changes
+  kept : (k : Course) → element.Stepped D W n (t .taken) (t .errors * smaller D W) (s .elements) (withCourse (s .elements) k)
+  kept k = element.same-stepped (s .elements) k (f .elements)
 
   pub reply-fit : (r : Reply) {y : OutcomeSaid} → replying.ReplyView s r y → Left (heard s r t) y
   reply-fit r (replying.unasked (inl z)) = clash z (a .going)
@@ -135,16 +139,16 @@ module _ {D W n : ℕ} {t : Tally} (s : State) (a : Awaits s) (f : Fit D W n t s
   reply-fit r (replying.busy z) = same-left r (⊎-elim (λ k. heard-case s r t k refl refl) (⊎-elim (λ k. heard-case s r t k refl refl) (λ k. heard-case s r t k refl refl)) z) (fit-repeated s f (a .waiting))
   reply-fit r (replying.located z) =
       same-left r (heard-case s r t z refl refl)
-      (other-left _ _ (λ st. header.more _ (header.counts-located (s .stage) st (s .copies) (f .headers))) (kept (reply.locatedOf (s .elements) (recording.addressOf s)) refl refl refl))
+      (other-left _ (λ st. header.more _ (header.counts-located (s .stage) st (s .copies) (f .headers))) (kept (course.locatedOf (s .elements .course) (recording.addressOf s))))
   reply-fit r (replying.taken z) = taken-left r z
   reply-fit r (replying.counted z) =
       same-left r (heard-case s r t z refl refl)
-      (other-left _ _ (λ st. header.counted-onward (s .stage) st (s .copies) (f .headers) (copying.counted-view (s .copies) (r .buffered)))
+      (other-left _ (λ st. header.counted-onward (s .stage) st (s .copies) (f .headers) (copying.counted-view (s .copies) (r .buffered)))
       (element.counted-stepped (s .elements) (f .elements) (steps.counted-view (s .elements) (r .buffered))))
   reply-fit r (replying.failed z) = failed-left r z
   reply-fit r (replying.overflowed z) =
       same-left r (heard-case s r t z refl refl)
-      (other-left _ _ (λ _. header.refused 8 (f .headers)) (kept (reply.overflowedOf (s .elements) (recording.addressOf s)) refl refl refl))
+      (other-left _ (λ _. header.refused 8 (f .headers)) (kept (course.overflowedOf (s .elements .course) (recording.addressOf s))))
   reply-fit r (replying.unlisted z) =
       same-left r (heard-neither s r t (ne-eqb (caseOf s r) writeGood (λ e. z (replying.taken e))) (unfailed (isFailed (caseOf s r)) refl)) (fit-ended s f 8)
     where

@@ -102,8 +102,8 @@ module _ {D W n : ℕ} {t : Tally} (s : State) (f : Fit D W n t s) where
 
   pub fit-accepted : (mark : Bool) → isFull s ≡ false → Fit D W (n + 1) t (withElement s mark)
   fit-accepted mark room =
-      let below : s .elements .pending < W = omega (arith, ltb-false (s .setup .highest) (s .elements .pending) room, f .sizes .width-is) in
-      let small : (s .elements .pending + 1) % 2 ^ 16 ≡ s .elements .pending + 1 = mod-eq-of-lt (omega (arith, f .sizes .narrow)) in
+      let below : s .elements .queue .pending < W = omega (arith, ltb-false (s .setup .highest) (s .elements .queue .pending) room, f .sizes .width-is) in
+      let small : (s .elements .queue .pending + 1) % 2 ^ 16 ≡ s .elements .queue .pending + 1 = mod-eq-of-lt (omega (arith, f .sizes .narrow)) in
       record {
         sizes = f .sizes;
         elements = element.counts-accepted (s .elements) (f .elements) mark below (f .sizes .narrow);
@@ -130,7 +130,7 @@ module _ {D W n : ℕ} {t : Tally} (s : State) (f : Fit D W n t s) where
   pub fit-ended : (k : ℕ) → Fit D W n t (endedOf s k)
   fit-ended k = ended-fit s k (f .sizes) (f .elements) (f .headers) (f .closed) (f .once)
 
-  -- elements that are not on tape are given up: none of them is counted any more
+  -- what is not on tape is given up: none of it is counted any more
   pub fit-given-up : isSpent s ≡ true → Fit D W n t (givenUpOf s)
   fit-given-up is =
       let not = f .spare is in
@@ -164,7 +164,7 @@ module _ {D W n : ℕ} {t : Tally} (s : State) (f : Fit D W n t s) where
   -- ---- every element that was due is on tape
 
   -- EOD becomes due: then nothing was, so no WRITE was asked
-  pub fit-eod : ElementStage s → s .ended ≡ false → s .elements .pending ≡ 0 → s .elements .eod ≡ false → s .closed ≡ true → Fit D W n t (eodDue s)
+  pub fit-eod : ElementStage s → s .ended ≡ false → s .elements .queue .pending ≡ 0 → s .elements .eod ≡ false → s .closed ≡ true → Fit D W n t (eodDue s)
   fit-eod st going none not is = record {
     sizes = f .sizes;
     elements = element.counts-eod (s .elements) (f .elements) none not some;
@@ -187,7 +187,7 @@ module _ {D W n : ℕ} {t : Tally} (s : State) (f : Fit D W n t s) where
     asked = λ _ _ _. record { elements = λ e. never (cc); headers = λ _. record { due = omega arith; space = f .sizes .deep } };
   }
 
-  settled-by-fit : s .ended ≡ false → s .elements .pending ≡ 0 → (k : Stage) → s .stage ≡ k → Fit D W n t (settledBy k s)
+  settled-by-fit : s .ended ≡ false → s .elements .queue .pending ≡ 0 → (k : Stage) → s .stage ≡ k → Fit D W n t (settledBy k s)
   settled-by-fit going none S.OpeningHeaders st = f
   settled-by-fit going none S.Elements st =
       pick-by (Fit D W n t) (s .elements .eod) (λ _. fit-closing st going) (λ not. pick-by (Fit D W n t) (s .closed) (λ is. fit-eod st going none not is) (λ _. f))
@@ -197,5 +197,5 @@ module _ {D W n : ℕ} {t : Tally} (s : State) (f : Fit D W n t s) where
   pub fit-settled : s .ended ≡ false → Fit D W n t (settledOf s)
   unfolding settledOf
   fit-settled going =
-      pick-by (Fit D W n t) (ltb 0 (s .elements .pending)) (λ _. f)
-      (λ e. settled-by-fit going (let z = ltb-false 0 (s .elements .pending) e in omega arith) (s .stage) refl)
+      pick-by (Fit D W n t) (ltb 0 (s .elements .queue .pending)) (λ _. f)
+      (λ e. settled-by-fit going (let z = ltb-false 0 (s .elements .queue .pending) e in omega arith) (s .stage) refl)

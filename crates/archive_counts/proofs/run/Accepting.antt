@@ -19,7 +19,7 @@ use Rattle.recording_state.specs.declared.state.State.{State}
 use Rattle.recording_state.proofs.BlockPlace.{place-inside}
 use Rattle.recording_state.proofs.FetchView.{both}
 use Rattle.recording_state.proofs.WindowLaws.{put-length}
-use Rattle.elements.specs.Elements.{numberOf}
+use Rattle.elements.specs.Queue.{numberOf}
 use Rattle.archive_lists.specs.Recordings as recordings
 use Rattle.archive_lists.specs.Recordings.{Element, block, filemark, World, acceptedAfter}
 use Rattle.archive_counts.specs.Acceptable.{Acceptable}
@@ -27,14 +27,14 @@ use Rattle.archive_counts.proofs.run.Goes.{Account, Goes, goes-call}
 use Rattle.archive_counts.proofs.run.Calm.{Noted, lent-same}
 use Rattle.archive_counts.proofs.run.Standing.{Sizes, Stand}
 
-filemark-so : (s : State) → s .ended ≡ false → s .closed ≡ false → s .elements .pending ≤ s .setup .highest → filemarkOf s ≡ accepting (withElement s true)
+filemark-so : (s : State) → s .ended ≡ false → s .closed ≡ false → s .elements .queue .pending ≤ s .setup .highest → filemarkOf s ≡ accepting (withElement s true)
 unfolding filemarkOf
-filemark-so s e c l = pick-f _ (neither _ _ e c) ∙ pick-f _ (le-ltb (s .setup .highest) (s .elements .pending) l)
+filemark-so s e c l = pick-f _ (neither _ _ e c) ∙ pick-f _ (le-ltb (s .setup .highest) (s .elements .queue .pending) l)
 
-block-so : (s : State) (b window : List ℕ) → s .ended ≡ false → s .closed ≡ false → length b ≡ 32768 → length window ≡ windowLength s → s .elements .pending ≤ s .setup .highest
+block-so : (s : State) (b window : List ℕ) → s .ended ≡ false → s .closed ≡ false → length b ≡ 32768 → length window ≡ windowLength s → s .elements .queue .pending ≤ s .setup .highest
     → blockOf s b window ≡ record { result = accepting (withElement s false); window = putBlock window (placeOf s) b }
 unfolding blockOf
-block-so s b window e c full long l = pick-f _ (neither _ _ e c) ∙ pick-t _ (both (eq-eqb _ _ full) (eq-eqb _ _ long)) ∙ pick-f _ (le-ltb (s .setup .highest) (s .elements .pending) l)
+block-so s b window e c full long l = pick-f _ (neither _ _ e c) ∙ pick-t _ (both (eq-eqb _ _ full) (eq-eqb _ _ long)) ∙ pick-f _ (le-ltb (s .setup .highest) (s .elements .queue .pending) l)
 
 -- the world behind an accept, given the outcome, the window and whether it was lent as left
 abbrev accepted : World → OutcomeSaid → List ℕ → Bool → Element → World
@@ -53,7 +53,7 @@ module _ {setup : Setup} {limit : ℕ} (sizes : Sizes setup limit) where
       let k = s .calm in
       let pending = s .pending-are .pending-is in
       let narrow = sizes .narrow in
-      let small : (w .session .elements .pending + 1) % 2 ^ 16 ≡ w .session .elements .pending + 1 = mod-eq-of-lt (omega arith) in
+      let small : (w .session .elements .queue .pending + 1) % 2 ^ 16 ≡ w .session .elements .queue .pending + 1 = mod-eq-of-lt (omega arith) in
       let noted : Noted _ (accepted w (accepting (withElement (w .session) mark)) window unaltered x .notes) =
       record { accepted = ap (λ (ys : List Element). ys ++ x ∷ []) (k .noted .accepted); unaltered = same; ungiven = k .noted .ungiven } in
       record {
@@ -71,7 +71,7 @@ module _ {setup : Setup} {limit : ℕ} (sizes : Sizes setup limit) where
   accept-one {P} {t} {p = p} w filemark _ s room g =
       let k = s .calm in
       let pending = s .pending-are .pending-is in
-      let low : w .session .elements .pending ≤ w .session .setup .highest = subst (λ (y : Setup). w .session .elements .pending ≤ y .highest) (sym (k .setup-is)) (omega arith) in
+      let low : w .session .elements .queue .pending ≤ w .session .setup .highest = subst (λ (y : Setup). w .session .elements .queue .pending ≤ y .highest) (sym (k .setup-is)) (omega arith) in
       let so = filemark-so (w .session) (k .between .going) (k .closed-is) low in
       goes-call (recordings.accepts-filemark (inl (ap (λ (y : OutcomeSaid). y .number) so)))
       (subst (λ (y : OutcomeSaid). Goes (accepted w y (w .window) (w .notes .unaltered) filemark) t P) (sym so)
@@ -80,12 +80,12 @@ module _ {setup : Setup} {limit : ℕ} (sizes : Sizes setup limit) where
   accept-one {P} {t} {p = p} w (block b) full s room g =
       let k = s .calm in
       let pending = s .pending-are .pending-is in
-      let low : w .session .elements .pending ≤ w .session .setup .highest = subst (λ (y : Setup). w .session .elements .pending ≤ y .highest) (sym (k .setup-is)) (omega arith) in
+      let low : w .session .elements .queue .pending ≤ w .session .setup .highest = subst (λ (y : Setup). w .session .elements .queue .pending ≤ y .highest) (sym (k .setup-is)) (omega arith) in
       let so = block-so (w .session) b (w .window) (k .between .going) (k .closed-is) (full .0) (k .wide) low in
       let window : List ℕ = putBlock (w .window) (placeOf (w .session)) b in
       let unaltered : Bool = w .notes .unaltered && agree (w .window) (w .window) in
       let inside : placeOf (w .session) * 32768 + 32768 ≤ length (w .window) =
-      subst (λ (i : ℕ). placeOf (w .session) * 32768 + 32768 ≤ i) (sym (k .wide)) (place-inside (numberOf (w .session .elements) (w .session .elements .pending) .0) (w .session .setup .highest)) in
+      subst (λ (i : ℕ). placeOf (w .session) * 32768 + 32768 ≤ i) (sym (k .wide)) (place-inside (numberOf (w .session .elements .queue) (w .session .elements .queue .pending) .0) (w .session .setup .highest)) in
       goes-call (recordings.accepts-block b (w .window) (inl (ap (λ (y : StoredSaid). y .result .number) so)))
       (subst (λ (y : StoredSaid). Goes (accepted w (y .result) (y .window) unaltered (block b)) t P) (sym so)
       (g (accepted w (accepting (withElement (w .session) false)) window unaltered (block b))

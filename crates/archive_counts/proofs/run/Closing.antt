@@ -60,7 +60,7 @@ closed w x = record {
   notes = record { accepted = w .notes .accepted; unaltered = w .notes .unaltered; reported = w .notes .reported; givenUp = givenUpAfter (w .session) (w .notes .givenUp) };
 }
 
-close-so : (s : State) → s .ended ≡ false → s .closed ≡ false → s .stage ≡ S.Elements → s .elements .pending ≡ 0 → s .elements .eod ≡ false → closeOf s ≡ accepting (eodDue (closedOf s))
+close-so : (s : State) → s .ended ≡ false → s .closed ≡ false → s .stage ≡ S.Elements → s .elements .queue .pending ≡ 0 → s .elements .eod ≡ false → closeOf s ≡ accepting (eodDue (closedOf s))
 unfolding closeOf
 close-so s going unclosed st none not = pick-f _ (not-first (s .spent) going) ∙ pick-f _ (neither _ _ going unclosed) ∙ ap accepting (settled-closed (closedOf s) st none not refl)
 
@@ -73,7 +73,7 @@ module _ {setup : Setup} {limit : ℕ} (sizes : Sizes setup limit) where
       let p = s .pending-are in
       let pending = p .pending-is in
       let x = close-so (w .session) (k .between .going) (k .closed-is) (k .stage-is) pending (p .eod-is) in
-      let small : (w .session .elements .pending + 1) % 2 ^ 16 ≡ w .session .elements .pending + 1 = mod-eq-of-lt (omega arith) in
+      let small : (w .session .elements .queue .pending + 1) % 2 ^ 16 ≡ w .session .elements .queue .pending + 1 = mod-eq-of-lt (omega arith) in
       let noted : Noted xs (closed w (accepting (eodDue (closedOf (w .session)))) .notes) =
       record { accepted = k .noted .accepted; unaltered = k .noted .unaltered; ungiven = pick-f _ (not-first (w .session .spent) (k .between .going)) ∙ k .noted .ungiven } in
       let due : Stand setup limit true true xs 1 0 a (closed w (accepting (eodDue (closedOf (w .session))))) =

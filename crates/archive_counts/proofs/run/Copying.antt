@@ -5,7 +5,6 @@ use mathlib.Core.Bool.{Bool, true, false}
 use mathlib.Core.Logic.{_⊎_, inl, inr}
 use native.Mathlib.Nat.{mod-eq-of-lt}
 use native.Mathlib.Omega.{arith}
-use Rattle.geometry.specs.Place.{asAddress}
 use Rattle.geometry.proofs.Impossible.{clash}
 use Rattle.drive.specs.Command.{CommandSaid, write, locate, readPosition}
 use Rattle.copies.specs.Copies as copies
@@ -48,11 +47,11 @@ pub counted-so : (x : Copies) {y : copies.ProgressSaid} → copying.CountedView 
 counted-so x (copying.tooMany q) = absurd (omega arith)
 counted-so x (copying.counted _) = refl
 
-pub failed-so : (x : Copies) (p : ℕ) {y : copies.ProgressSaid} → copies.oldestAddress x .0 ≤ p → p < copies.nextAddress x .0 → copying.FailedView x (asAddress p) y
-    → y ≡ copies.onwardOf (copies.failedAt x (p - copies.oldestAddress x .0) (p - copies.firstAddress x .0))
-failed-so x p l h (copying.before q) = absurd (omega arith)
-failed-so x p l h (copying.behind q) = absurd (omega arith)
-failed-so x p l h (copying.failed _ _) = refl
+pub failed-so : (x : Copies) (i : ℕ) {y : copies.ProgressSaid} → copies.oldestCopy x ≤ i → i < x .copy → copying.FailedView x i y
+    → y ≡ copies.onwardOf (copies.failedAt x (i - copies.oldestCopy x) i)
+failed-so x i l h (copying.before q) = absurd (omega arith)
+failed-so x i l h (copying.behind q) = absurd (omega arith)
+failed-so x i l h (copying.failed _ _) = refl
 
 pub onward-more : (x : Copies) {y : copies.ProgressSaid} → x .copy < 5 → copying.OnwardView x y → y ≡ copies.more x
 onward-more x l (copying.unfinished _) = refl

@@ -15,6 +15,7 @@ use Rattle.drive.specs.declared.command.Command.the-variants.{Write, Locate, Re
 use Rattle.elements.specs.Elements.{baseOf}
 use Rattle.elements.specs.Due as due
 use Rattle.elements.specs.Reply as reply
+use Rattle.elements.specs.declared.course.Course.{Course}
 use Rattle.elements.specs.declared.elements.Elements.{Elements}
 use Rattle.elements.proofs.DueView as rule
 use Rattle.elements.proofs.ReplyView as steps
@@ -48,16 +49,16 @@ module _ {setup : Setup} {limit : ℕ} {closed eod : Bool} {xs : List Element} w
       let outs = s .out-is in
       let next = s .next-is in
       let deep = depth-is w k in
-      let at : Address = x .elements .next in
+      let at : Address = x .elements .course .next in
       let e : Elements = reply.takenOf (x .elements) in
       let f = writtenFrame x (w .window) in
       let y : State = replied x (Write at) (x .copies) e in
-      let small : (x .elements .outstanding + 1) % 2 ^ 16 ≡ x .elements .outstanding + 1 = mod-eq-of-lt (omega arith) in
-      let low : (x .elements .next .0 + 1) % 2 ^ 32 ≡ x .elements .next .0 + 1 = mod-eq-of-lt (omega arith) in
+      let small : (x .elements .queue .outstanding + 1) % 2 ^ 16 ≡ x .elements .queue .outstanding + 1 = mod-eq-of-lt (omega arith) in
+      let low : (x .elements .course .next .0 + 1) % 2 ^ 32 ≡ x .elements .course .next .0 + 1 = mod-eq-of-lt (omega arith) in
       takes w k y at
       (element-decides x (write (at .0)) (k .between .told) (k .stage-is)
       (due-write (s .placed) (omega arith) (omega arith) (room-below w s (at .0) (omega arith)) (λ q. off (sym next ∙ q)) (rule.due-view (x .setup .depth) (x .setup .tail) (x .elements))))
-      (by-elements (awaits x (Write at)) _ _ (k .stage-is) ∙ ap accepting (settled-pending y (omega arith)))
+      (by-elements (awaits x (Write at)) _ (k .stage-is) ∙ ap accepting (settled-pending y (omega arith)))
       (g (exchanged w y (taking (w .drive) f)) (record {
         calm = calm-after w (Write at) (x .copies) e (taking (w .drive) f) k;
         pending-are = s .pending-are;
@@ -69,7 +70,7 @@ module _ {setup : Setup} {limit : ℕ} {closed eod : Bool} {xs : List Element} w
 
   -- a LOCATE of address a is carried out, with nothing outstanding; close was not called, or something is pending
   located : {P : World → Type 0} {t : Account} {p : ℕ} (a : Address) (w : World) → Calm S.Elements setup closed xs w → Pending limit eod p (w .session .elements)
-      → w .session .elements .outstanding ≡ 0
+      → w .session .elements .queue .outstanding ≡ 0
       → due.dueOf (w .session .setup .depth) (w .session .setup .tail) (w .session .elements) ≡ due.send (locate (a .0)) → (1 ≤ p) ⊎ ((closed ≡ false) × (eod ≡ false))
       → ((v : World) → Stand setup limit closed eod xs p 0 (a .0) v → Goes v t P) → Goes w t P
   located a w k pending outs is lively g =
@@ -77,7 +78,7 @@ module _ {setup : Setup} {limit : ℕ} {closed eod : Bool} {xs : List Element} w
       let e : Elements = reply.locatedOf (x .elements) a in
       let y : State = replied x (Locate a) (x .copies) e in
       locates w k y a (element-decides x (locate (a .0)) (k .between .told) (k .stage-is) is)
-      (by-elements (awaits x (Locate a)) _ _ (k .stage-is)
+      (by-elements (awaits x (Locate a)) _ (k .stage-is)
       ∙ ap accepting (⊎-elim (λ q. settled-pending y (let z = pending .pending-is in omega arith)) (λ q. settled-open y (k .stage-is) (k .closed-is ∙ q .0) (pending .eod-is ∙ q .1)) lively))
       (g (exchanged w y (moved (w .drive) (a .0))) (record {
         calm = calm-after w (Locate a) (x .copies) e (moved (w .drive) (a .0)) k;
@@ -95,7 +96,7 @@ module _ {setup : Setup} {limit : ℕ} {closed eod : Bool} {xs : List Element} w
       let x = w .session in
       let target = s .target-is in
       let ends = s .pending-are .limit-is in
-      located (x .elements .target) w (s .calm) (s .pending-are) (s .out-is) (due-locate (s .unplaced) (omega arith) (rule.due-view (x .setup .depth) (x .setup .tail) (x .elements))) lively
+      located (x .elements .course .target) w (s .calm) (s .pending-are) (s .out-is) (due-locate (s .unplaced) (omega arith) (rule.due-view (x .setup .depth) (x .setup .tail) (x .elements))) lively
       (λ v y. g v (subst (λ (i : ℕ). Stand setup limit closed eod xs p 0 i v) target y))
 
   -- rule 5: from 2,990 the next address is 3,000
@@ -106,7 +107,7 @@ module _ {setup : Setup} {limit : ℕ} {closed eod : Bool} {xs : List Element} w
       let next = s .next-is in
       let deep = depth-is w (s .calm) in
       located (asAddress 3000) w (s .calm) (s .pending-are) (s .out-is)
-      (due-jump (s .placed) (omega (arith, s .out-is, s .pending-are .pending-is)) (s .out-is) (omega arith) (room-below w s (x .elements .next .0) (omega arith)) next
+      (due-jump (s .placed) (omega (arith, s .out-is, s .pending-are .pending-is)) (s .out-is) (omega arith) (room-below w s (x .elements .course .next .0) (omega arith)) next
       (rule.due-view (x .setup .depth) (x .setup .tail) (x .elements))) (inl least) g
 
   -- rule 2: everything pending is outstanding
@@ -134,7 +135,7 @@ module _ {setup : Setup} {limit : ℕ} {closed eod : Bool} {xs : List Element} w
       (steps.failed-view (x .setup .tail) (x .elements) (asAddress a) skip) in
       let y : State = replied x ReadPosition (x .copies) e in
       meets w (s .calm) y (s .drive-holds) least a skip refl (asks w s least)
-      (by-elements (awaits x ReadPosition) _ _ (s .calm .stage-is) ∙ ap (λ (z : reply.SteppedSaid). elementReplyBy z (awaits x ReadPosition)) step
+      (by-elements (awaits x ReadPosition) _ (s .calm .stage-is) ∙ ap (λ (z : reply.SteppedSaid). elementReplyBy z (awaits x ReadPosition)) step
       ∙ ap accepting (settled-pending y (omega (arith, left .pending-is))))
       (g (exchanged w y (failed (w .drive))) (record {
         calm = calm-after w ReadPosition (x .copies) e (failed (w .drive)) (s .calm);
@@ -152,17 +153,17 @@ module _ {setup : Setup} {limit : ℕ} {closed eod : Bool} {xs : List Element} w
       let k = s .calm in
       let pending = s .pending-are .pending-is in
       let outs = s .out-is in
-      let i : ℕ = x .elements .outstanding - 0 in
+      let i : ℕ = x .elements .queue .outstanding - 0 in
       let e : Elements = reply.confirmedOf (x .elements) i in
       let c = confirmed-as (x .elements) i in
       let y : State = replied x ReadPosition (x .copies) e in
       confirms w k (settledOf y) (s .drive-holds) (asks w s least)
-      (by-elements (awaits x ReadPosition) _ _ (k .stage-is) ∙ ap (λ (z : reply.SteppedSaid). elementReplyBy z (awaits x ReadPosition)) (counted-so (x .elements) (steps.counted-view (x .elements) 0)))
+      (by-elements (awaits x ReadPosition) _ (k .stage-is) ∙ ap (λ (z : reply.SteppedSaid). elementReplyBy z (awaits x ReadPosition)) (counted-so (x .elements) (steps.counted-view (x .elements) 0)))
       (λ d held. g y (exchanged w (settledOf y) d) refl (record {
         calm = calm-after w ReadPosition (x .copies) e d k;
         pending-are = confirmed-pending (x .elements) i 0 (omega arith) (s .pending-are);
         out-is = c .out-is ∙ omega arith;
-        next-is = ap (λ (z : Address). z .0) (c .next-is) ∙ s .next-is;
-        placed = c .locate-is ∙ s .placed;
+        next-is = ap (λ (z : Course). z .next .0) (c .course-is) ∙ s .next-is;
+        placed = ap (λ (z : Course). z .locate) (c .course-is) ∙ s .placed;
         drive-holds = held;
       }))

@@ -6,8 +6,8 @@ use mathlib.Core.Bool.{Bool, true, false}
 use mathlib.Core.List.{List, []}
 use mathlib.Core.Logic.{_⊎_, inl, inr, ⊎-elim}
 use native.Mathlib.Omega.{arith}
-use Rattle.geometry.specs.Place.{asAddress}
-use Rattle.geometry.specs.Cartridge.{headerAddress}
+use Rattle.geometry.specs.Cartridge.{headerAddress, copyAt}
+use Rattle.geometry.proofs.CopyPlaces.{copy-is}
 use Rattle.geometry.proofs.HeaderPlaces.{header-from-first}
 use Rattle.geometry.proofs.PickLaws.{pick-f}
 use Rattle.drive.specs.Command.{CommandSaid, write, locate, readPosition}
@@ -102,7 +102,7 @@ module _ {still : Still} where
       header-from-first (s .copies .group) (s .copies .copy) (omega arith) ∙ ap (λ (i : ℕ). headerAddress i 0 + s .copies .copy) (y .group-is) ∙ ap (λ (i : ℕ). headerAddress group 0 + i) copy in
       locates w k (replied s (Locate a) x (s .elements)) a
       (header-decides s (locate (a .0)) (k .between .told) st (due-locate (y .locate-is) (command.command-view (s .setup .depth) (s .copies))))
-      (by-headers (awaits s (Locate a)) _ _ st)
+      (by-headers (awaits s (Locate a)) _ st)
       (g (exchanged w (replied s (Locate a) x (s .elements)) (moved (w .drive) (a .0))) (record {
         calm = calm-after w (Locate a) x (s .elements) (moved (w .drive) (a .0)) k;
         elements-is = h .elements-is;
@@ -126,7 +126,7 @@ module _ {still : Still} where
       let f = writtenFrame s (w .window) in
       takes w k (replied s (Write a) x (s .elements)) a
       (header-decides s (write (a .0)) (k .between .told) st (due-write (y .locate-is) (omega arith) (omega arith) (command.command-view (s .setup .depth) (s .copies))))
-      (by-headers (awaits s (Write a)) _ _ st)
+      (by-headers (awaits s (Write a)) _ st)
       (g (exchanged w (replied s (Write a) x (s .elements)) (taking (w .drive) f)) (record {
         calm = calm-after w (Write a) x (s .elements) (taking (w .drive) f) k;
         elements-is = h .elements-is;
@@ -152,7 +152,7 @@ module _ {still : Still} where
   head-confirms w h why s so g =
       let r = awaits (w .session) ReadPosition in
       confirms w (h .calm) s (h .drive-holds) (asks w h why)
-      (by-headers r _ _ (in-headers still (w .session) (h .calm .stage-is))
+      (by-headers r _ (in-headers still (w .session) (h .calm .stage-is))
       ∙ ap (λ (y : copies.ProgressSaid). headerReplyBy y r) (counted-so (w .session .copies) (copying.counted-view (w .session .copies) 0)) ∙ so) g
 
   -- within a group
@@ -211,18 +211,17 @@ module _ {still : Still} where
       let copy = y .copy-is in
       let outs = y .out-is in
       let p : ℕ = headerAddress group 0 in
-      let first : copies.firstAddress (s .copies) .0 ≡ p = ap (λ (k : ℕ). headerAddress k 0) (y .group-is) in
-      let i : ℕ = p - copies.oldestAddress (s .copies) .0 in
-      let j : ℕ = p - copies.firstAddress (s .copies) .0 in
-      let none : s .copies .copy - s .copies .outstanding ≡ 0 = omega arith in
-      let oldest : copies.oldestAddress (s .copies) .0 ≡ p = omega (arith, first, none) in
-      let x : Copies = copies.failedAt (s .copies) i j in
-      let z : Copying group 1 0 true x = failed-copying (s .copies) i j one low (omega (arith, oldest)) (omega (arith, first)) y in
+      let i : ℕ = copyAt (s .copies .group) p in
+      let first : i ≡ 0 = ap (λ (k : ℕ). copyAt k p) (y .group-is) ∙ copy-is group 0 (omega arith) in
+      let before : ℕ = i - copies.oldestCopy (s .copies) in
+      let oldest : copies.oldestCopy (s .copies) ≡ 0 = omega arith in
+      let x : Copies = copies.failedAt (s .copies) before i in
+      let z : Copying group 1 0 true x = failed-copying (s .copies) before i one low (omega (arith, oldest, first)) first y in
       let r = awaits s ReadPosition in
-      let later : p < copies.nextAddress (s .copies) .0 = omega (arith, first) in
+      let later : i < s .copies .copy = omega (arith, first) in
       meets w (h .calm) (replied s ReadPosition x (s .elements)) (h .drive-holds) some p 0 refl (asks w h why)
-      (by-headers r _ _ (in-headers still s (h .calm .stage-is))
+      (by-headers r _ (in-headers still s (h .calm .stage-is))
       ∙ ap (λ (k : copies.ProgressSaid). headerReplyBy k r)
-      (failed-so (s .copies) p (omega (arith, oldest)) later (copying.failed-view (s .copies) (asAddress p)) ∙ onward-more x (let q = z .copy-is in omega arith) (copying.onward-view x)))
+      (failed-so (s .copies) i (omega (arith, oldest)) later (copying.failed-view (s .copies) i) ∙ onward-more x (let q = z .copy-is in omega arith) (copying.onward-view x)))
       (g (exchanged w (replied s ReadPosition x (s .elements)) (failed (w .drive)))
       (record { calm = calm-after w ReadPosition x (s .elements) (failed (w .drive)) (h .calm); elements-is = h .elements-is; copies-are = z }))

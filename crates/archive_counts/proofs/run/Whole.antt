@@ -80,10 +80,10 @@ module _ {setup : Setup} {limit : ℕ} (sizes : Sizes setup limit) where
       let seeks : Seek setup limit false false [] 0 at (withSession v x) =
       record {
         calm = c .calm;
-        pending-are = record { eod-is = eod-is; pending-is = ap (λ (y : Elements). y .pending) same; limit-is = ap (λ (y : Elements). y .limit .0) same ∙ limit-is };
-        out-is = ap (λ (y : Elements). y .outstanding) same;
-        target-is = ap (λ (y : Elements). y .target .0) same;
-        unplaced = ap (λ (y : Elements). y .locate) same;
+        pending-are = record { eod-is = eod-is; pending-is = ap (λ (y : Elements). y .queue .pending) same; limit-is = ap (λ (y : Elements). y .course .limit .0) same ∙ limit-is };
+        out-is = ap (λ (y : Elements). y .queue .outstanding) same;
+        target-is = ap (λ (y : Elements). y .course .target .0) same;
+        unplaced = ap (λ (y : Elements). y .course .locate) same;
       } in
       goes-twice (omega arith) (omega arith)
       (elements-go m e 1 xs v able batch enough room clear

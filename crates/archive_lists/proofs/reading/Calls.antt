@@ -38,7 +38,7 @@ right-length s r frame e a te = go (eqb (length frame) 33280) refl
   where
     go : (b : Bool) → eqb (length frame) 33280 ≡ b → length frame ≡ 33280
     go true h = eqb-true (length frame) 33280 h
-    go false h = no-effect (omega arith) (omega arith) (subst (λ (x : reply.TakenSaid). TakesEffect (replyNumber (x .said))) (short s r frame e a h) te)
+    go false h = no-effect (omega arith) (omega arith) (subst (λ (x : reply.RepliedSaid). TakesEffect (replyNumber (x .said))) (short s r frame e a h) te)
 
 module _ {told : Told} {t : Tape} (k : ReadTape told t) where
   reply-flight : (w : World) (r : Reply) (given : Option (List ℕ)) (frame : List ℕ) → w .notes .refused ≡ 0 → w .notes .end ≡ false → Under told t (w .session) (w .notes .deliveries)

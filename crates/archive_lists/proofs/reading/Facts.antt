@@ -36,7 +36,7 @@ Counts a (finished got e) = Unit {0}
 Counts a (stopped m) = Unit {0}
 
 advance-counts : (at a : ℕ) (j : JudgementSaid) (f : List ℕ) (n : ℕ) (got : List Element) (trail : Trail) → Counts a (going n got trail) → Counts (suc a) (advance j f at n got trail)
-advance-counts at a judgement.skipped f n got trail c = (c .0, omega (arith, c .1))
+advance-counts at a judgement.passedOver f n got trail c = (c .0, omega (arith, c .1))
 advance-counts at a (judgement.refused m) f n got trail c = tt
 advance-counts at a judgement.block f n got trail c = (length-append got _ ∙ ap (λ (k : ℕ). k + 1) (c .0), omega (arith, c .1))
 advance-counts at a judgement.filemark f n got trail c = (length-append got _ ∙ ap (λ (k : ℕ). k + 1) (c .0), omega (arith, c .1))
@@ -73,7 +73,7 @@ more-spread a (finished got e) c = tt
 more-spread a (stopped m) c = tt
 
 advance-spread : (at a : ℕ) → 10 ≤ a → (j : JudgementSaid) (f : List ℕ) (n : ℕ) (got : List Element) (trail : Trail) → n ≤ a - 10 → Spread (suc a) (advance j f at n got trail)
-advance-spread at a l judgement.skipped f n got trail c = omega arith
+advance-spread at a l judgement.passedOver f n got trail c = omega arith
 advance-spread at a l (judgement.refused m) f n got trail c = tt
 advance-spread at a l judgement.block f n got trail c = omega arith
 advance-spread at a l judgement.filemark f n got trail c = omega arith
@@ -115,7 +115,7 @@ first-part xs got x n e p l =
     shorter (suc k) (y ∷ l) = ap (λ (m : ℕ). take (suc k) (take m (y ∷ l))) (add-one (suc k)) ∙ ap (λ (r : List Element). y ∷ r) (ap (λ (m : ℕ). take k (take m l)) (sym (add-one k)) ∙ shorter k l)
 
 advance-back : (xs : List Element) (at a : ℕ) (j : JudgementSaid) (f : List ℕ) (n : ℕ) (got : List Element) (trail : Trail) → Counts a (going n got trail) → Fits xs (advance j f at n got trail) → Fits xs (going n got trail)
-advance-back xs at a judgement.skipped f n got trail c h = h
+advance-back xs at a judgement.passedOver f n got trail c h = h
 advance-back xs at a (judgement.refused m) f n got trail c h = absurd h
 advance-back xs at a judgement.block f n got trail c h = (first-part xs got _ n (c .0) (h .0) (h .1), omega (arith, h .1))
 advance-back xs at a judgement.filemark f n got trail c h = (first-part xs got _ n (c .0) (h .0) (h .1), omega (arith, h .1))

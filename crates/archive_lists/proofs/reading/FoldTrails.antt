@@ -48,7 +48,7 @@ module _ (told : Told) (t : Tape) (small : told .last .0 + 65 < 2 ^ 32) where
     grown y = traces-alike got (got ++ y ∷ []) (length got) (λ i l. item-more got (y ∷ []) i l) (omega (arith, counts .0)) (traces-map (λ j b m. below-moves (suc a) (omega arith) m) x)
 
     advance-traces : (j : JudgementSaid) → judgeFrame told (record { 0 = a }) (record { 0 = n }) f ≡ j → Tracing (suc a) (advance j f a n got trail)
-    advance-traces judgement.skipped e = more-tracing a (going n got trail) x
+    advance-traces judgement.passedOver e = more-tracing a (going n got trail) x
     advance-traces (judgement.refused m) e = tt
     advance-traces judgement.block e =
         let y = block _ in

@@ -34,7 +34,7 @@ module _ {told : Told} {t : Tape} {xs : List Element} {end-at : ℕ} (k : ReadTa
     in-order = s .in-order;
     never-refused = never-12 (s .only-12);
     goes-on = λ g q. ⊎-elim (λ x. x) (λ x. absurd (x .1 xs end-at all)) (s .goes-on g (never-12 (s .only-12)) q);
-    taken = λ r given lent q along long. never-12 (s .taken r given lent q along long);
+    taken-in = λ r given lent q along long. never-12 (s .taken-in r given lent q along long);
     full = s .full;
     alone = s .alone;
     bounded = few;

@@ -29,13 +29,13 @@ use Rattle.frame.specs.Trail.{marked}
 use Rattle.frame.specs.declared.trail.Trail.{Trail}
 use Rattle.reading_state.specs.State.{withExpected, endOf}
 use Rattle.reading_state.specs.declared.state.State.{State as Reading}
-use Rattle.reading_state.proofs.ReplyView.{Taken, taken-so}
+use Rattle.reading_state.proofs.ReplyView.{TakenIn, taken-in-so}
 use Rattle.geometry.proofs.PastReserved.{past-reserved-least}
 use Rattle.geometry.proofs.UserFrames.{User, user-ranges, ranges-user, Stand, user-next}
 use Rattle.geometry.proofs.Landing.{Landing, before, across, behind, landing, past-user}
 use Rattle.archive_lists.specs.Tape.{Tape}
 use Rattle.archive_lists.specs.Readings as readings
-use Rattle.archive_lists.specs.Readings.{World, LentWith, replyNumber, delivered, endAfter, refusedAfter, repliesAfter, afterTaking, afterReply}
+use Rattle.archive_lists.specs.Readings.{World, LentWith, replyNumber, delivered, endAfter, refusedAfter, repliesAfter, afterReplying, afterReply}
 use Rattle.archive_lists.specs.Fold.{Reader, going, finished, stopped, advance, look, foldOf, wholeOf}
 use Rattle.archive_lists.proofs.tape.FoldLaws.{fold-user, Final, fold-final}
 use Rattle.archive_lists.proofs.reading.Bound.{Spent, few-further, few-crossed, few-jumped, few-ended}
@@ -56,14 +56,14 @@ land-low large l (behind h e) = omega arith
 
 module _ {told : Told} {t : Tape} (k : ReadTape told t) (w : World) (u : Under told t (w .session) (w .notes .deliveries))
     (r : Reply) (frame : List ℕ) (a : w .session .exchange .awaiting ≡ true) (long : length frame ≡ 33280) where
-  taken : Taken (w .session) frame
-  taken = record { phase = record { running = u .going-on; awaited = a }; long = long }
+  taken-in : TakenIn (w .session) frame
+  taken-in = record { phase = record { running = u .going-on; awaited = a }; long = long }
 
   case-is : {c : Command} {m : ℕ} → w .session .exchange .command ≡ c → Means r m → reply.caseOf (w .session) r ≡ commandCode c * 256 + m
   case-is {c} e means = ap (λ (x : Command). commandCode x * 256 + meaningOf (r .key) (r .asc) (r .ascq)) e ∙ ap (λ (x : ℕ). commandCode c * 256 + x) means
 
   pub answers : {c : Command} {m : ℕ} → w .session .exchange .command ≡ c → Means r m → reply.replyOf (w .session) r frame ≡ reply.replyBy (w .session) (commandCode c * 256 + m) frame
-  answers e means = taken-so (w .session) r frame taken (case-is e means)
+  answers e means = taken-in-so (w .session) r frame taken-in (case-is e means)
 
   -- a READ of a user frame
   module _ (b : Address) (e : w .session .exchange .command ≡ Read b) (place : b .0 ≡ w .session .position .next .0) (user : isUser (told .last .0) (w .session .position .next .0) ≡ true) where
@@ -90,8 +90,8 @@ module _ {told : Told} {t : Tape} (k : ReadTape told t) (w : World) (u : Under t
         ∙ ap (λ (x : Address). reply.judgedBy (judgeFrame told x (w .session .expected) frame) (w .session)) read-here
 
   module _ (n : w .notes .refused ≡ 0) (m : w .notes .end ≡ false) (g : w .session .exchange .again ≡ false) where
-    taken-as : {x : reply.TakenSaid} → reply.replyOf (w .session) r frame ≡ x → ReadInv told t (afterTaking w r frame x) → ReadInv told t (afterReply w r frame)
-    taken-as e i = subst (λ x. ReadInv told t (afterTaking w r frame x)) (sym e) i
+    replied-as : {x : reply.RepliedSaid} → reply.replyOf (w .session) r frame ≡ x → ReadInv told t (afterReplying w r frame x) → ReadInv told t (afterReply w r frame)
+    replied-as e i = subst (λ x. ReadInv told t (afterReplying w r frame x)) (sym e) i
 
     -- a reply that counts
     one-more : {i : ℕ} → Means r i → (i ≡ busy → ⊥) → repliesAfter r (w .notes .replies) ≡ w .notes .replies + 1
@@ -114,7 +114,7 @@ module _ {told : Told} {t : Tape} (k : ReadTape told t) (w : World) (u : Under t
     goes-on : (next expected : ℕ) (trail : Trail) (locate : Bool) (said : reply.DeliverySaid) → replyNumber said ≡ 0 → endAfter said (w .notes .end) ≡ w .notes .end
         → foldOf told t next ≡ going expected (w .notes .deliveries ++ delivered said frame) trail
         → Agreed (told .last .0) t (movedTo next locate expected trail) (w .at) (repliesAfter r (w .notes .replies)) readings.no-command
-        → ReadInv told t (afterTaking w r frame (reply.delivering (movedTo next locate expected trail) said))
+        → ReadInv told t (afterReplying w r frame (reply.delivering (movedTo next locate expected trail) said))
     goes-on next expected trail locate said z unended so-far agreed =
         under (unrefused said z) (unended ∙ m) (record { told-is = u .told-is; going-on = u .going-on; unfinished = u .unfinished; so-far = so-far }) agreed
 
@@ -123,7 +123,7 @@ module _ {told : Told} {t : Tape} (k : ReadTape told t) (w : World) (u : Under t
     landed : (b : Address) → w .session .exchange .command ≡ Locate b → Means r good → w .at ≡ b .0 → Stand (told .last .0) (b .0) → foldOf told t (b .0) ≡ going (w .session .expected .0) (w .notes .deliveries) (w .session .trail) → Spent (b .0) (w .notes .replies + 1) → ReadInv told t (afterReply w r frame)
     unfolding reply.replyBy
     landed b e means at here so-far few =
-        taken-as (answers e means ∙ ap (λ (x : Command). reply.delivering (movedTo (commandAddress x .0) false (w .session .expected .0) (w .session .trail)) reply.nothing) e)
+        replied-as (answers e means ∙ ap (λ (x : Command). reply.delivering (movedTo (commandAddress x .0) false (w .session .expected .0) (w .session .trail)) reply.nothing) e)
         (goes-on (b .0) (w .session .expected .0) (w .session .trail) false reply.nothing refl refl (so-far ∙ same-as)
         (to-read refl g (inl here) refl at (subst (Spent (b .0)) (sym (one-more means (λ q. omega arith))) few)))
 
@@ -158,7 +158,7 @@ module _ {told : Told} {t : Tape} (k : ReadTape told t) (w : World) (u : Under t
           → reply.replyOf (w .session) r frame ≡ reply.delivering (withExpected (reply.advancedOf (w .session)) (record { 0 = y }) written) said
           → ReadInv told t (afterReply w r frame)
       further means b x y trail written said same same-trail z unended at so-far replied =
-          taken-as
+          replied-as
           (replied
           ∙ ap (λ (q : Reading). reply.delivering q said) (moved-is (reply.addressOf (w .session) .0 + 1) (w .session .position .next .0 + 1) (w .session .position .locate) y written (ap (λ (q : ℕ). q + 1) place-is) (omega (arith, k .small, next-low)))
           ∙ ap (λ (q : ℕ). reply.delivering (movedTo (w .session .position .next .0 + 1) (w .session .position .locate) q written) said) same
@@ -169,14 +169,14 @@ module _ {told : Told} {t : Tape} (k : ReadTape told t) (w : World) (u : Under t
       -- a step that delivers nothing
       passes : {i : ℕ} → Means r i → (i ≡ busy → ⊥) → w .at ≡ w .session .position .next .0 + 1
           → foldOf told t (w .session .position .next .0 + 1) ≡ going (w .session .expected .0) (w .notes .deliveries) (w .session .trail)
-          → reply.replyOf (w .session) r frame ≡ reply.skippedOf (w .session) → ReadInv told t (afterReply w r frame)
+          → reply.replyOf (w .session) r frame ≡ reply.passedOverOf (w .session) → ReadInv told t (afterReply w r frame)
       passes means b at so-far replied = further means b (w .session .expected .0) (w .session .expected .0) (w .session .trail) (w .session .trail) reply.nothing refl refl refl refl at (so-far ∙ same-as) replied
 
       -- the fold stays where it ends or stops
       whole-is : {x : Reader} → Final x → foldOf told t (w .session .position .next .0 + 1) ≡ x → wholeOf told t ≡ x
       whole-is final so-far = fold-final told t (w .session .position .next .0 + 1) (told .last .0 + 1) (omega (arith, next-low)) final so-far
 
-      -- the address before the next one, after EOD
+      -- after EOD: one below the next address
       ended-here : endOf (reply.advancedOf (w .session)) .0 ≡ w .session .position .next .0
       ended-here =
           let low : (reply.addressOf (w .session) .0 + 1) % 2 ^ 32 ≡ reply.addressOf (w .session) .0 + 1 = mod-eq-of-lt (omega (arith, place-is, k .small, next-low)) in
@@ -186,7 +186,7 @@ module _ {told : Told} {t : Tape} (k : ReadTape told t) (w : World) (u : Under t
           → reply.replyOf (w .session) r frame ≡ reply.finishedOf (w .session)
           → ReadInv told t (afterReply w r frame)
       ends means b so-far replied =
-          taken-as replied
+          replied-as replied
           (over (unrefused reply.end refl) refl refl (u .going-on) refl g refl
           (record {
             told-is = u .told-is;
@@ -197,16 +197,16 @@ module _ {told : Told} {t : Tape} (k : ReadTape told t) (w : World) (u : Under t
 
       stopped-by : (i : ℕ) → (i ≡ 10) ⊎ (i ≡ 11) → foldOf told t (w .session .position .next .0 + 1) ≡ stopped i → reply.replyOf (w .session) r frame ≡ reply.ending (w .session) i → ReadInv told t (afterReply w r frame)
       stopped-by i (inl q) so-far replied =
-          taken-as (replied ∙ ap (reply.ending (w .session)) q)
+          replied-as (replied ∙ ap (reply.ending (w .session)) q)
           (halted m refl refl (stops (inl refl) (whole-is tt (so-far ∙ ap stopped q))))
       stopped-by i (inr q) so-far replied =
-          taken-as (replied ∙ ap (reply.ending (w .session)) q)
+          replied-as (replied ∙ ap (reply.ending (w .session)) q)
           (halted m refl refl (stops (inr refl) (whole-is tt (so-far ∙ ap stopped q))))
 
       judged-by : {i : ℕ} → Means r i → (i ≡ busy → ⊥) → w .at ≡ w .session .position .next .0 + 1 → (j : JudgementSaid) → JudgeView told (w .session .position .next) (w .session .expected) frame j
           → foldOf told t (w .session .position .next .0 + 1) ≡ advance j frame (w .session .position .next .0) (w .session .expected .0) (w .notes .deliveries) (w .session .trail)
           → reply.replyOf (w .session) r frame ≡ reply.judgedBy j (w .session) → ReadInv told t (afterReply w r frame)
-      judged-by means b at judgement.skipped v so-far replied = passes means b at so-far replied
+      judged-by means b at judgement.passedOver v so-far replied = passes means b at so-far replied
       judged-by means b at (judgement.refused i) v so-far replied = stopped-by i (refused-known long v) so-far replied
       judged-by means b at judgement.block v so-far replied = further means b (w .session .expected .0 + 1) _ (w .session .trail) _ reply.block (mod-eq-of-lt small-number) refl refl refl at so-far replied
       judged-by means b at judgement.filemark v so-far replied =
@@ -225,7 +225,7 @@ module _ {told : Told} {t : Tape} (k : ReadTape told t) (w : World) (u : Under t
       unfolding reply.replyBy
       jumped-so means unread =
           let there = w .session .position .next .0 in
-          taken-as
+          replied-as
           (answers e means
           ∙ ap (λ (q : Reading). reply.delivering q reply.nothing)
           (moved-is (pastReserved (reply.addressOf (w .session) .0 + 32)) (pastReserved (there + 32)) true (w .session .expected .0) (w .session .trail) (ap (λ (q : ℕ). pastReserved (q + 32)) place-is) (omega (arith, k .small, land-low (k .large) next-low (landing (there + 32))))))
@@ -248,14 +248,14 @@ module _ {told : Told} {t : Tape} (k : ReadTape told t) (w : World) (u : Under t
       lost-so : Means r endOfMedium → ((c : ℕ) → w .session .position .next .0 ≤ c → t c ≡ none) → ReadInv told t (afterReply w r frame)
       unfolding reply.replyBy
       lost-so means unread =
-          taken-as (answers e means)
+          replied-as (answers e means)
           (halted m refl refl (finds-no-end refl (fold-blank k (w .session .position .next .0) next-low unread ∙ u .so-far ∙ same-as)))
 
     -- ---- busy
 
     repeated : {c : Command} → w .session .exchange .command ≡ c → Means r busy → reply.replyOf (w .session) r frame ≡ reply.delivering (reply.repeatedOf (w .session)) reply.nothing → Ordered (told .last .0) (w .session) (w .notes .replies) c → Stood (w .session) (w .at) c → ReadInv told t (afterReply w r frame)
     repeated {c} e means replied o st =
-        taken-as replied
+        replied-as replied
         (under n m (record { told-is = u .told-is; going-on = u .going-on; unfinished = u .unfinished; so-far = u .so-far ∙ same-as })
         (subst (λ (x : ℕ). Agreed (told .last .0) t (reply.repeatedOf (w .session)) (w .at) x readings.no-command) (sym (pick-t _ (eq-eqb _ busy means)))
         (again refl refl (subst (λ (x : Command). Ordered (told .last .0) (reply.repeatedOf (w .session)) (w .notes .replies) x) (sym e) (order o)) (subst (λ (x : Command). Stood (reply.repeatedOf (w .session)) (w .at) x) (sym e) (stood c st)))))

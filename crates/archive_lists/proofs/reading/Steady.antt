@@ -49,7 +49,7 @@ pub record Steady (told : Told) (t : Tape) (ys : List Element) (w : World) : Typ
   pub only-12 : Only12 told t (w .notes .refused)
   pub goes-on : w .notes .end ≡ false → w .notes .refused ≡ 0 → w .flight ≡ readings.no-command
       → GivesCommand (fetch.fetchOf (w .session) .said) ⊎ ((fetch.fetchOf (w .session) .said ≡ fetch.refused 12) × NoEnd told t)
-  pub taken : (r : Reply) (given : Option (List ℕ)) (lent : List ℕ) → w .flight ≡ readings.answered r given → LentWith given lent → length lent ≡ 33280
+  pub taken-in : (r : Reply) (given : Option (List ℕ)) (lent : List ℕ) → w .flight ≡ readings.answered r given → LentWith given lent → length lent ≡ 33280
       → Only12 told t (readings.refusal (w .session) (readings.replying r lent))
   pub full : (r : Reply) (frame : List ℕ) → w .flight ≡ readings.answered r (some frame) → length frame ≡ 33280
   pub alone : (w .flight ≡ readings.no-command → ⊥) → readings.refusal (w .session) readings.fetching ≡ 7
@@ -71,11 +71,11 @@ module _ {told : Told} {t : Tape} (k : ReadTape told t) (ys : List Element) (all
     abbrev Fine : ℕ → Type 0
     Fine n = Only12 told t n
 
-    fine-by : {y : reply.TakenSaid} → reply.replyOf (w .session) r frame ≡ y → Fine (replyNumber (y .said)) → Fine (replyNumber (reply.replyOf (w .session) r frame .said))
-    fine-by e z = subst (λ (y : reply.TakenSaid). Fine (replyNumber (y .said))) (sym e) z
+    fine-by : {y : reply.RepliedSaid} → reply.replyOf (w .session) r frame ≡ y → Fine (replyNumber (y .said)) → Fine (replyNumber (reply.replyOf (w .session) r frame .said))
+    fine-by e z = subst (λ (y : reply.RepliedSaid). Fine (replyNumber (y .said))) (sym e) z
 
     judged-fine : (j : JudgementSaid) → Fits ys (advance j frame (w .session .position .next .0) (w .session .expected .0) (w .notes .deliveries) (w .session .trail)) → Fine (replyNumber (reply.judgedBy j (w .session) .said))
-    judged-fine judgement.skipped h = inl refl
+    judged-fine judgement.passedOver h = inl refl
     judged-fine (judgement.refused m) h = absurd h
     judged-fine judgement.block h = inl refl
     judged-fine judgement.filemark h = inl refl
@@ -147,7 +147,7 @@ module _ {told : Told} {t : Tape} (k : ReadTape told t) (ys : List Element) (all
     in-order = subst (Fits ys) (u .so-far) (fits-at (w .session .position .next .0)) .0;
     only-12 = inl n;
     goes-on = λ _ _ q. fetched w u (subst (Agreed (told .last .0) t (w .session) (w .at) (w .notes .replies)) q a) (decLe (w .session .position .next .0) (told .last .0));
-    taken = λ r given lent q along long. reply-fine w r given lent u (subst (Agreed (told .last .0) t (w .session) (w .at) (w .notes .replies)) q a) along long;
+    taken-in = λ r given lent q along long. reply-fine w r given lent u (subst (Agreed (told .last .0) t (w .session) (w .at) (w .notes .replies)) q a) along long;
     full = λ r frame q. agreed-long (subst (Agreed (told .last .0) t (w .session) (w .at) (w .notes .replies)) q a);
     alone = λ flying. ap (λ (x : fetch.FetchedSaid). fetchNumber (x .said)) (fetch-awaited (w .session) (agreed-awaits a flying));
     says-again = λ g. clash g m;
@@ -157,7 +157,7 @@ module _ {told : Told} {t : Tape} (k : ReadTape told t) (ys : List Element) (all
     in-order = subst (Fits ys) (d .whole) all ∙ sym (take-length ys);
     only-12 = inl n;
     goes-on = λ g _ _. clash m g;
-    taken = λ r given lent q2 _ _. none-answered (sym q ∙ q2);
+    taken-in = λ r given lent q2 _ _. none-answered (sym q ∙ q2);
     full = λ r frame q2. none-answered (sym q ∙ q2);
     alone = λ flying. absurd (flying q);
     says-again = λ _. ap (λ (x : fetch.FetchedSaid). x .said) (end-again (w .session) e a g f);
@@ -168,7 +168,7 @@ module _ {told : Told} {t : Tape} (k : ReadTape told t) (ys : List Element) (all
     in-order = subst (Fits ys) d all .0;
     only-12 = inr (n, λ xs at z. going-finished (sym d ∙ z));
     goes-on = λ _ z _. let y : _≡_ {A = ℕ} 12 0 = sym n ∙ z in absurd (omega arith);
-    taken = λ r given lent q2 _ _. none-answered (sym q ∙ q2);
+    taken-in = λ r given lent q2 _ _. none-answered (sym q ∙ q2);
     full = λ r frame q2. none-answered (sym q ∙ q2);
     alone = λ flying. absurd (flying q);
     says-again = λ z. clash z m;

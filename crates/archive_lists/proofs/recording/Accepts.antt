@@ -19,6 +19,7 @@ use Rattle.buffer.proofs.Agreement.{agree-is}
 use Rattle.drive.specs.Listed.{Listed}
 use Rattle.drive.specs.Senses.{meaningOf}
 use Rattle.elements.specs.Elements as elements
+use Rattle.elements.specs.Queue.{numberOf}
 use Rattle.elements.proofs.AcceptLaws.{mark-kept, accepted-new}
 use Rattle.recording_state.specs.Accept.{acceptsNone, isFull, isSpent, withElement, filemarkOf, placeOf, StoredSaid, blockOf, closeOf}
 use Rattle.recording_state.specs.State.{closedOf, OutcomeSaid, blocksOf, windowLength, accepting, eodDue, closingStarted, settledBy, settledOf}
@@ -49,10 +50,10 @@ use Rattle.archive_lists.proofs.recording.Setting.{Setting}
 pub record Accepting (s : State) : Type 0 where
   pub going : s .ended ≡ false
   pub unclosed : s .closed ≡ false
-  pub room : s .elements .pending ≤ s .setup .highest
+  pub room : s .elements .queue .pending ≤ s .setup .highest
 
 accepting-so : (s : State) → acceptsNone s ≡ false → isFull s ≡ false → Accepting s
-accepting-so s a b = let x = or-false (s .ended) (s .closed) a in record { going = x .0; unclosed = x .1; room = ltb-false (s .setup .highest) (s .elements .pending) b }
+accepting-so s a b = let x = or-false (s .ended) (s .closed) a in record { going = x .0; unclosed = x .1; room = ltb-false (s .setup .highest) (s .elements .queue .pending) b }
 
 filemark-view : (s : State) → TakesEffect (filemarkOf s .number) → (filemarkOf s ≡ accepting (withElement s true)) × Accepting s
 unfolding filemarkOf
@@ -115,8 +116,8 @@ acceptedWorld w s window unaltered x = withAccepted w s window unaltered (w .not
 
 -- what the window must keep and gain
 pub record Gains (s : State) (before after : List ℕ) (x : Element) (marks : List Bool) : Type 0 where
-  pub keeps : (i : ℕ) → i < s .elements .pending → blockAt after ((s .elements .first .0 + i) % blocksOf s) ≡ blockAt before ((s .elements .first .0 + i) % blocksOf s)
-  pub gains : StoredAs (element x) after marks (blocksOf s) (s .elements .first .0 + s .elements .pending)
+  pub keeps : (i : ℕ) → i < s .elements .queue .pending → blockAt after ((s .elements .queue .first .0 + i) % blocksOf s) ≡ blockAt before ((s .elements .queue .first .0 + i) % blocksOf s)
+  pub gains : StoredAs (element x) after marks (blocksOf s) (s .elements .queue .first .0 + s .elements .queue .pending)
 
 queue-grow : (last pass : ℕ) (xs ys : List Element) (k : ℕ) (fs : List (List ℕ)) → k + length fs ≤ length xs → Queue last pass xs k fs → Queue last pass (xs ++ ys) k fs
 unfolding Queue
@@ -151,7 +152,7 @@ module _ {last pass : ℕ} {on-newest none-bears : Type 0} {prior : Prior} (w : 
   total-plain : {k edge : ℕ} (n : ℕ) → Early k edge → totalOf (w .session .elements .eod) n ≡ n
   total-plain n y = ap (λ (b : Bool). totalOf b n) (early-unended y)
 
-  plain-pending : (w .session .elements .pending + 1) % 2 ^ 16 ≡ w .session .elements .pending + 1
+  plain-pending : (w .session .elements .queue .pending + 1) % 2 ^ 16 ≡ w .session .elements .queue .pending + 1
   plain-pending = mod-eq-of-lt (omega (arith, acc .room, l .counted .wide))
 
   grown : length (l .list ++ x ∷ []) ≡ length (l .list) + 1
@@ -167,7 +168,7 @@ module _ {last pass : ℕ} {on-newest none-bears : Type 0} {prior : Prior} (w : 
         held = omega (arith, plain-pending);
         windowed = omega (arith, plain-pending, acc .room);
         numbered = omega (arith, plain-pending, grown, c .numbered, total-plain (length (l .list)) y, total-plain (length (l .list ++ x ∷ [])) y);
-        marks = length-set (w .session .elements .marks) _ mark ∙ c .marks;
+        marks = length-set (w .session .elements .queue .marks) _ mark ∙ c .marks;
         room = c .room;
       }
 
@@ -181,7 +182,7 @@ module _ {last pass : ℕ} {on-newest none-bears : Type 0} {prior : Prior} (w : 
   promised-so : l .list ++ x ∷ [] ≡ promised (record { accepted = w .notes .accepted ++ x ∷ []; unaltered = true; reported = true; givenUp = w .notes .givenUp })
   promised-so = ap (λ (ys : List Element). ys ++ x ∷ []) all-so ∙ sym (promised-all (record { accepted = w .notes .accepted ++ x ∷ []; unaltered = true; reported = true; givenUp = w .notes .givenUp }) ungiven-so)
 
-  more-pending : w .session .elements .pending ≤ withElement (w .session) mark .elements .pending
+  more-pending : w .session .elements .queue .pending ≤ withElement (w .session) mark .elements .queue .pending
   more-pending = omega (arith, plain-pending)
 
   course-more : (window : List ℕ) (unaltered : Bool) {k edge : ℕ} → Course last (length (l .list)) w k edge → Course last (length (l .list ++ x ∷ [])) (acceptedWorld w (withElement (w .session) mark) window unaltered x) k edge
@@ -191,13 +192,13 @@ module _ {last pass : ℕ} {on-newest none-bears : Type 0} {prior : Prior} (w : 
   course-more window unaltered (inv.closing st v c a b g) = clash c (acc .unclosed)
   course-more window unaltered (inv.finished st v c a b f g h r y) = clash c (acc .unclosed)
 
-  first-small : {k edge : ℕ} → Course last (length (l .list)) w k edge → w .session .elements .first .0 + w .session .elements .pending < 2 ^ 32
+  first-small : {k edge : ℕ} → Course last (length (l .list)) w k edge → w .session .elements .queue .first .0 + w .session .elements .queue .pending < 2 ^ 32
   first-small (inv.opening st v t c) = omega (arith, t .first-is, t .spread, t .roof, acc .room, l .counted .wide, set .small)
   first-small (inv.writing st v a) = let n = writing-numbers (l .counted .held) a in omega (arith, n .low, acc .room, l .counted .wide, set .small)
   first-small (inv.closing st v c a b g) = clash c (acc .unclosed)
   first-small (inv.finished st v c a b f g h r y) = clash c (acc .unclosed)
 
-  count-is : w .session .elements .first .0 + w .session .elements .pending ≡ length (l .list)
+  count-is : w .session .elements .queue .first .0 + w .session .elements .queue .pending ≡ length (l .list)
   count-is = l .counted .numbered ∙ total-plain (length (l .list)) (early (l .course))
 
   -- what is on tape was accepted
@@ -220,38 +221,38 @@ module _ {last pass : ℕ} {on-newest none-bears : Type 0} {prior : Prior} (w : 
     queue = λ st free. queue-grow last pass (l .list) (x ∷ []) (l .k) (w .drive .buffer) (omega (arith, writing-numbers (l .counted .held) (writing-of st) .fits free, count-is)) (f .queue st free);
     sent = λ a g st q.
         let due = sent-due (subst (Writing last (w .session) (w .drive) (l .k) (l .edge)) q (writing-of st)) in
-        subst (λ (y : Item). Stands last pass y (w .session .elements .first .0 + w .session .elements .outstanding) g) (sym (item-more (l .list) (x ∷ []) (w .session .elements .first .0 + w .session .elements .outstanding) (omega (arith, count-is)))) (f .sent a g st q);
+        subst (λ (y : Item). Stands last pass y (w .session .elements .queue .first .0 + w .session .elements .queue .outstanding) g) (sym (item-more (l .list) (x ∷ []) (w .session .elements .queue .first .0 + w .session .elements .queue .outstanding) (omega (arith, count-is)))) (f .sent a g st q);
   }
 
-  module _ (window : List ℕ) (c : Content last pass (l .list) w (l .k) (l .edge)) (g : Gains (w .session) (w .window) window x (elements.acceptedOf (w .session .elements) mark .marks)) where
+  module _ (window : List ℕ) (c : Content last pass (l .list) w (l .k) (l .edge)) (g : Gains (w .session) (w .window) window x (elements.acceptedOf (w .session .elements) mark .queue .marks)) where
     -- an item that was pending stays as it was stored
-    stays : (y : Item) (i : ℕ) → i < w .session .elements .pending → StoredAs y (w .window) (w .session .elements .marks) (blocksOf (w .session)) (w .session .elements .first .0 + i)
-        → StoredAs y window (elements.acceptedOf (w .session .elements) mark .marks) (blocksOf (w .session)) (w .session .elements .first .0 + i)
+    stays : (y : Item) (i : ℕ) → i < w .session .elements .queue .pending → StoredAs y (w .window) (w .session .elements .queue .marks) (blocksOf (w .session)) (w .session .elements .queue .first .0 + i)
+        → StoredAs y window (elements.acceptedOf (w .session .elements) mark .queue .marks) (blocksOf (w .session)) (w .session .elements .queue .first .0 + i)
     stays (element (block b)) i h old =
-        (g .keeps i h ∙ old .0, mark-kept (w .session .elements .marks) (w .session .elements .first .0) i (w .session .elements .pending) mark h (omega (arith, acc .room, l .counted .wide)) ∙ old .1)
-    stays (element filemark) i h old = mark-kept (w .session .elements .marks) (w .session .elements .first .0) i (w .session .elements .pending) mark h (omega (arith, acc .room, l .counted .wide)) ∙ old
+        (g .keeps i h ∙ old .0, mark-kept (w .session .elements .queue .marks) (w .session .elements .queue .first .0) i (w .session .elements .queue .pending) mark h (omega (arith, acc .room, l .counted .wide)) ∙ old .1)
+    stays (element filemark) i h old = mark-kept (w .session .elements .queue .marks) (w .session .elements .queue .first .0) i (w .session .elements .queue .pending) mark h (omega (arith, acc .room, l .counted .wide)) ∙ old
     stays eod i h old = tt
 
-    new-item : itemAt (l .list ++ x ∷ []) (w .session .elements .first .0 + w .session .elements .pending) ≡ element x
+    new-item : itemAt (l .list ++ x ∷ []) (w .session .elements .queue .first .0 + w .session .elements .queue .pending) ≡ element x
     new-item =
-        let n = w .session .elements .first .0 + w .session .elements .pending in
+        let n = w .session .elements .queue .first .0 + w .session .elements .queue .pending in
         item-in (l .list ++ x ∷ []) n (omega (arith, count-is, grown)) ∙ ap element (getD-at (l .list) x [] filemark n (sym count-is))
 
-    stored-more : (i : ℕ) → i < withElement (w .session) mark .elements .pending
-        → StoredAs (itemAt (l .list ++ x ∷ []) (w .session .elements .first .0 + i)) window (elements.acceptedOf (w .session .elements) mark .marks) (blocksOf (w .session)) (w .session .elements .first .0 + i)
+    stored-more : (i : ℕ) → i < withElement (w .session) mark .elements .queue .pending
+        → StoredAs (itemAt (l .list ++ x ∷ []) (w .session .elements .queue .first .0 + i)) window (elements.acceptedOf (w .session .elements) mark .queue .marks) (blocksOf (w .session)) (w .session .elements .queue .first .0 + i)
     stored-more i h = go (eq-or-lt-of-le upper)
       where
-        upper : i ≤ w .session .elements .pending
+        upper : i ≤ w .session .elements .queue .pending
         upper = omega (arith, plain-pending)
 
-        go : (i ≡ w .session .elements .pending) ⊎ (i < w .session .elements .pending)
-            → StoredAs (itemAt (l .list ++ x ∷ []) (w .session .elements .first .0 + i)) window (elements.acceptedOf (w .session .elements) mark .marks) (blocksOf (w .session)) (w .session .elements .first .0 + i)
+        go : (i ≡ w .session .elements .queue .pending) ⊎ (i < w .session .elements .queue .pending)
+            → StoredAs (itemAt (l .list ++ x ∷ []) (w .session .elements .queue .first .0 + i)) window (elements.acceptedOf (w .session .elements) mark .queue .marks) (blocksOf (w .session)) (w .session .elements .queue .first .0 + i)
         go (inl same) =
-            subst (λ (j : ℕ). StoredAs (itemAt (l .list ++ x ∷ []) (w .session .elements .first .0 + j)) window (elements.acceptedOf (w .session .elements) mark .marks) (blocksOf (w .session)) (w .session .elements .first .0 + j)) (sym same)
-            (subst (λ (y : Item). StoredAs y window (elements.acceptedOf (w .session .elements) mark .marks) (blocksOf (w .session)) (w .session .elements .first .0 + w .session .elements .pending)) (sym new-item) (g .gains))
+            subst (λ (j : ℕ). StoredAs (itemAt (l .list ++ x ∷ []) (w .session .elements .queue .first .0 + j)) window (elements.acceptedOf (w .session .elements) mark .queue .marks) (blocksOf (w .session)) (w .session .elements .queue .first .0 + j)) (sym same)
+            (subst (λ (y : Item). StoredAs y window (elements.acceptedOf (w .session .elements) mark .queue .marks) (blocksOf (w .session)) (w .session .elements .queue .first .0 + w .session .elements .queue .pending)) (sym new-item) (g .gains))
         go (inr low) =
-            subst (λ (y : Item). StoredAs y window (elements.acceptedOf (w .session .elements) mark .marks) (blocksOf (w .session)) (w .session .elements .first .0 + i)) (sym (item-more (l .list) (x ∷ []) (w .session .elements .first .0 + i) (omega (arith, count-is))))
-            (stays (itemAt (l .list) (w .session .elements .first .0 + i)) i low (c .stored i low))
+            subst (λ (y : Item). StoredAs y window (elements.acceptedOf (w .session .elements) mark .queue .marks) (blocksOf (w .session)) (w .session .elements .queue .first .0 + i)) (sym (item-more (l .list) (x ∷ []) (w .session .elements .queue .first .0 + i) (omega (arith, count-is))))
+            (stays (itemAt (l .list) (w .session .elements .queue .first .0 + i)) i low (c .stored i low))
 
     content-more : (unaltered : Bool) → Content last pass (l .list ++ x ∷ []) (acceptedWorld w (withElement (w .session) mark) window unaltered x) (l .k) (l .edge)
     content-more unaltered =
@@ -269,7 +270,7 @@ module _ {last pass : ℕ} {on-newest none-bears : Type 0} {prior : Prior} (w : 
       record {
         from = y .from;
         prefix = λ i _. ap (λ (ys : List Element). itemAt (ys ++ x ∷ []) i) (sym all-so);
-        marked = λ i h. marked i (eq-or-lt-of-le (let z : i ≤ w .session .elements .pending = omega (arith, plain-pending) in z));
+        marked = λ i h. marked i (eq-or-lt-of-le (let z : i ≤ w .session .elements .queue .pending = omega (arith, plain-pending) in z));
         trail = traces-alike xs (xs ++ x ∷ []) (length xs) (item-more xs (x ∷ [])) (omega (arith, count-is)) (y .trail);
         written = λ j own h. written-alike xs (xs ++ x ∷ []) (length xs) (item-more xs (x ∷ [])) (let z = k-low (l .course) in omega arith) (y .written j own h);
         behind = λ st j a low high q. number-alike xs (xs ++ x ∷ []) (length xs) (item-more xs (x ∷ [])) (let z = k-low (l .course) in omega arith) (y .behind st j a low high q);
@@ -285,17 +286,17 @@ module _ {last pass : ℕ} {on-newest none-bears : Type 0} {prior : Prior} (w : 
       buffered (holds fits fs) = holds (omega (arith, plain-pending)) (frames-alike (l .list) (l .list ++ x ∷ []) (length (l .list)) (item-more (l .list) (x ∷ [])) last pass _ (l .k) (w .drive .buffer) (omega (arith, count-is)) fs)
       buffered (halted f z) = halted f z
 
-      marked : (i : ℕ) → (i ≡ w .session .elements .pending) ⊎ (i < w .session .elements .pending)
-          → getD (elements.acceptedOf (w .session .elements) mark .marks) ((w .session .elements .first .0 + i) % 64) false ≡ isFilemark (l .list ++ x ∷ []) (w .session .elements .first .0 + i)
+      marked : (i : ℕ) → (i ≡ w .session .elements .queue .pending) ⊎ (i < w .session .elements .queue .pending)
+          → getD (elements.acceptedOf (w .session .elements) mark .queue .marks) ((w .session .elements .queue .first .0 + i) % 64) false ≡ isFilemark (l .list ++ x ∷ []) (w .session .elements .queue .first .0 + i)
       marked i (inl here) =
-          subst (λ (j : ℕ). getD (elements.acceptedOf (w .session .elements) mark .marks) ((w .session .elements .first .0 + j) % 64) false ≡ isFilemark (l .list ++ x ∷ []) (w .session .elements .first .0 + j)) (sym here)
-          (accepted-new (w .session .elements) mark (l .counted .marks) ∙ same ∙ sym (mark-new (l .list) x (w .session .elements .first .0 + w .session .elements .pending) count-is))
+          subst (λ (j : ℕ). getD (elements.acceptedOf (w .session .elements) mark .queue .marks) ((w .session .elements .queue .first .0 + j) % 64) false ≡ isFilemark (l .list ++ x ∷ []) (w .session .elements .queue .first .0 + j)) (sym here)
+          (accepted-new (w .session .elements) mark (l .counted .marks) ∙ same ∙ sym (mark-new (l .list) x (w .session .elements .queue .first .0 + w .session .elements .queue .pending) count-is))
       marked i (inr low) =
-          mark-kept (w .session .elements .marks) (w .session .elements .first .0) i (w .session .elements .pending) mark low (omega (arith, acc .room, l .counted .wide))
+          mark-kept (w .session .elements .queue .marks) (w .session .elements .queue .first .0) i (w .session .elements .queue .pending) mark low (omega (arith, acc .room, l .counted .wide))
           ∙ l .trailing .marked i low
-          ∙ sym (mark-more (l .list) (x ∷ []) (w .session .elements .first .0 + i) (omega (arith, count-is)))
+          ∙ sym (mark-more (l .list) (x ∷ []) (w .session .elements .queue .first .0 + i) (omega (arith, count-is)))
 
-  live-more : mark ≡ isMarker (element x) → (window : List ℕ) (unaltered : Bool) → (unaltered ≡ true → (w .notes .unaltered ≡ true) × Gains (w .session) (w .window) window x (elements.acceptedOf (w .session .elements) mark .marks))
+  live-more : mark ≡ isMarker (element x) → (window : List ℕ) (unaltered : Bool) → (unaltered ≡ true → (w .notes .unaltered ≡ true) × Gains (w .session) (w .window) window x (elements.acceptedOf (w .session .elements) mark .queue .marks))
       → Live last pass on-newest none-bears prior (acceptedWorld w (withElement (w .session) mark) window unaltered x)
   live-more same window unaltered gain = record {
     k = l .k;
@@ -352,12 +353,12 @@ keeps-block {last} {pass} {on-newest} {none-bears} {prior} w b lent set i te =
         → Inv last pass on-newest none-bears prior (acceptedWorld w (withElement (w .session) false) (putBlock lent (placeOf (w .session)) b) (w .notes .unaltered && agree lent (w .window)) (block b))
     go v (live wr l) =
         let acc = v .accepting-it in
-        let first = w .session .elements .first .0 in
-        let pending = w .session .elements .pending in
+        let first = w .session .elements .queue .first .0 in
+        let pending = w .session .elements .queue .pending in
         let width = blocksOf (w .session) in
         let exact : (first + pending) % 2 ^ 32 ≡ first + pending = mod-eq-of-lt (first-small w set l false (block b) acc (l .course)) in
         let place-is : placeOf (w .session) ≡ (first + pending) % width = ap (λ (n : ℕ). n % width) exact in
-        let room : placeOf (w .session) * 32768 + 32768 ≤ length lent = subst (λ (n : ℕ). placeOf (w .session) * 32768 + 32768 ≤ n) (sym (v .long)) (place-inside (elements.numberOf (w .session .elements) pending .0) (w .session .setup .highest)) in
+        let room : placeOf (w .session) * 32768 + 32768 ≤ length lent = subst (λ (n : ℕ). placeOf (w .session) * 32768 + 32768 ≤ n) (sym (v .long)) (place-inside (numberOf (w .session .elements .queue) pending .0) (w .session .setup .highest)) in
         live wr
         (live-more w set l false (block b) acc refl (putBlock lent (placeOf (w .session)) b) (w .notes .unaltered && agree lent (w .window))
         (λ u.
@@ -381,14 +382,14 @@ keeps-block {last} {pass} {on-newest} {none-bears} {prior} w b lent set i te =
 -- ---- close
 
 -- EOD becomes due, or the closing headers do, or neither
-pub settled-cases : (s : State) (P : State → Type 0) → ((0 < s .elements .pending) ⊎ (HeaderStage s ⊎ (s .stage ≡ S.Done)) ⊎ ((s .elements .eod ≡ false) × (s .closed ≡ false)) → P s)
-    → (s .stage ≡ S.Elements → s .elements .eod ≡ false → s .closed ≡ true → s .elements .pending ≡ 0 → P (eodDue s)) → (s .stage ≡ S.Elements → s .elements .eod ≡ true → s .elements .pending ≡ 0 → P (closingStarted s)) → P (settledOf s)
+pub settled-cases : (s : State) (P : State → Type 0) → ((0 < s .elements .queue .pending) ⊎ (HeaderStage s ⊎ (s .stage ≡ S.Done)) ⊎ ((s .elements .eod ≡ false) × (s .closed ≡ false)) → P s)
+    → (s .stage ≡ S.Elements → s .elements .eod ≡ false → s .closed ≡ true → s .elements .queue .pending ≡ 0 → P (eodDue s)) → (s .stage ≡ S.Elements → s .elements .eod ≡ true → s .elements .queue .pending ≡ 0 → P (closingStarted s)) → P (settledOf s)
 unfolding settledOf
 settled-cases s P same eod-due closing-due =
-    pick-by P (ltb 0 (s .elements .pending)) (λ e. same (inl (ltb-true 0 (s .elements .pending) e)))
-    (λ e. let none : s .elements .pending ≡ 0 = let z = ltb-false 0 (s .elements .pending) e in omega arith in by none (s .stage) refl)
+    pick-by P (ltb 0 (s .elements .queue .pending)) (λ e. same (inl (ltb-true 0 (s .elements .queue .pending) e)))
+    (λ e. let none : s .elements .queue .pending ≡ 0 = let z = ltb-false 0 (s .elements .queue .pending) e in omega arith in by none (s .stage) refl)
   where
-    by : s .elements .pending ≡ 0 → (st : Stage) → s .stage ≡ st → P (settledBy st s)
+    by : s .elements .queue .pending ≡ 0 → (st : Stage) → s .stage ≡ st → P (settledBy st s)
     by none S.OpeningHeaders q = same (inr (inl (inl (inl q))))
     by none S.Elements q =
         pick-by P (s .elements .eod) (λ v. closing-due q v none) (λ v. pick-by P (s .closed) (λ c. eod-due q v c none) (λ c. same (inr (inr (v, c)))))

@@ -34,11 +34,11 @@ use Rattle.geometry.proofs.Impossible.{never, clash}
 
 -- ---- EOD becomes due
 
-module _ {last pass : ℕ} {on-newest none-bears : Type 0} {prior : Prior} (w : World) (l : Live last pass on-newest none-bears prior w) (st : w .session .stage ≡ S.Elements) (v : w .session .elements .eod ≡ false) (closed : w .session .closed ≡ true) (none : w .session .elements .pending ≡ 0) where
-  one : (w .session .elements .pending + 1) % 2 ^ 16 ≡ 1
+module _ {last pass : ℕ} {on-newest none-bears : Type 0} {prior : Prior} (w : World) (l : Live last pass on-newest none-bears prior w) (st : w .session .stage ≡ S.Elements) (v : w .session .elements .eod ≡ false) (closed : w .session .closed ≡ true) (none : w .session .elements .queue .pending ≡ 0) where
+  one : (w .session .elements .queue .pending + 1) % 2 ^ 16 ≡ 1
   one = ap (λ (n : ℕ). (n + 1) % 2 ^ 16) none
 
-  count : w .session .elements .first .0 ≡ length (l .list)
+  count : w .session .elements .queue .first .0 ≡ length (l .list)
   count = let n = l .counted .numbered in let t = ap (λ (x : Bool). totalOf x (length (l .list))) v in omega arith
 
   eod-course : Course last (length (l .list)) w (l .k) (l .edge) → Course last (length (l .list)) (withSession w (eodDue (w .session))) (l .k) (l .edge)
@@ -47,9 +47,9 @@ module _ {last pass : ℕ} {on-newest none-bears : Type 0} {prior : Prior} (w : 
   eod-course (inv.closing q _ c a b g) = never (cc)
   eod-course (inv.finished q _ c a b f g h r y) = never (cc)
 
-  eod-stored : (window : List ℕ) (marks : List Bool) (i : ℕ) → i < (w .session .elements .pending + 1) % 2 ^ 16 → StoredAs (itemAt (l .list) (w .session .elements .first .0 + i)) window marks (blocksOf (w .session)) (w .session .elements .first .0 + i)
+  eod-stored : (window : List ℕ) (marks : List Bool) (i : ℕ) → i < (w .session .elements .queue .pending + 1) % 2 ^ 16 → StoredAs (itemAt (l .list) (w .session .elements .queue .first .0 + i)) window marks (blocksOf (w .session)) (w .session .elements .queue .first .0 + i)
   eod-stored window marks i h =
-      subst (λ (x : Item). StoredAs x window marks (blocksOf (w .session)) (w .session .elements .first .0 + i)) (sym (item-past (l .list) (w .session .elements .first .0 + i) (omega (arith, count)))) tt
+      subst (λ (x : Item). StoredAs x window marks (blocksOf (w .session)) (w .session .elements .queue .first .0 + i)) (sym (item-past (l .list) (w .session .elements .queue .first .0 + i) (omega (arith, count)))) tt
 
   agreed : Course last (length (l .list)) w (l .k) (l .edge) → Writing last (w .session) (w .drive) (l .k) (l .edge) (w .flight)
   agreed (inv.opening q _ t c) = never (cc)
@@ -57,7 +57,7 @@ module _ {last pass : ℕ} {on-newest none-bears : Type 0} {prior : Prior} (w : 
   agreed (inv.closing q _ c a b g) = never (cc)
   agreed (inv.finished q _ c a b f g h r y) = never (cc)
 
-  numbers : Numbers last (w .session .elements .first .0) (w .session .elements .outstanding) (w .session .elements .pending) (l .k) (w .drive)
+  numbers : Numbers last (w .session .elements .queue .first .0) (w .session .elements .queue .outstanding) (w .session .elements .queue .pending) (l .k) (w .drive)
   numbers = writing-numbers (l .counted .held) (agreed (l .course))
 
   -- nothing is with the drive, or on the way to it
@@ -69,11 +69,11 @@ module _ {last pass : ℕ} {on-newest none-bears : Type 0} {prior : Prior} (w : 
   }
 
   -- EOD is no filemark
-  eod-marked : (i : ℕ) → i < (w .session .elements .pending + 1) % 2 ^ 16 → getD (elements.acceptedOf (w .session .elements) false .marks) ((w .session .elements .first .0 + i) % 64) false ≡ isFilemark (l .list) (w .session .elements .first .0 + i)
+  eod-marked : (i : ℕ) → i < (w .session .elements .queue .pending + 1) % 2 ^ 16 → getD (elements.acceptedOf (w .session .elements) false .queue .marks) ((w .session .elements .queue .first .0 + i) % 64) false ≡ isFilemark (l .list) (w .session .elements .queue .first .0 + i)
   eod-marked i h =
-      let here : w .session .elements .pending ≡ i = omega (arith, one, none) in
-      subst (λ (j : ℕ). getD (elements.acceptedOf (w .session .elements) false .marks) ((w .session .elements .first .0 + j) % 64) false ≡ isFilemark (l .list) (w .session .elements .first .0 + j)) here
-      (accepted-new (w .session .elements) false (l .counted .marks) ∙ sym (mark-past (l .list) (w .session .elements .first .0 + w .session .elements .pending) (omega (arith, count))))
+      let here : w .session .elements .queue .pending ≡ i = omega (arith, one, none) in
+      subst (λ (j : ℕ). getD (elements.acceptedOf (w .session .elements) false .queue .marks) ((w .session .elements .queue .first .0 + j) % 64) false ≡ isFilemark (l .list) (w .session .elements .queue .first .0 + j)) here
+      (accepted-new (w .session .elements) false (l .counted .marks) ∙ sym (mark-past (l .list) (w .session .elements .queue .first .0 + w .session .elements .queue .pending) (omega (arith, count))))
 
   pub eod-live : Live last pass on-newest none-bears prior (withSession w (eodDue (w .session)))
   eod-live =
@@ -91,7 +91,7 @@ module _ {last pass : ℕ} {on-newest none-bears : Type 0} {prior : Prior} (w : 
           held = omega (arith, one, none);
           windowed = omega (arith, one);
           numbered = omega (arith, one, count);
-          marks = length-set (w .session .elements .marks) _ false ∙ c .marks;
+          marks = length-set (w .session .elements .queue .marks) _ false ∙ c .marks;
           room = c .room;
         };
         carried = l .carried;
@@ -107,7 +107,7 @@ module _ {last pass : ℕ} {on-newest none-bears : Type 0} {prior : Prior} (w : 
             record {
               tape = x .tape;
               seen = x .seen;
-              stored = λ i h. eod-stored (w .window) (elements.acceptedOf (w .session .elements) false .marks) i h;
+              stored = λ i h. eod-stored (w .window) (elements.acceptedOf (w .session .elements) false .queue .marks) i h;
             };
         trailing = let x = l .trailing in record { from = x .from; prefix = x .prefix; marked = eod-marked; trail = x .trail; written = x .written; behind = x .behind; queue = λ s. buffered-as (w .session .elements) (eodDue (w .session) .elements) (omega (arith, one, none)) (λ _ z. z) (x .queue s); sent = x .sent; tape = x .tape };
       }
@@ -204,5 +204,5 @@ module _ {last pass : ℕ} {on-newest none-bears : Type 0} {prior : Prior} (w : 
   keeps-close (spent wr x) te =
       let both : isSpent (w .session) ≡ true = ap (λ (b : Bool). b && w .session .spent) (x .ended) ∙ x .is-spent in
       subst (λ (n : ℕ). Inv last pass on-newest none-bears prior (closedWorld w (closeOf (w .session) .session) n)) (sym (pick-t _ both))
-      (subst (λ (r : OutcomeSaid). Inv last pass on-newest none-bears prior (closedWorld w (r .session) (w .session .elements .pending))) (sym (spent-close (w .session) (x .ended) (x .is-spent))) (live wr (x .revives)))
+      (subst (λ (r : OutcomeSaid). Inv last pass on-newest none-bears prior (closedWorld w (r .session) (w .session .elements .queue .pending))) (sym (spent-close (w .session) (x .ended) (x .is-spent))) (live wr (x .revives)))
   keeps-close (over wr o) te = no-effect (omega arith) (omega arith) (subst (λ (r : OutcomeSaid). TakesEffect (r .number)) (ended-close (w .session) (o .ended) (o .final)) te)

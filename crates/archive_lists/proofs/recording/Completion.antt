@@ -165,7 +165,7 @@ module _ {last pass : ℕ} {on-newest none-bears : Type 0} {prior : Prior} (w : 
   completes (over _ o) newest none unaltered reported = absurd (true≢false (sym reported ∙ o .unreported))
 
   -- where a fetch asks, without a tail, a noted target is not above END
-  pub aims : Inv last pass on-newest none-bears prior w → w .session .setup .tail ≡ 0 → w .session .ended ≡ false → w .flight ≡ recordings.no-command → w .session .elements .locate ≡ true → w .session .elements .target .0 < w .session .elements .limit .0
+  pub aims : Inv last pass on-newest none-bears prior w → w .session .setup .tail ≡ 0 → w .session .ended ≡ false → w .flight ≡ recordings.no-command → w .session .elements .course .locate ≡ true → w .session .elements .course .target .0 < w .session .elements .course .limit .0
   aims (live wr l) none going free t = l .promises .aimed none t
   aims (rejecting _ d) none going free t = none-answered (sym free ∙ d .replied)
   aims (spent _ x) none going free t = clash (x .ended) going
@@ -181,7 +181,7 @@ module _ {last pass : ℕ} {on-newest none-bears : Type 0} {prior : Prior} (w : 
 -- ---- what the close of a spent session tells
 
 pub spent-first : {last pass : ℕ} {on-newest none-bears : Type 0} {prior : Prior} (w : World) → Inv last pass on-newest none-bears prior w → isSpent (w .session) ≡ true
-    → (givenUpOf (w .session) .elements .first .0 ≡ length (promised (gaveUp w .notes))) × (prior .base ≤ length (promised (gaveUp w .notes)))
+    → (givenUpOf (w .session) .elements .queue .first .0 ≡ length (promised (gaveUp w .notes))) × (prior .base ≤ length (promised (gaveUp w .notes)))
 spent-first w (live _ l) e = clash (and-true (w .session .ended) (w .session .spent) e .0) (l .going)
 spent-first w (rejecting _ d) e = clash (and-true (w .session .ended) (w .session .spent) e .0) (d .going)
 spent-first {prior = prior} w (spent _ x) e =

@@ -5,6 +5,7 @@ use mathlib.Core.Bool.{true, false}
 use mathlib.Core.List.{List, []}
 use mathlib.Core.Logic.{_⊎_}
 use lib.ListN.{length, replicate}
+use Rattle.geometry.specs.Cartridge.{headerAddress}
 use Rattle.geometry.specs.declared.address.Address.{Address}
 use Rattle.frame.specs.Header.{headerFrame}
 use Rattle.drive.specs.Listed.{Means}
@@ -13,7 +14,6 @@ use Rattle.drive.specs.Senses.{good, busy, writeError}
 use Rattle.drive.specs.declared.command.Command.{Command}
 use Rattle.drive.specs.declared.command.Command.the-variants.{Read, Write, Locate, ReadPosition}
 use Rattle.drive.specs.declared.reply.Reply.{Reply}
-use Rattle.copies.specs.Copies.{nextAddress}
 use Rattle.copies.specs.declared.copies.Copies.{Copies}
 use Rattle.copies.proofs.Counts.{CountsOf}
 use Rattle.copies.proofs.Placed.{PlacedOf}
@@ -22,10 +22,17 @@ use Rattle.archive_lists.specs.Recordings as recordings
 use Rattle.archive_lists.specs.Recordings.{Flight}
 use Rattle.archive_lists.proofs.recording.HeaderCopies.{Copy}
 
+-- where a group starts, and where the drive goes on behind the copies that it has taken of it
+abbrev pub firstAddress : Copies → ℕ
+firstAddress c = headerAddress (c .group) 0
+
+abbrev pub nextAddress : Copies → ℕ
+nextAddress c = firstAddress c + c .copy
+
 -- the drive is at the copies' place; it has taken so many more than the session knows of
 pub record CopyLink (c : Copies) (d : Drive) (extra : ℕ) : Type 0 where
   pub placed : c .locate ≡ false
-  pub next-is : d .at + length (d .buffer) ≡ nextAddress c .0 + extra
+  pub next-is : d .at + length (d .buffer) ≡ nextAddress c + extra
   pub known : length (d .buffer) ≤ c .outstanding + extra
   pub roof : c .copy + extra ≤ 5
   pub alike : d .buffer ≡ replicate (length (d .buffer)) (headerFrame (c .header))
@@ -36,13 +43,13 @@ pub record CopyLink (c : Copies) (d : Drive) (extra : ℕ) : Type 0 where
 pub record CopySeek (c : Copies) (d : Drive) : Type 0 where
   pub due : c .locate ≡ true
   pub rests : AtRest d
-  pub kept : (c .confirmed ≡ 0) ⊎ Copy (c .header) (d .tape) (nextAddress c .0)
+  pub kept : (c .confirmed ≡ 0) ⊎ Copy (c .header) (d .tape) (nextAddress c)
 
 -- what is known while a command is with the drive, or is to be given again
 pub data CopyAsks (c : Copies) (d : Drive) : Command → Type 0 where
-  writes : (a : Address) → a .0 ≡ nextAddress c .0 → c .copy < 5 → CopyLink c d 0 → CopyAsks c d (Write a)
+  writes : (a : Address) → a .0 ≡ nextAddress c → c .copy < 5 → CopyLink c d 0 → CopyAsks c d (Write a)
   asks : CopyLink c d 0 → CopyAsks c d ReadPosition
-  seeks : (a : Address) → a .0 ≡ nextAddress c .0 → CopySeek c d → CopyAsks c d (Locate a)
+  seeks : (a : Address) → a .0 ≡ nextAddress c → CopySeek c d → CopyAsks c d (Locate a)
 
 -- and while its reply is on the way. A reply that ends the session is in Rejecting.
 pub data CopyAnswered (c : Copies) (d : Drive) (r : Reply) : Command → Type 0 where
@@ -50,7 +57,7 @@ pub data CopyAnswered (c : Copies) (d : Drive) (r : Reply) : Command → Type 0 
   counted : Means r good → length (d .buffer) ≤ r .buffered → CopyLink c d 0 → CopyAnswered c d r ReadPosition
   failed-write : (a : Address) → Means r writeError → d .failed ≡ true → r .position .0 ≡ d .at → CopyLink c d 0 → CopyAnswered c d r (Write a)
   failed-position : Means r writeError → d .failed ≡ true → r .position .0 ≡ d .at → CopyLink c d 0 → CopyAnswered c d r ReadPosition
-  moved : (a : Address) → Means r good → a .0 ≡ nextAddress c .0 → d .buffer ≡ [] → d .failed ≡ false → d .at ≡ a .0 → CopySeek c d → CopyAnswered c d r (Locate a)
+  moved : (a : Address) → Means r good → a .0 ≡ nextAddress c → d .buffer ≡ [] → d .failed ≡ false → d .at ≡ a .0 → CopySeek c d → CopyAnswered c d r (Locate a)
   waits : (k : Command) → Means r busy → CopyAsks c d k → CopyAnswered c d r k
 
 -- the frame of a WRITE in flight

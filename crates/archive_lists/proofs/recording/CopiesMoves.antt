@@ -22,7 +22,6 @@ use Rattle.drive.specs.declared.command.Command.{Command}
 use Rattle.drive.specs.declared.command.Command.the-variants.{Write, Locate, ReadPosition}
 use Rattle.drive.specs.declared.reply.Reply.{Reply}
 use Rattle.drive.specs.Listed.{Listed}
-use Rattle.copies.specs.Copies.{nextAddress}
 use Rattle.copies.specs.declared.copies.Copies.{Copies}
 use Rattle.copies.proofs.Counts.{CountsOf}
 use Rattle.geometry.proofs.HeaderPlaces.{is-header, header-from-first}
@@ -30,7 +29,7 @@ use Rattle.recording_state.specs.declared.state.State.{State}
 use Rattle.archive_lists.specs.Recordings.{Flight}
 use Rattle.archive_lists.proofs.recording.HeaderCopies.{Copy}
 use Rattle.archive_lists.proofs.tape.FoldLaws.{put-same, put-other}
-use Rattle.archive_lists.proofs.recording.CopiesLink.{CopyLink, CopyAsks, writes, asks, seeks, CopyAnswered, taken, counted, failed-write, failed-position, waits, HeaderSent, Copying, at-place, to-seek, again, under-way, replied}
+use Rattle.archive_lists.proofs.recording.CopiesLink.{nextAddress, CopyLink, CopyAsks, writes, asks, seeks, CopyAnswered, taken, counted, failed-write, failed-position, waits, HeaderSent, Copying, at-place, to-seek, again, under-way, replied}
 use Rattle.archive_lists.proofs.recording.CopiesLink as link
 use Rattle.archive_lists.proofs.recording.Invariant.{Safe, halted, allowed}
 
@@ -195,7 +194,7 @@ link-takes {c} {d} f same left l =
     }
 
 -- a header's WRITE goes to a header group
-pub next-header : (c : Copies) → c .copy < 5 → isHeader (nextAddress c .0) ≡ true
+pub next-header : (c : Copies) → c .copy < 5 → isHeader (nextAddress c) ≡ true
 next-header c left = subst (λ (x : ℕ). isHeader x ≡ true) (header-from-first (c .group) (c .copy) left) (is-header (c .group) (c .copy))
 
 -- an answer that the session goes on with, or ends at

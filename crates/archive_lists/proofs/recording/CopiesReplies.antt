@@ -5,12 +5,13 @@ use mathlib.Core.Bool.{Bool, true, false}
 use mathlib.Core.List.{[]}
 use mathlib.Core.Logic.{_⊎_, inl, inr, ⊎-elim}
 use native.Mathlib.Omega.{arith}
-use borrow.Author.Tests.{ltb-false, leb-false}
-use lib.Dec.{eqb, ltb, leb}
+use borrow.Author.Tests.{ltb-false}
+use lib.Dec.{eqb, ltb}
 use lib.ListN.{length, replicate}
 use Rattle.geometry.specs.Pick.{pick}
-use Rattle.geometry.specs.Cartridge.{headerAddress}
+use Rattle.geometry.specs.Cartridge.{headerAddress, copyAt}
 use Rattle.geometry.specs.declared.address.Address.{Address}
+use Rattle.geometry.proofs.CopyPlaces.{copy-address}
 use Rattle.geometry.proofs.PickLaws.{pick-by}
 use Rattle.geometry.proofs.Impossible.{clash}
 use Rattle.frame.specs.Header.{headerFrame}
@@ -18,33 +19,33 @@ use Rattle.frame.specs.declared.header.Header.{Header}
 use Rattle.archive_lists.specs.Conduct.{Drive, AtRest, empty, stopped}
 use Rattle.archive_lists.specs.Tape.{Tape}
 use Rattle.copies.specs.Copies as copying
-use Rattle.copies.specs.Copies.{nextAddress, oldestAddress, firstAddress, takenOf, locatedOf, confirmedOf, failedAt, nextGroup, countedOf, failedOf}
+use Rattle.copies.specs.Copies.{takenOf, locatedOf, confirmedOf, failedAt, nextGroup, countedOf, oldestCopy, failedOf}
 use Rattle.copies.specs.declared.copies.Copies.{Copies}
 use Rattle.copies.proofs.ReplyView as view
 use Rattle.copies.proofs.Counts.{CountsOf, taken-counts, taken-exact, confirmed-counts, confirmed-exact, failed-counts}
 use Rattle.copies.proofs.Placed.{Placed, PlacedOf}
 use Rattle.archive_lists.proofs.recording.HeaderCopies.{Copy}
-use Rattle.archive_lists.proofs.recording.CopiesLink.{CopyLink, CopySeek}
+use Rattle.archive_lists.proofs.recording.CopiesLink.{firstAddress, nextAddress, CopyLink, CopySeek}
 use Rattle.archive_lists.proofs.tape.Basics.{no-frames}
 
 pub copy-higher : {h : Header} {t : Tape} {a b : ℕ} → a ≤ b → Copy h t a → Copy h t b
 copy-higher l c = let low = c .low in record { address = c .address; frame = c .frame; group = c .group; low = omega arith; reads = c .reads; as-sent = c .as-sent }
 
 -- the addresses of the groups
-group-low : (c : Copies) → c .group ≤ 1 → (firstAddress c .0 ≡ 5) ⊎ (firstAddress c .0 ≡ 2990)
+group-low : (c : Copies) → c .group ≤ 1 → (firstAddress c ≡ 5) ⊎ (firstAddress c ≡ 2990)
 group-low c l = go (eqb (c .group % 2) 0)
   where
     go : (b : Bool) → (pick b 5 2990 + 0 % 5 ≡ 5) ⊎ (pick b 5 2990 + 0 % 5 ≡ 2990)
     go true = inl refl
     go false = inr refl
 
-group-first : (c : Copies) → c .group ≡ 0 → firstAddress c .0 ≡ 5
+group-first : (c : Copies) → c .group ≡ 0 → firstAddress c ≡ 5
 group-first c e = ap (λ (n : ℕ). headerAddress n 0) e
 
 -- the copies on their way: at their place, or behind a failed one
 pub data Ready (c : Copies) (d : Drive) : Type 0 where
   placed : CopyLink c d 0 → Ready c d
-  spoiled : c .locate ≡ true → c .outstanding ≡ 0 → d .failed ≡ true → (c .confirmed ≡ 0) ⊎ Copy (c .header) (d .tape) (nextAddress c .0) → Ready c d
+  spoiled : c .locate ≡ true → c .outstanding ≡ 0 → d .failed ≡ true → (c .confirmed ≡ 0) ⊎ Copy (c .header) (d .tape) (nextAddress c) → Ready c d
 
 -- what a reply gives: more copies, done with them, or an end
 pub data Next (h : Header) (d : Drive) : copying.ProgressSaid → Type 0 where
@@ -58,7 +59,7 @@ ready-rests {d = d} none (placed l) = let known = l .known in empty (no-frames (
 ready-rests none (spoiled t o f k) = stopped f
 
 -- a confirmed copy reads, below the next address
-ready-kept : {c : Copies} {d : Drive} → c .outstanding ≡ 0 → Ready c d → (c .confirmed ≡ 0) ⊎ Copy (c .header) (d .tape) (nextAddress c .0)
+ready-kept : {c : Copies} {d : Drive} → c .outstanding ≡ 0 → Ready c d → (c .confirmed ≡ 0) ⊎ Copy (c .header) (d .tape) (nextAddress c)
 ready-kept none (placed l) =
     let known = l .known in
     let next-is = l .next-is in
@@ -83,7 +84,7 @@ onward-next c d n r (view.unwritten filled none later lost) = ends 12 refl
 onward-next c d n r (view.through filled none later some) =
     through (ready-rests none r) (⊎-elim (λ e. absurd (omega arith)) (λ y. copy-higher (low (group-low c (n .groups))) y) (ready-kept none r))
   where
-    low : (firstAddress c .0 ≡ 5) ⊎ (firstAddress c .0 ≡ 2990) → nextAddress c .0 ≤ 2995
+    low : (firstAddress c ≡ 5) ⊎ (firstAddress c ≡ 2990) → nextAddress c ≤ 2995
     low (inl e) = let x = n .copies in omega arith
     low (inr e) = let x = n .copies in omega arith
 
@@ -106,7 +107,7 @@ module _ (c : Copies) (d : Drive) (n : CountsOf c) where
         kept = ⊎-elim (λ h. inl (omega arith)) inr (l .kept);
       })
 
-  pub located-next : PlacedOf c → CopySeek c d → d .buffer ≡ [] → d .at ≡ nextAddress c .0 → Next (c .header) d (copying.more (locatedOf c))
+  pub located-next : PlacedOf c → CopySeek c d → d .buffer ≡ [] → d .at ≡ nextAddress c → Next (c .header) d (copying.more (locatedOf c))
   located-next p s e at =
       let none = p .empty (s .due) in
       let left = p .left (s .due) in
@@ -140,17 +141,21 @@ module _ (c : Copies) (d : Drive) (n : CountsOf c) where
       })) (view.onward-view (confirmedOf c m)))
 
   pub failed-next : (p : Address) → p .0 ≡ d .at → d .failed ≡ true → CopyLink c d 0 → Next (c .header) d (failedOf c p)
-  unfolding failedOf
-  failed-next p at f l =
-      pick-by (λ (s : copying.ProgressSaid). Next (c .header) d s) (ltb (p .0) (oldestAddress c .0)) (λ _. ends 8 refl)
-      (λ x. pick-by (λ (s : copying.ProgressSaid). Next (c .header) d s) (leb (nextAddress c .0) (p .0)) (λ _. ends 8 refl)
-      (λ y.
-      let low = ltb-false (p .0) (oldestAddress c .0) x in
-      let high = leb-false (nextAddress c .0) (p .0) y in
-      let held = n .held in
-      let known = l .known in
-      let next-is = l .next-is in
-      let exact = confirmed-exact c n (p .0 - oldestAddress c .0) (omega arith) in
-      onward-next (failedAt c (p .0 - oldestAddress c .0) (p .0 - firstAddress c .0)) d (failed-counts c n p low high)
-      (spoiled refl refl f (⊎-elim (λ h. inl (omega arith)) (λ z. inr (copy-higher (omega arith) z)) (l .kept)))
-      (view.onward-view (failedAt c (p .0 - oldestAddress c .0) (p .0 - firstAddress c .0)))))
+  failed-next p at f l = go (view.failed-view c i)
+    where
+      i : ℕ
+      i = copyAt (c .group) (p .0)
+
+      go : {s : copying.ProgressSaid} → view.FailedView c i s → Next (c .header) d s
+      go (view.before _) = ends 8 refl
+      go (view.behind _) = ends 8 refl
+      go (view.failed low high) =
+          let held = n .held in
+          let most = n .copies in
+          let known = l .known in
+          let next-is = l .next-is in
+          let there = copy-address (c .group) (p .0) (omega arith) in
+          let exact = confirmed-exact c n (i - oldestCopy c) (omega arith) in
+          onward-next (failedAt c (i - oldestCopy c) i) d (failed-counts c n i low high)
+          (spoiled refl refl f (⊎-elim (λ h. inl (omega arith)) (λ z. inr (copy-higher (omega arith) z)) (l .kept)))
+          (view.onward-view (failedAt c (i - oldestCopy c) i))

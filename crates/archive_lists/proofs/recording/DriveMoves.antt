@@ -156,7 +156,7 @@ module _ {last pass : ℕ} {on-newest none-bears : Type 0} {prior : Prior} {w : 
 
   module _ (f : List ℕ) (rest : List (List ℕ)) (b : w .drive .buffer ≡ f ∷ rest) (free : w .drive .failed ≡ false) (st : ElementStage (w .session)) (agree : Writing last (w .session) (w .drive) (l .k) (l .edge) (w .flight))
       (course : (e : Drive) (k edge : ℕ) → Writing last (w .session) e k edge (w .flight) → Course last (length (l .list)) (withDrive w e (w .flight)) k edge) where
-    on : Goes last (w .session .elements .first .0) (w .session .elements .pending) (w .drive) rest (l .k) (l .edge) (λ e k edge. Writing last (w .session) e k edge (w .flight))
+    on : Goes last (w .session .elements .queue .first .0) (w .session .elements .queue .pending) (w .drive) rest (l .k) (l .edge) (λ e k edge. Writing last (w .session) e k edge (w .flight))
     on = writing-goes f rest (l .counted .held) b free agree
 
     room : l .k + 1 ≤ totalOf (w .session .elements .eod) (length (l .list))
@@ -262,7 +262,7 @@ module _ {last pass : ℕ} {on-newest none-bears : Type 0} {prior : Prior} {w : 
         (course : (e : Drive) → Writing last (w .session) e (l .k) (l .edge) (recordings.answered r) → Course last (length (l .list)) (withDrive w e (recordings.answered r)) (l .k) (l .edge)) where
       -- EOD, due alone and on tape, is outstanding: no LOCATE
       at-answers : {e : Drive} {k2 : Command} → EodDue (w .session .elements) (w .session .closed) → w .session .elements .eod ≡ true → l .k ≡ length (l .list) + 1
-          → Asks last (heldOf (w .session)) (w .session .elements .pending) (w .drive) (l .k) (l .edge) k2 → Does (w .drive) frame r k2 e → e .at ≡ w .drive .at
+          → Asks last (heldOf (w .session)) (w .session .elements .queue .pending) (w .drive) (l .k) (l .edge) k2 → Does (w .drive) frame r k2 e → e .at ≡ w .drive .at
       at-answers due b all x (alters-nothing _) = refl
       at-answers due b all x (takes-frame _ _) = refl
       at-answers (inv.not-yet v) b all (elements.moves a _ mo) (goes-to _) = clash b v
@@ -272,11 +272,11 @@ module _ {last pass : ℕ} {on-newest none-bears : Type 0} {prior : Prior} {w : 
           absurd (omega (arith, mo .first-is))
 
       -- a WRITE that is asked for is of the element behind those that the drive holds
-      taken-there : {a : Address} → Asks last (heldOf (w .session)) (w .session .elements .pending) (w .drive) (l .k) (l .edge) (Write a)
-          → (w .session .elements .locate ≡ false) × (w .session .elements .outstanding < w .session .elements .pending) × (w .session .elements .first .0 + w .session .elements .outstanding ≡ l .k + length (w .drive .buffer))
+      taken-there : {a : Address} → Asks last (heldOf (w .session)) (w .session .elements .queue .pending) (w .drive) (l .k) (l .edge) (Write a)
+          → (w .session .elements .course .locate ≡ false) × (w .session .elements .queue .outstanding < w .session .elements .queue .pending) × (w .session .elements .queue .first .0 + w .session .elements .queue .outstanding ≡ l .k + length (w .drive .buffer))
       taken-there (elements.writes a p due off low li) = (li .placed, due, let z = li .taken-is in omega arith)
 
-      queue-answers : {e : Drive} {k2 : Command} → w .flight ≡ recordings.sent k2 frame → Outgoing last pass (l .list) w (l .k) → Asks last (heldOf (w .session)) (w .session .elements .pending) (w .drive) (l .k) (l .edge) k2 → Does (w .drive) frame r k2 e → e .failed ≡ false
+      queue-answers : {e : Drive} {k2 : Command} → w .flight ≡ recordings.sent k2 frame → Outgoing last pass (l .list) w (l .k) → Asks last (heldOf (w .session)) (w .session .elements .queue .pending) (w .drive) (l .k) (l .edge) k2 → Does (w .drive) frame r k2 e → e .failed ≡ false
           → Queue last pass (l .list) (l .k) (e .buffer)
       unfolding Queue
       queue-answers q2 x asked (alters-nothing _) free = x .queue st free
@@ -284,7 +284,7 @@ module _ {last pass : ℕ} {on-newest none-bears : Type 0} {prior : Prior} {w : 
           queue-more last pass (l .list) (l .k) (w .drive .buffer) frame (x .queue st free) (subst (λ (j : ℕ). Stands last pass (itemAt (l .list) j) j frame) (taken-there asked .2) (x .sent a frame st q2))
       queue-answers q2 x asked (goes-to _) free = tt
 
-      trailing-answers : {e : Drive} {k2 : Command} → w .flight ≡ recordings.sent k2 frame → Asks last (heldOf (w .session)) (w .session .elements .pending) (w .drive) (l .k) (l .edge) k2 → Does (w .drive) frame r k2 e
+      trailing-answers : {e : Drive} {k2 : Command} → w .flight ≡ recordings.sent k2 frame → Asks last (heldOf (w .session)) (w .session .elements .queue .pending) (w .drive) (l .k) (l .edge) k2 → Does (w .drive) frame r k2 e
           → Trailing last pass prior (l .list) (w .notes .accepted) (w .session .stage) (w .session .elements) e (recordings.answered r) (l .k) (l .edge)
       trailing-answers q2 asked (alters-nothing _) = trailing-answered (l .trailing) r
       trailing-answers q2 asked (takes-frame a _) =
@@ -296,14 +296,14 @@ module _ {last pass : ℕ} {on-newest none-bears : Type 0} {prior : Prior} {w : 
       element-answers : Writing last (w .session) (w .drive) (l .k) (l .edge) (recordings.sent c frame) → Inv last pass on-newest none-bears prior (withDrive w d (recordings.answered r))
       element-answers (elements.under-way _ _ a g e x) = go (elements-answer x an)
         where
-          go : ElementsOutcome last (heldOf (w .session)) (w .session .elements .pending) d (l .k) (l .edge) r c → Inv last pass on-newest none-bears prior (withDrive w d (recordings.answered r))
+          go : ElementsOutcome last (heldOf (w .session)) (w .session .elements .queue .pending) d (l .k) (l .edge) r c → Inv last pass on-newest none-bears prior (withDrive w d (recordings.answered r))
           go (writing.goes-on y) =
               live within
               (relive d (recordings.answered r) (l .k) (l .edge) (le-refl (l .k)) (le-refl (l .edge))
-              (course d (elements.replied r a g (subst (λ z. Answered last (heldOf (w .session)) (w .session .elements .pending) d (l .k) (l .edge) r z) (sym e) y)))
+              (course d (elements.replied r a g (subst (λ z. Answered last (heldOf (w .session)) (w .session .elements .queue .pending) d (l .k) (l .edge) r z) (sym e) y)))
               (λ n. outgoing-answered (λ el free. queue-answers q (l .outgoing n) x (does an) free)) (same-eod-place (λ _ b all. at-answers due b all x (does an)) (l .eod-place)) (λ el. same-copy (l .copied el)) (λ p. same-below (l .below p)) (λ p. same-clean (l .clean p)) (λ p u. same-content (l .content p u))
               (trailing-answers q x (does an)))
-          go (writing.reject m safe) = lost (element-not-done (w .session) st) a (λ z. m (subst (λ k. Listed k (meaningOf (r .key) (r .asc) (r .ascq))) e z)) (λ _ b f. asks-off-header (subst (λ k. Asks last (heldOf (w .session)) (w .session .elements .pending) (w .drive) (l .k) (l .edge) k) (sym e ∙ f) x)) safe
+          go (writing.reject m safe) = lost (element-not-done (w .session) st) a (λ z. m (subst (λ k. Listed k (meaningOf (r .key) (r .asc) (r .ascq))) e z)) (λ _ b f. asks-off-header (subst (λ k. Asks last (heldOf (w .session)) (w .session .elements .queue .pending) (w .drive) (l .k) (l .edge) k) (sym e ∙ f) x)) safe
 
     live-answers : Course last (length (l .list)) w (l .k) (l .edge) → Inv last pass on-newest none-bears prior (withDrive w d (recordings.answered r))
     live-answers (inv.opening s u t a) = header-answers (inl s) a (λ _ y. inv.opening s u t y) (subst (Copying (w .session) (w .drive)) q (a .copying))

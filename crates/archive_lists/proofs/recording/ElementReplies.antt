@@ -81,7 +81,7 @@ module _ {last pass : ℕ} {on-newest none-bears : Type 0} {prior : Prior} (w : 
 
   -- ---- before the stage is looked at
 
-  module _ (e : Elements) (s : Step last (w .session) (w .drive) (l .k) (l .edge) e) (aims : w .session .setup .tail ≡ 0 → e .locate ≡ true → e .target .0 < e .limit .0) where
+  module _ (e : Elements) (s : Step last (w .session) (w .drive) (l .k) (l .edge) e) (aims : w .session .setup .tail ≡ 0 → e .course .locate ≡ true → e .course .target .0 < e .course .limit .0) where
     abbrev stepped : State
     stepped = withElements (repliedOf (w .session)) e
 
@@ -99,13 +99,13 @@ module _ {last pass : ℕ} {on-newest none-bears : Type 0} {prior : Prior} (w : 
         let first-is = s .first-is in
         record { wide = c .wide; held = s .held; windowed = omega arith; numbered = omega (arith, total-so); marks = ap (λ (x : List Bool). length x) (s .marks-is) ∙ c .marks; room = s .room }
 
-    stored-so : Content last pass (l .list) w (l .k) (l .edge) → (i : ℕ) → i < e .pending → StoredAs (itemAt (l .list) (e .first .0 + i)) (w .window) (e .marks) (blocksOf (w .session)) (e .first .0 + i)
+    stored-so : Content last pass (l .list) w (l .k) (l .edge) → (i : ℕ) → i < e .queue .pending → StoredAs (itemAt (l .list) (e .queue .first .0 + i)) (w .window) (e .queue .marks) (blocksOf (w .session)) (e .queue .first .0 + i)
     stored-so c i h =
         let pending-is = s .pending-is in
         let first-is = s .first-is in
-        let at : w .session .elements .first .0 + (s .n + i) ≡ e .first .0 + i = omega arith in
-        subst (λ (m : List Bool). StoredAs (itemAt (l .list) (e .first .0 + i)) (w .window) m (blocksOf (w .session)) (e .first .0 + i)) (sym (s .marks-is))
-        (subst (λ (j : ℕ). StoredAs (itemAt (l .list) j) (w .window) (w .session .elements .marks) (blocksOf (w .session)) j) at (c .stored (s .n + i) (omega arith)))
+        let at : w .session .elements .queue .first .0 + (s .n + i) ≡ e .queue .first .0 + i = omega arith in
+        subst (λ (m : List Bool). StoredAs (itemAt (l .list) (e .queue .first .0 + i)) (w .window) m (blocksOf (w .session)) (e .queue .first .0 + i)) (sym (s .marks-is))
+        (subst (λ (j : ℕ). StoredAs (itemAt (l .list) j) (w .window) (w .session .elements .queue .marks) (blocksOf (w .session)) j) at (c .stored (s .n + i) (omega arith)))
 
     content-so : none-bears → w .notes .unaltered ≡ true → Content last pass (l .list) (repliedWorld w stepped) (l .k) (s .tried)
     content-so p u =
@@ -116,10 +116,10 @@ module _ {last pass : ℕ} {on-newest none-bears : Type 0} {prior : Prior} (w : 
           stored = stored-so c;
         }
 
-    first-small : w .session .elements .first .0 + w .session .elements .pending < 2 ^ 32
+    first-small : w .session .elements .queue .first .0 + w .session .elements .queue .pending < 2 ^ 32
     first-small = numbered-small (l .course)
       where
-        numbered-small : Course last (length (l .list)) w (l .k) (l .edge) → w .session .elements .first .0 + w .session .elements .pending < 2 ^ 32
+        numbered-small : Course last (length (l .list)) w (l .k) (l .edge) → w .session .elements .queue .first .0 + w .session .elements .queue .pending < 2 ^ 32
         numbered-small (inv.opening q _ _ _) = never (cc)
         numbered-small (inv.writing _ _ a) = omega (arith, writing-numbers (l .counted .held) a .low, l .counted .windowed, l .counted .wide, set .small)
         numbered-small (inv.closing q _ _ _ _ _) = never (cc)
@@ -151,8 +151,8 @@ module _ {last pass : ℕ} {on-newest none-bears : Type 0} {prior : Prior} (w : 
 
     -- ---- EOD is on tape
 
-    module _ (v : w .session .elements .eod ≡ true) (closed : w .session .closed ≡ true) (some : 0 < w .session .elements .pending) (none : e .pending ≡ 0) where
-      on-tape : (l .k ≡ e .first .0) × AtRest (w .drive) × (isUser last (e .next .0 - 1) ≡ true) × (e .next .0 ≡ w .drive .at)
+    module _ (v : w .session .elements .eod ≡ true) (closed : w .session .closed ≡ true) (some : 0 < w .session .elements .queue .pending) (none : e .queue .pending ≡ 0) where
+      on-tape : (l .k ≡ e .queue .first .0) × AtRest (w .drive) × (isUser last (e .course .next .0 - 1) ≡ true) × (e .course .next .0 ≡ w .drive .at)
       on-tape = s .all some none
 
       total : totalOf (w .session .elements .eod) (length (l .list)) ≡ length (l .list) + 1
@@ -179,11 +179,11 @@ module _ {last pass : ℕ} {on-newest none-bears : Type 0} {prior : Prior} (w : 
           go (no h) = seen-top (set .large) (omega arith) here
 
       -- EOD is not below the start
-      end-late : prior .start ≤ e .next .0 - 1
+      end-late : prior .start ≤ e .course .next .0 - 1
       end-late = subst (λ (a : ℕ). prior .start ≤ a - 1) (sym (on-tape .3)) (l .eod-place .written st v all-on .1)
 
-      end-low : e .next .0 - 1 ≤ last
-      end-low = user-within last (e .next .0 - 1) (set .large) (on-tape .2)
+      end-low : e .course .next .0 - 1 ≤ last
+      end-low = user-within last (e .course .next .0 - 1) (set .large) (on-tape .2)
 
       closing-live : w .session .exchange .again ≡ false → Live last pass on-newest none-bears prior (repliedWorld w (closingStarted stepped))
       closing-live again =
@@ -199,10 +199,10 @@ module _ {last pass : ℕ} {on-newest none-bears : Type 0} {prior : Prior} (w : 
             carried = record {
               last-is = l .carried .last-is;
               pass-is = l .carried .pass-is;
-              eod-fits = either-right (eqb (e .next .0 - 1) 0) (isUser last (e .next .0 - 1)) (on-tape .2);
+              eod-fits = either-right (eqb (e .course .next .0 - 1) 0) (isUser last (e .course .next .0 - 1)) (on-tape .2);
               old-low = omega arith;
               count-fits = let h = l .carried .count-fits in omega (arith, count-up, ap spareOf st);
-              late = inr (subst (λ (n : ℕ). prior .start ≤ n) (sym (from-named (toldOf (closingHeader stepped)) (user-some last (e .next .0 - 1) (on-tape .2)))) end-late);
+              late = inr (subst (λ (n : ℕ). prior .start ≤ n) (sym (from-named (toldOf (closingHeader stepped)) (user-some last (e .course .next .0 - 1) (on-tape .2)))) end-late);
               newer = omega (arith, l .carried .newer, count-up);
               counts = omega (arith, l .carried .counts, count-up, ap spareOf st);
               unnamed = λ spare. absurd (omega arith);
@@ -233,7 +233,7 @@ module _ {last pass : ℕ} {on-newest none-bears : Type 0} {prior : Prior} (w : 
 
   -- ---- by stage
 
-  settles : w .session .exchange .again ≡ false → EodDue (w .session .elements) (w .session .closed) → (e : Elements) → Step last (w .session) (w .drive) (l .k) (l .edge) e → (w .session .setup .tail ≡ 0 → e .locate ≡ true → e .target .0 < e .limit .0) → Inv last pass on-newest none-bears prior (repliedWorld w (settledOf (withElements (repliedOf (w .session)) e)))
+  settles : w .session .exchange .again ≡ false → EodDue (w .session .elements) (w .session .closed) → (e : Elements) → Step last (w .session) (w .drive) (l .k) (l .edge) e → (w .session .setup .tail ≡ 0 → e .course .locate ≡ true → e .course .target .0 < e .course .limit .0) → Inv last pass on-newest none-bears prior (repliedWorld w (settledOf (withElements (repliedOf (w .session)) e)))
   settles again (inv.not-yet v) e s aims =
       let x = stepped-live e s aims (inv.writing st (inv.not-yet (s .eod-is ∙ v)) (s .writing)) in
       settled-cases (withElements (repliedOf (w .session)) e) (λ (u : State). Inv last pass on-newest none-bears prior (repliedWorld w u)) (λ _. live wr x)
@@ -242,7 +242,7 @@ module _ {last pass : ℕ} {on-newest none-bears : Type 0} {prior : Prior} (w : 
       settled-cases (withElements (repliedOf (w .session)) e) (λ (u : State). Inv last pass on-newest none-bears prior (repliedWorld w u)) (λ why. live wr (stepped-live e s aims (inv.writing st (inv.alone (s .eod-is ∙ v) c (still why)) (s .writing))))
       (λ _ b _ _. clash (s .eod-is ∙ v) b) (λ _ _ none. live wr (closing-live e s aims v c (omega arith) none again))
     where
-      still : (0 < e .pending) ⊎ (HeaderStage (withElements (repliedOf (w .session)) e) ⊎ (w .session .stage ≡ S.Done)) ⊎ ((e .eod ≡ false) × (w .session .closed ≡ false)) → e .pending ≡ 1
+      still : (0 < e .queue .pending) ⊎ (HeaderStage (withElements (repliedOf (w .session)) e) ⊎ (w .session .stage ≡ S.Done)) ⊎ ((e .eod ≡ false) × (w .session .closed ≡ false)) → e .queue .pending ≡ 1
       still (inl h) = let p = s .pending-is in omega arith
       still (inr (inl (inl (inl h)))) = never (cc)
       still (inr (inl (inl (inr h)))) = never (cc)
@@ -273,10 +273,10 @@ module _ {last pass : ℕ} {on-newest none-bears : Type 0} {prior : Prior} (w : 
     by : {x : reply.SteppedSaid} (n : ℕ) → caseOf (w .session) r ≡ n → replyBy (w .session) n r ≡ elementReplyBy x (w .session) → Reached last (w .session) (w .drive) (l .k) (l .edge) x → Safe last (w .drive) → After (replyOf (w .session) r)
     by n e a x safe = subst After (sym (reply-so (w .session) r (asked-so (w .session) r (l .going) asked) e ∙ a)) (reached-so x safe)
 
-    low : w .session .elements .pending ≤ 64
+    low : w .session .elements .queue .pending ≤ 64
     low = let a = l .counted .windowed in let b = l .counted .wide in omega arith
 
-    repeated : {c : Command} (n : ℕ) → w .session .exchange .command ≡ c → caseOf (w .session) r ≡ n → replyBy (w .session) n r ≡ accepting (repeatedOf (w .session)) → Asks last (heldOf (w .session)) (w .session .elements .pending) (w .drive) (l .k) (l .edge) c → After (replyOf (w .session) r)
+    repeated : {c : Command} (n : ℕ) → w .session .exchange .command ≡ c → caseOf (w .session) r ≡ n → replyBy (w .session) n r ≡ accepting (repeatedOf (w .session)) → Asks last (heldOf (w .session)) (w .session .elements .queue .pending) (w .drive) (l .k) (l .edge) c → After (replyOf (w .session) r)
     repeated n e z b y =
         subst After (sym (reply-so (w .session) r (asked-so (w .session) r (l .going) asked) z ∙ b))
         (live wr (record {
@@ -299,10 +299,10 @@ module _ {last pass : ℕ} {on-newest none-bears : Type 0} {prior : Prior} (w : 
           trailing = trailing-idle (l .trailing);
         }))
       where
-        asks : Asks last (heldOf (repeatedOf (w .session))) (w .session .elements .pending) (w .drive) (l .k) (l .edge) (w .session .exchange .command)
-        asks = reask (heldOf (w .session)) (heldOf (repeatedOf (w .session))) refl refl refl refl (subst (λ (i : Command). Asks last (heldOf (w .session)) (w .session .elements .pending) (w .drive) (l .k) (l .edge) i) (sym e) y)
+        asks : Asks last (heldOf (repeatedOf (w .session))) (w .session .elements .queue .pending) (w .drive) (l .k) (l .edge) (w .session .exchange .command)
+        asks = reask (heldOf (w .session)) (heldOf (repeatedOf (w .session))) refl refl refl (subst (λ (i : Command). Asks last (heldOf (w .session)) (w .session .elements .queue .pending) (w .drive) (l .k) (l .edge) i) (sym e) y)
 
-    busy-by : {c : Command} → Means r busy → w .session .exchange .command ≡ c → Asks last (heldOf (w .session)) (w .session .elements .pending) (w .drive) (l .k) (l .edge) c → After (replyOf (w .session) r)
+    busy-by : {c : Command} → Means r busy → w .session .exchange .command ≡ c → Asks last (heldOf (w .session)) (w .session .elements .queue .pending) (w .drive) (l .k) (l .edge) c → After (replyOf (w .session) r)
     unfolding replyBy
     busy-by m e (elements.writes a p d o lo y) = repeated writeBusy e (case-is (w .session) r (l .going) asked e m) refl (elements.writes a p d o lo y)
     busy-by m e (elements.asks y) = repeated positionBusy e (case-is (w .session) r (l .going) asked e m) refl (elements.asks y)
@@ -311,23 +311,23 @@ module _ {last pass : ℕ} {on-newest none-bears : Type 0} {prior : Prior} (w : 
     small : last + 65 < 2 ^ 32
     small = set .small
 
-    element-replies : (c : Command) → w .session .exchange .command ≡ c → Answered last (heldOf (w .session)) (w .session .elements .pending) (w .drive) (l .k) (l .edge) r c → After (replyOf (w .session) r)
+    element-replies : (c : Command) → w .session .exchange .command ≡ c → Answered last (heldOf (w .session)) (w .session .elements .queue .pending) (w .drive) (l .k) (l .edge) r c → After (replyOf (w .session) r)
     unfolding replyBy
     element-replies c e (elements.taken a m due x) =
-        by writeGood (case-is (w .session) r (l .going) asked e m) (by-elements (w .session) _ _ st) (steps.goes _ (taken-step last (w .session) (w .drive) (l .k) (l .edge) small again (l .counted .held) low (l .counted .room) due x) (λ t. clash t (x .placed))) (link-safe x)
+        by writeGood (case-is (w .session) r (l .going) asked e m) (by-elements (w .session) _ st) (steps.goes _ (taken-step last (w .session) (w .drive) (l .k) (l .edge) small again (l .counted .held) low (l .counted .room) due x) (λ t. clash t (x .placed))) (link-safe x)
     element-replies c e (elements.counted m b x) =
-        by positionGood (case-is (w .session) r (l .going) asked e m) (by-elements (w .session) _ _ st) (counted-step last (w .session) (w .drive) (l .k) (l .edge) small again (l .counted .held) low (l .counted .room) x (r .buffered) b) (link-safe x)
+        by positionGood (case-is (w .session) r (l .going) asked e m) (by-elements (w .session) _ st) (counted-step last (w .session) (w .drive) (l .k) (l .edge) small again (l .counted .held) low (l .counted .room) x (r .buffered) b) (link-safe x)
     element-replies c e (elements.failed-write a m f p x) =
-        by writeFailed (case-is (w .session) r (l .going) asked e m) (by-elements (w .session) _ _ st) (failed-step last (w .session) (w .drive) (l .k) (l .edge) small again (l .counted .held) low (l .counted .room) x (w .session .setup .tail) (r .position) (r .skip) p f) (link-safe x)
+        by writeFailed (case-is (w .session) r (l .going) asked e m) (by-elements (w .session) _ st) (failed-step last (w .session) (w .drive) (l .k) (l .edge) small again (l .counted .held) low (l .counted .room) x (w .session .setup .tail) (r .position) (r .skip) p f) (link-safe x)
     element-replies c e (elements.failed-position m f p x) =
-        by positionFailed (case-is (w .session) r (l .going) asked e m) (by-elements (w .session) _ _ st) (failed-step last (w .session) (w .drive) (l .k) (l .edge) small again (l .counted .held) low (l .counted .room) x (w .session .setup .tail) (r .position) (r .skip) p f) (link-safe x)
+        by positionFailed (case-is (w .session) r (l .going) asked e m) (by-elements (w .session) _ st) (failed-step last (w .session) (w .drive) (l .k) (l .edge) small again (l .counted .held) low (l .counted .room) x (w .session .setup .tail) (r .position) (r .skip) p f) (link-safe x)
     element-replies c e (elements.filled a m lo x) =
-        by writeOverflow (case-is (w .session) r (l .going) asked e m) (by-elements (w .session) _ _ st ∙ ap (λ (y : Command). elementReplyBy (kept-short y) (w .session)) e) (steps.goes _ (filled-step last (w .session) (w .drive) (l .k) (l .edge) small again (l .counted .held) low (l .counted .room) a lo x) (λ t. clash t (x .placed))) (link-safe x)
+        by writeOverflow (case-is (w .session) r (l .going) asked e m) (by-elements (w .session) _ st ∙ ap (λ (y : Command). elementReplyBy (kept-short y) (w .session)) e) (steps.goes _ (filled-step last (w .session) (w .drive) (l .k) (l .edge) small again (l .counted .held) low (l .counted .room) a lo x) (λ t. clash t (x .placed))) (link-safe x)
       where
         kept-short : Command → reply.SteppedSaid
         kept-short y = reply.kept (reply.overflowedOf (w .session .elements) (commandAddress y))
     element-replies c e (elements.moved a m none-left f p roof x) =
-        by locateGood (case-is (w .session) r (l .going) asked e m) (by-elements (w .session) _ _ st ∙ ap (λ (y : Command). elementReplyBy (kept-located y) (w .session)) e) (steps.goes _ (moved-step last (w .session) (w .drive) (l .k) (l .edge) small again (l .counted .held) low (l .counted .room) a none-left f p roof x) (λ t. absurd (true≢false (sym t)))) (rests-safe (x .rests))
+        by locateGood (case-is (w .session) r (l .going) asked e m) (by-elements (w .session) _ st ∙ ap (λ (y : Command). elementReplyBy (kept-located y) (w .session)) e) (steps.goes _ (moved-step last (w .session) (w .drive) (l .k) (l .edge) small again (l .counted .held) low (l .counted .room) a none-left f p roof x) (λ t. absurd (true≢false (sym t)))) (rests-safe (x .rests))
       where
         kept-located : Command → reply.SteppedSaid
         kept-located y = reply.kept (reply.locatedOf (w .session .elements) (commandAddress y))

@@ -24,13 +24,13 @@ edgeOf false a = a
 
 -- the drive is where the session writes: k elements are on tape, and it has taken so many more than the session knows of
 pub record Linked (last : ℕ) (h : Held) (d : Drive) (k edge extra : ℕ) : Type 0 where
-  pub placed : h .locate ≡ false
+  pub placed : h .course .locate ≡ false
   pub taken-is : h .first .0 + h .outstanding + extra ≡ k + length (d .buffer)
-  pub next-is : h .next .0 + extra ≡ d .at + length (d .buffer)
+  pub next-is : h .course .next .0 + extra ≡ d .at + length (d .buffer)
   pub known : length (d .buffer) ≤ h .outstanding + extra
-  pub roof : h .next .0 + extra ≤ last + 1
+  pub roof : h .course .next .0 + extra ≤ last + 1
   -- the outstanding ones lie below 2,990, or from 3,000 on
-  pub zone : (h .next .0 + extra ≤ 2990) ⊎ (3000 + h .outstanding ≤ h .next .0)
+  pub zone : (h .course .next .0 + extra ≤ 2990) ⊎ (3000 + h .outstanding ≤ h .course .next .0)
   -- numbers stay below addresses, so that none wraps
   pub spread : k + 10 ≤ d .at
   pub edge-is : edge ≡ edgeOf (d .failed) (d .at)
@@ -47,7 +47,7 @@ pub record Moving (last : ℕ) (h : Held) (d : Drive) (k edge target : ℕ) : Ty
 
 -- what is known while a command is with the drive, or is to be given again
 pub data Asks (last : ℕ) (h : Held) (pending : ℕ) (d : Drive) (k edge : ℕ) : Command → Type 0 where
-  writes : (a : Address) → a ≡ h .next → h .outstanding < pending → (h .next .0 ≡ 2990 → ⊥) → h .next .0 ≤ last → Linked last h d k edge 0 → Asks last h pending d k edge (Write a)
+  writes : (a : Address) → a ≡ h .course .next → h .outstanding < pending → (h .course .next .0 ≡ 2990 → ⊥) → h .course .next .0 ≤ last → Linked last h d k edge 0 → Asks last h pending d k edge (Write a)
   asks : Linked last h d k edge 0 → Asks last h pending d k edge ReadPosition
   moves : (a : Address) → a .0 ≤ last → Moving last h d k edge (a .0) → Asks last h pending d k edge (Locate a)
 
@@ -63,7 +63,7 @@ pub data Answered (last : ℕ) (h : Held) (pending : ℕ) (d : Drive) (k edge : 
 
 pub data Writing (last : ℕ) (s : State) (d : Drive) (k edge : ℕ) : Flight → Type 0 where
   at-place : s .exchange .awaiting ≡ false → s .exchange .again ≡ false → Linked last (heldOf s) d k edge 0 → Writing last s d k edge recordings.no-command
-  to-locate : s .exchange .awaiting ≡ false → s .exchange .again ≡ false → s .elements .locate ≡ true → Moving last (heldOf s) d k edge (s .elements .target .0) → Writing last s d k edge recordings.no-command
-  again : s .exchange .awaiting ≡ false → s .exchange .again ≡ true → Asks last (heldOf s) (s .elements .pending) d k edge (s .exchange .command) → Writing last s d k edge recordings.no-command
-  under-way : (c : Command) (f : List ℕ) → s .exchange .awaiting ≡ true → s .exchange .again ≡ false → s .exchange .command ≡ c → Asks last (heldOf s) (s .elements .pending) d k edge c → Writing last s d k edge (recordings.sent c f)
-  replied : (r : Reply) → s .exchange .awaiting ≡ true → s .exchange .again ≡ false → Answered last (heldOf s) (s .elements .pending) d k edge r (s .exchange .command) → Writing last s d k edge (recordings.answered r)
+  to-locate : s .exchange .awaiting ≡ false → s .exchange .again ≡ false → s .elements .course .locate ≡ true → Moving last (heldOf s) d k edge (s .elements .course .target .0) → Writing last s d k edge recordings.no-command
+  again : s .exchange .awaiting ≡ false → s .exchange .again ≡ true → Asks last (heldOf s) (s .elements .queue .pending) d k edge (s .exchange .command) → Writing last s d k edge recordings.no-command
+  under-way : (c : Command) (f : List ℕ) → s .exchange .awaiting ≡ true → s .exchange .again ≡ false → s .exchange .command ≡ c → Asks last (heldOf s) (s .elements .queue .pending) d k edge c → Writing last s d k edge (recordings.sent c f)
+  replied : (r : Reply) → s .exchange .awaiting ≡ true → s .exchange .again ≡ false → Answered last (heldOf s) (s .elements .queue .pending) d k edge r (s .exchange .command) → Writing last s d k edge (recordings.answered r)

@@ -108,13 +108,13 @@ module _ (last : ℕ) (h : Held) (d : Drive) (k edge : ℕ) (pending : ℕ) (hel
   answered-goes (link.moved a m none-left fresh at _ s) = rests-still b free (s .rests)
   answered-goes (waits c m a) = map-goes (λ _ _ _ x. waits c m x) (asks-goes a)
 
-pub writing-goes : {last : ℕ} {s : State} {d : Drive} {k edge : ℕ} {g : Flight} (f : List ℕ) (rest : List (List ℕ)) → s .elements .outstanding ≤ s .elements .pending → d .buffer ≡ f ∷ rest → d .failed ≡ false
-    → Writing last s d k edge g → Goes last (s .elements .first .0) (s .elements .pending) d rest k edge (λ e j x. Writing last s e j x g)
-writing-goes {last} {s} {d} {k} {edge} f rest held b free (at-place a g l) = map-goes (λ _ _ _ x. at-place a g x) (link-goes last (heldOf s) d k edge (s .elements .pending) held f rest b free (omega (arith, held)) l)
+pub writing-goes : {last : ℕ} {s : State} {d : Drive} {k edge : ℕ} {g : Flight} (f : List ℕ) (rest : List (List ℕ)) → s .elements .queue .outstanding ≤ s .elements .queue .pending → d .buffer ≡ f ∷ rest → d .failed ≡ false
+    → Writing last s d k edge g → Goes last (s .elements .queue .first .0) (s .elements .queue .pending) d rest k edge (λ e j x. Writing last s e j x g)
+writing-goes {last} {s} {d} {k} {edge} f rest held b free (at-place a g l) = map-goes (λ _ _ _ x. at-place a g x) (link-goes last (heldOf s) d k edge (s .elements .queue .pending) held f rest b free (omega (arith, held)) l)
 writing-goes f rest held b free (to-locate a g r l) = rests-still b free (l .rests)
-writing-goes {last} {s} {d} {k} {edge} f rest held b free (again a g x) = map-goes (λ _ _ _ y. again a g y) (asks-goes last (heldOf s) d k edge (s .elements .pending) held f rest b free x)
-writing-goes {last} {s} {d} {k} {edge} f rest held b free (under-way c fr a g e x) = map-goes (λ _ _ _ y. under-way c fr a g e y) (asks-goes last (heldOf s) d k edge (s .elements .pending) held f rest b free x)
-writing-goes {last} {s} {d} {k} {edge} f rest held b free (replied r a g x) = map-goes (λ _ _ _ y. replied r a g y) (answered-goes last (heldOf s) d k edge (s .elements .pending) held f rest b free x)
+writing-goes {last} {s} {d} {k} {edge} f rest held b free (again a g x) = map-goes (λ _ _ _ y. again a g y) (asks-goes last (heldOf s) d k edge (s .elements .queue .pending) held f rest b free x)
+writing-goes {last} {s} {d} {k} {edge} f rest held b free (under-way c fr a g e x) = map-goes (λ _ _ _ y. under-way c fr a g e y) (asks-goes last (heldOf s) d k edge (s .elements .queue .pending) held f rest b free x)
+writing-goes {last} {s} {d} {k} {edge} f rest held b free (replied r a g x) = map-goes (λ _ _ _ y. replied r a g y) (answered-goes last (heldOf s) d k edge (s .elements .queue .pending) held f rest b free x)
 
 -- ---- what it may still write
 
@@ -128,7 +128,7 @@ link-safe {last} {h} {d} {k} {edge} {extra} l = allowed (λ i below.
 
 -- ---- it answers
 
-link-takes : {last : ℕ} {h : Held} {d : Drive} {k edge : ℕ} (f : List ℕ) → (h .next .0 ≡ 2990 → ⊥) → h .next .0 ≤ last → Linked last h d k edge 0 → Linked last h (taking d f) k edge 1
+link-takes : {last : ℕ} {h : Held} {d : Drive} {k edge : ℕ} (f : List ℕ) → (h .course .next .0 ≡ 2990 → ⊥) → h .course .next .0 ≤ last → Linked last h d k edge 0 → Linked last h (taking d f) k edge 1
 link-takes {last} {h} {d} {k} f off low l =
     let more : length (d .buffer ++ f ∷ []) ≡ length (d .buffer) + 1 = length-append (d .buffer) (f ∷ []) in
     let taken-is = l .taken-is in
@@ -154,8 +154,8 @@ pub asks-off-header : {last : ℕ} {h : Held} {pending : ℕ} {d : Drive} {k edg
 asks-off-header {last} {h} {d = d} {k} (writes a p due off low l) =
     let next-is = l .next-is in
     let spread = l .spread in
-    let user : isUser last (h .next .0) ≡ true = ranges-user last (h .next .0) (⊎-elim (λ z. inl (omega arith, omega (arith, off))) (λ z. inr (omega arith, low)) (l .zone)) in
-    subst (λ (x : Address). isHeader (x .0) ≡ false) (sym p) (user-not-header last (h .next .0) user)
+    let user : isUser last (h .course .next .0) ≡ true = ranges-user last (h .course .next .0) (⊎-elim (λ z. inl (omega arith, omega (arith, off))) (λ z. inr (omega arith, low)) (l .zone)) in
+    subst (λ (x : Address). isHeader (x .0) ≡ false) (sym p) (user-not-header last (h .course .next .0) user)
 
 pub data ElementsOutcome (last : ℕ) (h : Held) (pending : ℕ) (d : Drive) (k edge : ℕ) (r : Reply) (c : Command) : Type 0 where
   goes-on : Answered last h pending d k edge r c → ElementsOutcome last h pending d k edge r c

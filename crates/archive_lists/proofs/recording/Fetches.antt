@@ -87,9 +87,9 @@ module _ {last pass : ℕ} {on-newest none-bears : Type 0} {prior : Prior} (w : 
   known-left : KnownLent → Known none-bears w
   known-left n = ⊎-elim (λ y. inl (y .0, as-left (y .1) .0)) inr n
 
-  stored-lent : lent ≡ w .window → Content last pass (l .list) w (l .k) (l .edge) → (i : ℕ) → i < w .session .elements .pending
-      → StoredAs (itemAt (l .list) (w .session .elements .first .0 + i)) lent (w .session .elements .marks) (blocksOf (w .session)) (w .session .elements .first .0 + i)
-  stored-lent e c i h = subst (λ (x : List ℕ). StoredAs (itemAt (l .list) (w .session .elements .first .0 + i)) x (w .session .elements .marks) (blocksOf (w .session)) (w .session .elements .first .0 + i)) (sym e) (c .stored i h)
+  stored-lent : lent ≡ w .window → Content last pass (l .list) w (l .k) (l .edge) → (i : ℕ) → i < w .session .elements .queue .pending
+      → StoredAs (itemAt (l .list) (w .session .elements .queue .first .0 + i)) lent (w .session .elements .queue .marks) (blocksOf (w .session)) (w .session .elements .queue .first .0 + i)
+  stored-lent e c i h = subst (λ (x : List ℕ). StoredAs (itemAt (l .list) (w .session .elements .queue .first .0 + i)) x (w .session .elements .queue .marks) (blocksOf (w .session)) (w .session .elements .queue .first .0 + i)) (sym e) (c .stored i h)
 
   -- ---- nothing goes out: idle, or done
 
@@ -131,10 +131,10 @@ module _ {last pass : ℕ} {on-newest none-bears : Type 0} {prior : Prior} (w : 
 
     goes-out : (edge : ℕ) → Course last (length (l .list)) sentWorld (l .k) edge
         → ((a : Address) (f : List ℕ) → Known none-bears sentWorld → ElementStage (w .session) → recordings.sent c (frameFor c (w .session) lent frame) ≡ recordings.sent (Write a) f
-        → Stands last pass (itemAt (l .list) (w .session .elements .first .0 + w .session .elements .outstanding)) (w .session .elements .first .0 + w .session .elements .outstanding) f)
+        → Stands last pass (itemAt (l .list) (w .session .elements .queue .first .0 + w .session .elements .queue .outstanding)) (w .session .elements .queue .first .0 + w .session .elements .queue .outstanding) f)
         → l .edge ≤ edge
         → ((a : Address) (f : List ℕ) → ElementStage (w .session) → recordings.sent c (frameFor c (w .session) lent frame) ≡ recordings.sent (Write a) f
-        → Says last pass (l .list) (Place prior last pass (l .k) (w .drive .at) edge (w .drive .tape)) (w .session .elements .first .0 + w .session .elements .outstanding) f)
+        → Says last pass (l .list) (Place prior last pass (l .k) (w .drive .at) edge (w .drive .tape)) (w .session .elements .queue .first .0 + w .session .elements .queue .outstanding) f)
         → Live last pass on-newest none-bears prior sentWorld
     goes-out edge course sent further says = record {
       k = l .k;
@@ -202,16 +202,16 @@ module _ {last pass : ℕ} {on-newest none-bears : Type 0} {prior : Prior} (w : 
   record Out (c : Command) : Type 0 where
     edge : ℕ
     further : l .edge ≤ edge
-    asks : Asks last (heldOf (w .session)) (w .session .elements .pending) (w .drive) (l .k) edge c
+    asks : Asks last (heldOf (w .session)) (w .session .elements .queue .pending) (w .drive) (l .k) edge c
 
-  limit-low : (tail : ℕ) (e : Elements) → limitOf tail e .0 ≤ e .limit .0
-  limit-low tail e = pick-by (λ (a : Address). a .0 ≤ e .limit .0) (e .eod) (λ _. le-refl (e .limit .0)) (λ _. omega arith)
+  limit-low : (tail : ℕ) (e : Elements) → limitOf tail e .0 ≤ e .course .limit .0
+  limit-low tail e = pick-by (λ (a : Address). a .0 ≤ e .course .limit .0) (e .eod) (λ _. le-refl (e .course .limit .0)) (λ _. omega arith)
 
   edge-low : (b : Bool) (a : ℕ) → edgeOf b a ≤ a + 1
   edge-low true a = le-refl (a + 1)
   edge-low false a = omega arith
 
-  cross : Linked last (heldOf (w .session)) (w .drive) (l .k) (l .edge) 0 → w .session .elements .outstanding ≡ 0 → w .session .elements .next .0 ≡ 2990 → Out (Locate (asAddress 3000))
+  cross : Linked last (heldOf (w .session)) (w .drive) (l .k) (l .edge) 0 → w .session .elements .queue .outstanding ≡ 0 → w .session .elements .course .next .0 ≡ 2990 → Out (Locate (asAddress 3000))
   cross x none gap =
       let taken-is = x .taken-is in
       let next-is = x .next-is in
@@ -235,7 +235,7 @@ module _ {last pass : ℕ} {on-newest none-bears : Type 0} {prior : Prior} (w : 
 
   out-element : {x : CommandSaid} → rule.DueView (w .session .setup .depth) (w .session .setup .tail) (w .session .elements) (due.send x) → w .session .exchange .again ≡ false → Writing last (w .session) (w .drive) (l .k) (l .edge) recordings.no-command → Out (commandFor x)
   out-element (rule.relocating r near) ag (elements.at-place a g x) = clash r (x .placed)
-  out-element (rule.relocating r near) ag (elements.to-locate a g q x) = record { edge = l .edge; further = le-refl (l .edge); asks = elements.moves (w .session .elements .target) (omega (arith, near, l .counted .room)) x }
+  out-element (rule.relocating r near) ag (elements.to-locate a g q x) = record { edge = l .edge; further = le-refl (l .edge); asks = elements.moves (w .session .elements .course .target) (omega (arith, near, l .counted .room)) x }
   out-element (rule.relocating r near) ag (elements.again a g x) = clash g ag
   out-element (rule.settling r p o) ag (elements.at-place a g x) = record { edge = l .edge; further = le-refl (l .edge); asks = elements.asks x }
   out-element (rule.settling r p o) ag (elements.to-locate a g q x) = clash q r
@@ -247,7 +247,7 @@ module _ {last pass : ℕ} {on-newest none-bears : Type 0} {prior : Prior} (w : 
   out-element (rule.jumping r p none below gap) ag (elements.to-locate a g q x) = clash q r
   out-element (rule.jumping r p none below gap) ag (elements.again a g x) = clash g ag
   out-element (rule.writing r p room below off) ag (elements.at-place a g x) =
-      record { edge = l .edge; further = le-refl (l .edge); asks = elements.writes (w .session .elements .next) refl p off (omega (arith, below, l .counted .room, limit-low (w .session .setup .tail) (w .session .elements))) x }
+      record { edge = l .edge; further = le-refl (l .edge); asks = elements.writes (w .session .elements .course .next) refl p off (omega (arith, below, l .counted .room, limit-low (w .session .setup .tail) (w .session .elements))) x }
   out-element (rule.writing r p room below off) ag (elements.to-locate a g q x) = clash q r
   out-element (rule.writing r p room below off) ag (elements.again a g x) = clash g ag
 
@@ -256,51 +256,51 @@ module _ {last pass : ℕ} {on-newest none-bears : Type 0} {prior : Prior} (w : 
   again-element ag (elements.to-locate a g q x) = clash ag g
   again-element ag (elements.again a g x) = record { edge = l .edge; further = le-refl (l .edge); asks = x }
 
-  due-of : {k edge : ℕ} {a : Address} → Asks last (heldOf (w .session)) (w .session .elements .pending) (w .drive) k edge (Write a) → w .session .elements .outstanding < w .session .elements .pending
+  due-of : {k edge : ℕ} {a : Address} → Asks last (heldOf (w .session)) (w .session .elements .queue .pending) (w .drive) k edge (Write a) → w .session .elements .queue .outstanding < w .session .elements .queue .pending
   due-of (elements.writes a p due off low x) = due
 
   -- the frame of a WRITE
-  module _ (long : length lent ≡ windowLength (w .session)) (numbers : Numbers last (w .session .elements .first .0) (w .session .elements .outstanding) (w .session .elements .pending) (l .k) (w .drive))
+  module _ (long : length lent ≡ windowLength (w .session)) (numbers : Numbers last (w .session .elements .queue .first .0) (w .session .elements .queue .outstanding) (w .session .elements .queue .pending) (l .k) (w .drive))
       (phase : EodDue (w .session .elements) (w .session .closed)) where
-    stands-sent : KnownLent → ElementStage (w .session) → w .session .elements .outstanding < w .session .elements .pending
-        → Stands last pass (itemAt (l .list) (w .session .elements .first .0 + w .session .elements .outstanding)) (w .session .elements .first .0 + w .session .elements .outstanding) (writtenFrame (w .session) lent)
+    stands-sent : KnownLent → ElementStage (w .session) → w .session .elements .queue .outstanding < w .session .elements .queue .pending
+        → Stands last pass (itemAt (l .list) (w .session .elements .queue .first .0 + w .session .elements .queue .outstanding)) (w .session .elements .queue .first .0 + w .session .elements .queue .outstanding) (writtenFrame (w .session) lent)
     stands-sent known st d = go phase known
       where
-        go : EodDue (w .session .elements) (w .session .closed) → KnownLent → Stands last pass (itemAt (l .list) (w .session .elements .first .0 + w .session .elements .outstanding)) (w .session .elements .first .0 + w .session .elements .outstanding) (writtenFrame (w .session) lent)
+        go : EodDue (w .session .elements) (w .session .closed) → KnownLent → Stands last pass (itemAt (l .list) (w .session .elements .queue .first .0 + w .session .elements .queue .outstanding)) (w .session .elements .queue .first .0 + w .session .elements .queue .outstanding) (writtenFrame (w .session) lent)
         go (inv.not-yet v) (inr e) = clash e v
         go (inv.not-yet v) (inl y) =
             let b = as-left (y .1) in
             let n = l .counted .numbered in
             let t = ap (λ (x : Bool). totalOf x (length (l .list))) v in
             sent-element last pass (w .session) lent (l .list) (l .carried .last-is) (l .carried .pass-is) (set .low) long (omega (arith, numbers .low, l .counted .windowed, l .counted .wide, set .small)) st v (omega arith)
-            (stored-lent (b .1) (l .content (y .0) (b .0)) (w .session .elements .outstanding) d)
+            (stored-lent (b .1) (l .content (y .0) (b .0)) (w .session .elements .queue .outstanding) d)
         go (inv.alone v closed one) _ =
             let n = l .counted .numbered in
             let t = ap (λ (x : Bool). totalOf x (length (l .list))) v in
             sent-eod last pass (w .session) lent (l .list) (l .carried .last-is) (l .carried .pass-is) (set .low) long (omega (arith, numbers .low, l .counted .windowed, l .counted .wide, set .small)) st v (omega arith)
 
-    kind-due : w .session .elements .outstanding < w .session .elements .pending → EodDue (w .session .elements) (w .session .closed)
-        → kindOf (w .session .elements) ≡ kindFor (itemAt (l .list) (w .session .elements .first .0 + w .session .elements .outstanding))
+    kind-due : w .session .elements .queue .outstanding < w .session .elements .queue .pending → EodDue (w .session .elements) (w .session .closed)
+        → kindOf (w .session .elements) ≡ kindFor (itemAt (l .list) (w .session .elements .queue .first .0 + w .session .elements .queue .outstanding))
     kind-due d (inv.not-yet v) =
         let n = l .counted .numbered in
         let t = ap (λ (x : Bool). totalOf x (length (l .list))) v in
         kind-element last pass (w .session) lent (l .list) (l .carried .last-is) (l .carried .pass-is) (set .low) long (omega (arith, numbers .low, l .counted .windowed, l .counted .wide, set .small)) v (omega arith)
-        (l .trailing .marked (w .session .elements .outstanding) d)
+        (l .trailing .marked (w .session .elements .queue .outstanding) d)
     kind-due d (inv.alone v closed one) =
         let n = l .counted .numbered in
         let t = ap (λ (x : Bool). totalOf x (length (l .list))) v in
         kind-eod last pass (w .session) lent (l .list) (l .carried .last-is) (l .carried .pass-is) (set .low) long (omega (arith, numbers .low, l .counted .windowed, l .counted .wide, set .small)) v (omega arith)
 
     -- and what it says of the filemarks before it
-    says-sent : {edge : ℕ} {a : Address} → l .edge ≤ edge → ElementStage (w .session) → Asks last (heldOf (w .session)) (w .session .elements .pending) (w .drive) (l .k) edge (Write a)
-        → Says last pass (l .list) (Place prior last pass (l .k) (w .drive .at) edge (w .drive .tape)) (w .session .elements .first .0 + w .session .elements .outstanding) (writtenFrame (w .session) lent)
+    says-sent : {edge : ℕ} {a : Address} → l .edge ≤ edge → ElementStage (w .session) → Asks last (heldOf (w .session)) (w .session .elements .queue .pending) (w .drive) (l .k) edge (Write a)
+        → Says last pass (l .list) (Place prior last pass (l .k) (w .drive .at) edge (w .drive .tape)) (w .session .elements .queue .first .0 + w .session .elements .queue .outstanding) (writtenFrame (w .session) lent)
     says-sent {edge} further st (elements.writes a p due off low x) =
         let taken-is = x .taken-is in
         let next-is = x .next-is in
         let known = x .known in
         let spread = x .spread in
         let roof = x .roof in
-        let fits : w .session .elements .first .0 + w .session .elements .outstanding < 2 ^ 32 = omega (arith, numbers .low, l .counted .windowed, l .counted .wide, set .small) in
+        let fits : w .session .elements .queue .first .0 + w .session .elements .queue .outstanding < 2 ^ 32 = omega (arith, numbers .low, l .counted .windowed, l .counted .wide, set .small) in
         sent-says last pass (w .session) lent (l .list) (l .carried .last-is) (l .carried .pass-is) (set .low) long fits (Place prior last pass (l .k) (w .drive .at) edge (w .drive .tape)) st (kind-due due phase)
         (λ j b h y. place-low j b h taken-is next-is low y)
         (trail-before (set .large) (set .small) st (trailing-edge (l .trailing) edge further) (l .counted .held) fits (omega arith) (omega arith) (let e = edge-low-least (w .drive .failed) (w .drive .at) in let i = x .edge-is in omega arith) (omega arith))
@@ -309,8 +309,8 @@ module _ {last pass : ℕ} {on-newest none-bears : Type 0} {prior : Prior} (w : 
         edge-low-least true c = omega arith
         edge-low-least false c = le-refl c
 
-        place-low : (j b : ℕ) → j < w .session .elements .first .0 + w .session .elements .outstanding → w .session .elements .first .0 + w .session .elements .outstanding + 0 ≡ l .k + length (w .drive .buffer) → w .session .elements .next .0 + 0 ≡ w .drive .at + length (w .drive .buffer)
-            → w .session .elements .next .0 ≤ last → Place prior last pass (l .k) (w .drive .at) edge (w .drive .tape) j b → b < 2 ^ 32
+        place-low : (j b : ℕ) → j < w .session .elements .queue .first .0 + w .session .elements .queue .outstanding → w .session .elements .queue .first .0 + w .session .elements .queue .outstanding + 0 ≡ l .k + length (w .drive .buffer) → w .session .elements .course .next .0 + 0 ≡ w .drive .at + length (w .drive .buffer)
+            → w .session .elements .course .next .0 ≤ last → Place prior last pass (l .k) (w .drive .at) edge (w .drive .tape) j b → b < 2 ^ 32
         place-low j b h taken-is next-is low (on-tape _ m) = omega (arith, m .inside, set .small)
         place-low j b h taken-is next-is low (to-come g e) = omega (arith, set .small)
 
@@ -318,20 +318,20 @@ module _ {last pass : ℕ} {on-newest none-bears : Type 0} {prior : Prior} (w : 
         → Inv last pass on-newest none-bears prior (sentWorld c)
     element-out c o st course =
         live wr
-        (goes-out c (o .edge) (course (o .edge) (elements.under-way c (frameFor c (w .session) lent frame) refl refl refl (reask (heldOf (w .session)) (heldOf (awaits (w .session) c)) refl refl refl refl (o .asks))))
+        (goes-out c (o .edge) (course (o .edge) (elements.under-way c (frameFor c (w .session) lent frame) refl refl refl (reask (heldOf (w .session)) (heldOf (awaits (w .session) c)) refl refl refl (o .asks))))
         (λ a f known el q.
         let command-is : c ≡ Write a = cc in
         let frame-is : frameFor c (w .session) lent frame ≡ f = cc in
-        subst (λ (y : List ℕ). Stands last pass (itemAt (l .list) (w .session .elements .first .0 + w .session .elements .outstanding)) (w .session .elements .first .0 + w .session .elements .outstanding) y)
+        subst (λ (y : List ℕ). Stands last pass (itemAt (l .list) (w .session .elements .queue .first .0 + w .session .elements .queue .outstanding)) (w .session .elements .queue .first .0 + w .session .elements .queue .outstanding) y)
         (sym (ap (λ (y : Command). frameFor y (w .session) lent frame) command-is) ∙ frame-is)
-        (stands-sent known el (due-of (subst (λ (y : Command). Asks last (heldOf (w .session)) (w .session .elements .pending) (w .drive) (l .k) (o .edge) y) command-is (o .asks)))))
+        (stands-sent known el (due-of (subst (λ (y : Command). Asks last (heldOf (w .session)) (w .session .elements .queue .pending) (w .drive) (l .k) (o .edge) y) command-is (o .asks)))))
         (o .further)
         (λ a f el q.
         let command-is : c ≡ Write a = cc in
         let frame-is : frameFor c (w .session) lent frame ≡ f = cc in
-        subst (Says last pass (l .list) (Place prior last pass (l .k) (w .drive .at) (o .edge) (w .drive .tape)) (w .session .elements .first .0 + w .session .elements .outstanding))
+        subst (Says last pass (l .list) (Place prior last pass (l .k) (w .drive .at) (o .edge) (w .drive .tape)) (w .session .elements .queue .first .0 + w .session .elements .queue .outstanding))
         (sym (ap (λ (y : Command). frameFor y (w .session) lent frame) command-is) ∙ frame-is)
-        (says-sent (o .further) el (subst (λ (y : Command). Asks last (heldOf (w .session)) (w .session .elements .pending) (w .drive) (l .k) (o .edge) y) command-is (o .asks)))))
+        (says-sent (o .further) el (subst (λ (y : Command). Asks last (heldOf (w .session)) (w .session .elements .queue .pending) (w .drive) (l .k) (o .edge) y) command-is (o .asks)))))
 
 -- ---- no reply is awaited, so no command is in flight
 
@@ -382,7 +382,7 @@ module _ {last pass : ℕ} {on-newest none-bears : Type 0} {prior : Prior} (w : 
   -- among the elements
   module _ (st : ElementStage (w .session)) (agree : Writing last (w .session) (w .drive) (l .k) (l .edge) (w .flight)) (phase : EodDue (w .session .elements) (w .session .closed))
       (course : (c : Command) (edge : ℕ) → Writing last (awaits (w .session) c) (w .drive) (l .k) edge (recordings.sent c (frameFor c (w .session) lent frame)) → Course last (length (l .list)) (sentWorld w lent frame set wr l c) (l .k) edge) where
-    numbers : Numbers last (w .session .elements .first .0) (w .session .elements .outstanding) (w .session .elements .pending) (l .k) (w .drive)
+    numbers : Numbers last (w .session .elements .queue .first .0) (w .session .elements .queue .outstanding) (w .session .elements .queue .pending) (l .k) (w .drive)
     numbers = writing-numbers (l .counted .held) agree
 
     fetch-elements : {x : FetchedSaid} → FetchView (w .session) lent frame x → TakesEffect (fetchNumber (x .said)) → After x
@@ -404,7 +404,7 @@ module _ {last pass : ℕ} {on-newest none-bears : Type 0} {prior : Prior} (w : 
         no-flight = writing-idle (r .free) agree .1
 
         -- nothing is outstanding
-        none-out : {x : due.DueSaid} → rule.DueView (w .session .setup .depth) (w .session .setup .tail) (w .session .elements) x → x ≡ due.refused n → Writing last (w .session) (w .drive) (l .k) (l .edge) recordings.no-command → w .session .elements .outstanding ≡ 0
+        none-out : {x : due.DueSaid} → rule.DueView (w .session .setup .depth) (w .session .setup .tail) (w .session .elements) x → x ≡ due.refused n → Writing last (w .session) (w .drive) (l .k) (l .edge) recordings.no-command → w .session .elements .queue .outstanding ≡ 0
         none-out (rule.relocating _ _) q y = never (cc)
         none-out (rule.too-far t _) q (elements.at-place a g x) = clash t (x .placed)
         none-out (rule.too-far t _) q (elements.to-locate a g z x) = x .none-out
@@ -416,7 +416,7 @@ module _ {last pass : ℕ} {on-newest none-bears : Type 0} {prior : Prior} (w : 
         none-out (rule.jumping _ _ _ _ _) q y = never (cc)
         none-out (rule.writing _ _ _ _ _) q y = never (cc)
 
-        out : w .session .elements .outstanding ≡ 0
+        out : w .session .elements .queue .outstanding ≡ 0
         out = none-out (rule.due-view (w .session .setup .depth) (w .session .setup .tail) (w .session .elements)) d idle
 
         stops : (b : Bool) → isSpending (w .session) n ≡ b → After (record { session = endedOf (w .session) n; said = answer.refused n; frame = frame })

@@ -1,9 +1,9 @@
--- 02, Card 6: where elements that are not on tape are given up, the recording goes on with EOD. Assumes nothing.
+-- 02, Card 6: a recording that gives up what is not on tape goes on with EOD. Assumes nothing.
 use Prim.Native.Nat.{ℕ, _+_, _-_, _%_, _<_}
 use mathlib.Core.Path.{_≡_, refl, sym, ap, subst, _∙_}
 use mathlib.Core.Bool.{Bool, true, false, _&&_, not, true≢false}
 use mathlib.Core.List.{List}
-use mathlib.Core.Logic.{_⊎_, ⊎-elim}
+use mathlib.Core.Logic.{⊎-elim}
 use native.Mathlib.Omega.{arith}
 use borrow.Author.Tests.{eqb-true, ltb-true}
 use lib.Dec.{eqb, ltb}
@@ -53,7 +53,7 @@ spending-so s n e =
 
 -- ---- nothing is outstanding, and no command is under way
 
-pub settled-writing : {last : ℕ} {s : State} {d : Drive} {k edge : ℕ} → s .exchange .again ≡ false → s .elements .outstanding ≡ 0 → Writing last s d k edge recordings.no-command → (s .elements .first .0 ≡ k) × AtRest d
+pub settled-writing : {last : ℕ} {s : State} {d : Drive} {k edge : ℕ} → s .exchange .again ≡ false → s .elements .queue .outstanding ≡ 0 → Writing last s d k edge recordings.no-command → (s .elements .queue .first .0 ≡ k) × AtRest d
 settled-writing {d = d} ag out (elements.at-place a g x) =
     let known = x .known in
     let taken-is = x .taken-is in
@@ -61,13 +61,13 @@ settled-writing {d = d} ag out (elements.at-place a g x) =
 settled-writing ag out (elements.to-locate a g q x) = (x .first-is, x .rests)
 settled-writing ag out (elements.again a g x) = clash g ag
 
-given-writing : {last : ℕ} {s : State} {d : Drive} {k edge : ℕ} → s .exchange .again ≡ false → s .elements .outstanding ≡ 0 → Writing last s d k edge recordings.no-command → Writing last (givenUpOf s) d k edge recordings.no-command
-given-writing {s = s} ag out (elements.at-place a g x) = elements.at-place refl refl (relink (heldOf s) (heldOf (givenUpOf s)) refl (sym out) refl refl x)
+given-writing : {last : ℕ} {s : State} {d : Drive} {k edge : ℕ} → s .exchange .again ≡ false → s .elements .queue .outstanding ≡ 0 → Writing last s d k edge recordings.no-command → Writing last (givenUpOf s) d k edge recordings.no-command
+given-writing {s = s} ag out (elements.at-place a g x) = elements.at-place refl refl (relink (heldOf s) (heldOf (givenUpOf s)) refl (sym out) refl x)
 given-writing {s = s} ag out (elements.to-locate a g q x) = elements.to-locate refl refl q (remove (heldOf s) (heldOf (givenUpOf s)) refl (sym out) x)
 given-writing ag out (elements.again a g x) = clash g ag
 
 module _ {last pass : ℕ} {on-newest none-bears : Type 0} {prior : Prior} (w : World) (l : Live last pass on-newest none-bears prior w) (st : ElementStage (w .session)) (v : w .session .elements .eod ≡ false) (tailed : 0 < w .session .setup .tail)
-    (no-flight : w .flight ≡ recordings.no-command) (ag : w .session .exchange .again ≡ false) (out : w .session .elements .outstanding ≡ 0) where
+    (no-flight : w .flight ≡ recordings.no-command) (ag : w .session .exchange .again ≡ false) (out : w .session .elements .queue .outstanding ≡ 0) where
   agreed : Course last (length (l .list)) w (l .k) (l .edge) → Writing last (w .session) (w .drive) (l .k) (l .edge) (w .flight)
   agreed (inv.opening q _ t c) = never (cc)
   agreed (inv.writing q _ a) = a
@@ -77,14 +77,14 @@ module _ {last pass : ℕ} {on-newest none-bears : Type 0} {prior : Prior} (w : 
   agree : Writing last (w .session) (w .drive) (l .k) (l .edge) recordings.no-command
   agree = subst (Writing last (w .session) (w .drive) (l .k) (l .edge)) no-flight (agreed (l .course))
 
-  first-is : w .session .elements .first .0 ≡ l .k
+  first-is : w .session .elements .queue .first .0 ≡ l .k
   first-is = settled-writing ag out agree .0
 
   -- till now all that was accepted is promised
   all : l .list ≡ w .notes .accepted
   all = l .promises .is ∙ promised-all (w .notes) (l .promises .ungiven v)
 
-  size : length (w .notes .accepted) ≡ l .k + w .session .elements .pending
+  size : length (w .notes .accepted) ≡ l .k + w .session .elements .queue .pending
   size = let n = l .counted .numbered in let t = ap (λ (x : Bool). totalOf x (length (l .list))) v in omega (arith, ap length all, first-is)
 
   abbrev kept : List Element
@@ -93,7 +93,7 @@ module _ {last pass : ℕ} {on-newest none-bears : Type 0} {prior : Prior} (w : 
   kept-size : length kept ≡ l .k
   kept-size = length-take-le (l .k) (w .notes .accepted) (omega (arith, size))
 
-  left : length (w .notes .accepted) - w .session .elements .pending ≡ l .k
+  left : length (w .notes .accepted) - w .session .elements .queue .pending ≡ l .k
   left = omega (arith, size)
 
   none-queued : w .drive .failed ≡ false → AtRest (w .drive) → Queue last pass kept (l .k) (w .drive .buffer)
@@ -106,11 +106,11 @@ module _ {last pass : ℕ} {on-newest none-bears : Type 0} {prior : Prior} (w : 
   kept-alike i h = item-take (w .notes .accepted) (l .k) i h ∙ ap (λ (ys : List Element). itemAt ys i) (sym all)
 
   -- EOD is no filemark
-  end-marked : (i : ℕ) → i < gaveUp w .session .elements .pending → getD (gaveUp w .session .elements .marks) ((w .session .elements .first .0 + i) % 64) false ≡ isFilemark kept (w .session .elements .first .0 + i)
+  end-marked : (i : ℕ) → i < gaveUp w .session .elements .queue .pending → getD (gaveUp w .session .elements .queue .marks) ((w .session .elements .queue .first .0 + i) % 64) false ≡ isFilemark kept (w .session .elements .queue .first .0 + i)
   end-marked i h =
       let here : 0 ≡ i = omega arith in
-      subst (λ (j : ℕ). getD (gaveUp w .session .elements .marks) ((w .session .elements .first .0 + j) % 64) false ≡ isFilemark kept (w .session .elements .first .0 + j)) here
-      (accepted-new (droppedOf (w .session .elements)) false (l .counted .marks) ∙ sym (mark-past kept (w .session .elements .first .0 + 0) (omega (arith, kept-size, first-is))))
+      subst (λ (j : ℕ). getD (gaveUp w .session .elements .queue .marks) ((w .session .elements .queue .first .0 + j) % 64) false ≡ isFilemark kept (w .session .elements .queue .first .0 + j)) here
+      (accepted-new (droppedOf (w .session .elements)) false (l .counted .marks) ∙ sym (mark-past kept (w .session .elements .queue .first .0 + 0) (omega (arith, kept-size, first-is))))
 
   -- the drive holds nothing, or has stopped and a LOCATE is due
   buffered : Writing last (w .session) (w .drive) (l .k) (l .edge) recordings.no-command → Buffered last pass prior kept (gaveUp w .session .elements) (w .drive) (l .k) (l .edge)
@@ -153,7 +153,7 @@ module _ {last pass : ℕ} {on-newest none-bears : Type 0} {prior : Prior} (w : 
       held = omega arith;
       windowed = omega arith;
       numbered = omega (arith, kept-size, first-is);
-      marks = length-set (w .session .elements .marks) _ false ∙ l .counted .marks;
+      marks = length-set (w .session .elements .queue .marks) _ false ∙ l .counted .marks;
       room = l .counted .room;
     };
     carried = l .carried;
@@ -171,6 +171,6 @@ module _ {last pass : ℕ} {on-newest none-bears : Type 0} {prior : Prior} (w : 
           tape = c .tape;
           seen = seen-gives all (omega (arith, size)) (c .seen);
           stored = λ i h.
-              subst (λ (x : Item). StoredAs x (w .window) (gaveUp w .session .elements .marks) (blocksOf (w .session)) (w .session .elements .first .0 + i)) (sym (item-past kept (w .session .elements .first .0 + i) (omega (arith, kept-size, first-is)))) tt;
+              subst (λ (x : Item). StoredAs x (w .window) (gaveUp w .session .elements .queue .marks) (blocksOf (w .session)) (w .session .elements .queue .first .0 + i)) (sym (item-past kept (w .session .elements .queue .first .0 + i) (omega (arith, kept-size, first-is)))) tt;
         };
   }

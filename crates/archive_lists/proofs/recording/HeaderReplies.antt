@@ -90,22 +90,22 @@ module _ {last pass : ℕ} {on-newest none-bears : Type 0} {prior : Prior} (w : 
             is = l .promises .is;
             ungiven = λ v0. l .promises .ungiven (sym (ap (λ (x : Elements). x .eod) els) ∙ v0);
             aimed = λ none t.
-                let x = l .promises .aimed (sym (ap (λ (y : Setup). y .tail) setup) ∙ none) (sym (ap (λ (y : Elements). y .locate) els) ∙ t) in
-                omega (arith, ap (λ (y : Elements). y .target .0) els, ap (λ (y : Elements). y .limit .0) els);
+                let x = l .promises .aimed (sym (ap (λ (y : Setup). y .tail) setup) ∙ none) (sym (ap (λ (y : Elements). y .course .locate) els) ∙ t) in
+                omega (arith, ap (λ (y : Elements). y .course .target .0) els, ap (λ (y : Elements). y .course .limit .0) els);
           };
           going = going;
           counted =
               let c = l .counted in
-              let pending = ap (λ (x : Elements). x .pending) els in
-              let outstanding = ap (λ (x : Elements). x .outstanding) els in
-              let first = ap (λ (x : Elements). x .first .0) els in
-              let limit = ap (λ (x : Elements). x .limit .0) els in
+              let pending = ap (λ (x : Elements). x .queue .pending) els in
+              let outstanding = ap (λ (x : Elements). x .queue .outstanding) els in
+              let first = ap (λ (x : Elements). x .queue .first .0) els in
+              let limit = ap (λ (x : Elements). x .course .limit .0) els in
               record {
                 wide = subst (λ (n : ℕ). n ≤ 63) (sym high) (c .wide);
                 held = let h = c .held in omega arith;
                 windowed = let h = c .windowed in omega (arith, high);
-                numbered = ap (λ (x : Elements). x .first .0 + x .pending) els ∙ c .numbered ∙ ap (λ (x : Elements). totalOf (x .eod) (length (l .list))) (sym els);
-                marks = ap (λ (x : Elements). length (x .marks)) els ∙ c .marks;
+                numbered = ap (λ (x : Elements). x .queue .first .0 + x .queue .pending) els ∙ c .numbered ∙ ap (λ (x : Elements). totalOf (x .eod) (length (l .list))) (sym els);
+                marks = ap (λ (x : Elements). length (x .queue .marks)) els ∙ c .marks;
                 room = let h = c .room in omega arith;
               };
           carried = subst (λ (n : ℕ). Carried last pass prior n (v .copies .header)) (ap spareOf (sym stage)) (subst (λ (x : Header). Carried last pass prior (spareOf (w .session .stage)) x) (sym head) (l .carried));
@@ -124,7 +124,7 @@ module _ {last pass : ℕ} {on-newest none-bears : Type 0} {prior : Prior} (w : 
               record {
                 tape = c .tape;
                 seen = c .seen;
-                stored = subst (λ (p : Sized). (i : ℕ) → i < p .els .pending → StoredAs (itemAt (l .list) (p .els .first .0 + i)) (w .window) (p .els .marks) (p .top + 1) (p .els .first .0 + i)) (sym (sized-same v high els)) (c .stored);
+                stored = subst (λ (p : Sized). (i : ℕ) → i < p .els .queue .pending → StoredAs (itemAt (l .list) (p .els .queue .first .0 + i)) (w .window) (p .els .queue .marks) (p .top + 1) (p .els .queue .first .0 + i)) (sym (sized-same v high els)) (c .stored);
               };
           trailing =
               subst (λ (y : Stage). Trailing last pass prior (l .list) (w .notes .accepted) y (v .elements) (w .drive) recordings.no-command (l .k) (l .edge)) (sym stage)
@@ -138,7 +138,7 @@ module _ {last pass : ℕ} {on-newest none-bears : Type 0} {prior : Prior} (w : 
 
     staged-live : Course last (length (l .list)) (repliedWorld w onward) (l .k) (l .edge) → (w .notes .reported ≡ true → to ≡ S.Done) → (to ≡ S.Elements → w .drive .failed ≡ false → Queue last pass (l .list) (l .k) (w .drive .buffer))
         → (to ≡ S.Elements → w .session .elements .eod ≡ true → ⊥) → ((to ≡ S.ClosingHeaders) ⊎ (to ≡ S.Done) → w .session .stage ≡ S.ClosingHeaders)
-        → (to ≡ S.Elements → (w .session .elements .first .0 ≡ l .k) × (w .session .elements .locate ≡ true) × AtRest (w .drive))
+        → (to ≡ S.Elements → (w .session .elements .queue .first .0 ≡ l .k) × (w .session .elements .course .locate ≡ true) × AtRest (w .drive))
         → (to ≡ S.Elements → Copy (w .session .copies .header) (w .drive .tape) (last + 1)) → Live last pass on-newest none-bears prior (repliedWorld w onward)
     staged-live course reported queue unended named begins copied =
         let c = l .counted in
@@ -249,12 +249,12 @@ module _ {last pass : ℕ} {on-newest none-bears : Type 0} {prior : Prior} (w : 
 
     header-replies : (c : Command) → w .session .exchange .command ≡ c → CopyAnswered (w .session .copies) (w .drive) r c → After (replyOf (w .session) r)
     unfolding replyBy
-    header-replies c e (copies.taken a m x) = by writeGood (case-is (w .session) r (l .going) asked e m) (by-headers (w .session) _ _ st) (taken-next (w .session .copies) (w .drive) (agree .counts) x) (answered-safe {r = r} (agree .counts) (copies.taken a m x))
-    header-replies c e (copies.counted m b x) = by positionGood (case-is (w .session) r (l .going) asked e m) (by-headers (w .session) _ _ st) (counted-next (w .session .copies) (w .drive) (agree .counts) (r .buffered) b x) (answered-safe {r = r} (agree .counts) (copies.counted m b x))
-    header-replies c e (copies.failed-write a m f p x) = by writeFailed (case-is (w .session) r (l .going) asked e m) (by-headers (w .session) _ _ st) (failed-next (w .session .copies) (w .drive) (agree .counts) (r .position) p f x) (inv.halted f)
-    header-replies c e (copies.failed-position m f p x) = by positionFailed (case-is (w .session) r (l .going) asked e m) (by-headers (w .session) _ _ st) (failed-next (w .session .copies) (w .drive) (agree .counts) (r .position) p f x) (inv.halted f)
+    header-replies c e (copies.taken a m x) = by writeGood (case-is (w .session) r (l .going) asked e m) (by-headers (w .session) _ st) (taken-next (w .session .copies) (w .drive) (agree .counts) x) (answered-safe {r = r} (agree .counts) (copies.taken a m x))
+    header-replies c e (copies.counted m b x) = by positionGood (case-is (w .session) r (l .going) asked e m) (by-headers (w .session) _ st) (counted-next (w .session .copies) (w .drive) (agree .counts) (r .buffered) b x) (answered-safe {r = r} (agree .counts) (copies.counted m b x))
+    header-replies c e (copies.failed-write a m f p x) = by writeFailed (case-is (w .session) r (l .going) asked e m) (by-headers (w .session) _ st) (failed-next (w .session .copies) (w .drive) (agree .counts) (r .position) p f x) (inv.halted f)
+    header-replies c e (copies.failed-position m f p x) = by positionFailed (case-is (w .session) r (l .going) asked e m) (by-headers (w .session) _ st) (failed-next (w .session .copies) (w .drive) (agree .counts) (r .position) p f x) (inv.halted f)
     header-replies c e (copies.moved a m p none-left f at x) =
-        by locateGood (case-is (w .session) r (l .going) asked e m) (by-headers (w .session) _ _ st) (located-next (w .session .copies) (w .drive) (agree .counts) (agree .placed) x none-left (at ∙ p)) (answered-safe {r = r} (agree .counts) (copies.moved a m p none-left f at x))
+        by locateGood (case-is (w .session) r (l .going) asked e m) (by-headers (w .session) _ st) (located-next (w .session .copies) (w .drive) (agree .counts) (agree .placed) x none-left (at ∙ p)) (answered-safe {r = r} (agree .counts) (copies.moved a m p none-left f at x))
     header-replies c e (copies.waits k m x) = busy-by m e x
 
   pub opening-replies : (q : w .session .stage ≡ S.OpeningHeaders) → w .session .elements .eod ≡ false → inv.Unstarted last (w .session .elements) (l .k) (l .edge) → CopiesAgree (w .session) (w .drive) (w .flight) → Copying (w .session) (w .drive) (recordings.answered r) → After (replyOf (w .session) r)

@@ -47,11 +47,11 @@ spareOf S.Done = 0
 
 pub record Counted (last n : ℕ) (s : State) : Type 0 where
   pub wide : s .setup .highest ≤ 63
-  pub held : s .elements .outstanding ≤ s .elements .pending
-  pub windowed : s .elements .pending ≤ s .setup .highest + 1
-  pub numbered : s .elements .first .0 + s .elements .pending ≡ totalOf (s .elements .eod) n
-  pub marks : length (s .elements .marks) ≡ 64
-  pub room : s .elements .limit .0 ≤ last + 1
+  pub held : s .elements .queue .outstanding ≤ s .elements .queue .pending
+  pub windowed : s .elements .queue .pending ≤ s .setup .highest + 1
+  pub numbered : s .elements .queue .first .0 + s .elements .queue .pending ≡ totalOf (s .elements .eod) n
+  pub marks : length (s .elements .queue .marks) ≡ 64
+  pub room : s .elements .course .limit .0 ≤ last + 1
 
 -- before the first LOCATE of the elements, which are to start from a number and an address: 0 and 10 in a fresh recording, the next number and the old end in one that adds
 pub record StartsFrom (last : ℕ) (first outstanding : ℕ) (locate : Bool) (target : ℕ) (k edge : ℕ) : Type 0 where
@@ -64,12 +64,12 @@ pub record StartsFrom (last : ℕ) (first outstanding : ℕ) (locate : Bool) (ta
   pub spread : k + 10 ≤ edge
 
 abbrev pub Unstarted : ℕ → Elements → ℕ → ℕ → Type 0
-Unstarted last e k edge = StartsFrom last (e .first .0) (e .outstanding) (e .locate) (e .target .0) k edge
+Unstarted last e k edge = StartsFrom last (e .queue .first .0) (e .queue .outstanding) (e .course .locate) (e .course .target .0) k edge
 
 -- EOD is not due yet, or it is due alone
 pub data EodDue (e : Elements) (closed : Bool) : Type 0 where
   not-yet : e .eod ≡ false → EodDue e closed
-  alone : e .eod ≡ true → closed ≡ true → e .pending ≡ 1 → EodDue e closed
+  alone : e .eod ≡ true → closed ≡ true → e .queue .pending ≡ 1 → EodDue e closed
 
 -- ---- the session and the drive, by stage
 
@@ -91,7 +91,7 @@ pub record Outgoing (last pass : ℕ) (ps : List Element) (w : World) (k : ℕ) 
   -- behind a failed one none is ever written
   pub queue : ElementStage (w .session) → w .drive .failed ≡ false → Queue last pass ps k (w .drive .buffer)
   pub sent : (a : Address) (f : List ℕ) → ElementStage (w .session) → w .flight ≡ recordings.sent (Write a) f
-      → Stands last pass (itemAt ps (w .session .elements .first .0 + w .session .elements .outstanding)) (w .session .elements .first .0 + w .session .elements .outstanding) f
+      → Stands last pass (itemAt ps (w .session .elements .queue .first .0 + w .session .elements .queue .outstanding)) (w .session .elements .queue .first .0 + w .session .elements .queue .outstanding) f
 
 -- when they are known: while the window is unaltered, and once EOD alone is due, since its frame has nothing from the window
 abbrev pub Known : Type 0 → World → Type 0
@@ -108,8 +108,8 @@ pub record EodPlace (last pass : ℕ) (none-bears : Type 0) (start n : ℕ) (w :
 pub record Content (last pass : ℕ) (ps : List Element) (w : World) (k edge : ℕ) : Type 0 where
   pub tape : Cartridge last (w .drive .tape)
   pub seen : Seen last pass ps (w .notes .accepted) k edge (w .drive .tape)
-  pub stored : (i : ℕ) → i < w .session .elements .pending
-      → StoredAs (itemAt ps (w .session .elements .first .0 + i)) (w .window) (w .session .elements .marks) (blocksOf (w .session)) (w .session .elements .first .0 + i)
+  pub stored : (i : ℕ) → i < w .session .elements .queue .pending
+      → StoredAs (itemAt ps (w .session .elements .queue .first .0 + i)) (w .window) (w .session .elements .queue .marks) (blocksOf (w .session)) (w .session .elements .queue .first .0 + i)
 
 -- ---- what is promised
 
@@ -118,7 +118,7 @@ pub record Promises (list : List Element) (w : World) : Type 0 where
   -- until EOD is due nothing is given up
   pub ungiven : w .session .elements .eod ≡ false → w .notes .givenUp ≡ 0
   -- without a tail a noted target is not above END
-  pub aimed : w .session .setup .tail ≡ 0 → w .session .elements .locate ≡ true → w .session .elements .target .0 < w .session .elements .limit .0
+  pub aimed : w .session .setup .tail ≡ 0 → w .session .elements .course .locate ≡ true → w .session .elements .course .target .0 < w .session .elements .course .limit .0
 
 -- ---- the whole, with what may be assumed of the opening: that it was on the newest header or rightly on none, and that no user frame bore the pass,
 -- or none above the old end
@@ -168,14 +168,14 @@ pub record Over (last : ℕ) (w : World) : Type 0 where
   pub safe : Safe last (w .drive)
   pub unreported : w .notes .reported ≡ false
 
--- 02, Card 6: elements that are not on tape are given up
+-- 02, Card 6: what is not on tape is given up
 abbrev pub gaveUp : World → World
 gaveUp w = record {
   session = givenUpOf (w .session);
   window = w .window;
   drive = w .drive;
   flight = w .flight;
-  notes = record { accepted = w .notes .accepted; unaltered = w .notes .unaltered; reported = w .notes .reported; givenUp = w .session .elements .pending };
+  notes = record { accepted = w .notes .accepted; unaltered = w .notes .unaltered; reported = w .notes .reported; givenUp = w .session .elements .queue .pending };
 }
 
 -- the session is spent: nothing is under way, and close makes it live again

@@ -77,7 +77,7 @@ module _ (w : World) (c : Command) (f : List ℕ) where
     stage = inr st;
     no-read = λ a e. elements-read asked a (sym is ∙ e);
     on-headers = λ h. header-not-element (w .session) h st;
-    off-headers = λ _ a e. asks-off-header (subst (λ (x : Command). Asks last (heldOf (w .session)) (w .session .elements .pending) (w .drive) k edge x) (sym is ∙ e) asked);
+    off-headers = λ _ a e. asks-off-header (subst (λ (x : Command). Asks last (heldOf (w .session)) (w .session .elements .queue .pending) (w .drive) k edge x) (sym is ∙ e) asked);
   }
 
 module _ {last pass : ℕ} {on-newest none-bears : Type 0} {prior : Prior} (w : World) (c : Command) (f : List ℕ) (q : w .flight ≡ recordings.sent c f) where

@@ -16,6 +16,7 @@ use Rattle.drive.specs.declared.reply.Reply.{Reply}
 use Rattle.copies.specs.declared.copies.Copies.{Copies}
 use Rattle.copies.proofs.Counts.{CountsOf}
 use Rattle.copies.proofs.Placed.{PlacedOf}
+use Rattle.elements.specs.declared.course.Course.{Course}
 use Rattle.recording_state.specs.declared.state.State.{State}
 use Rattle.recording_state.proofs.Kept.{Held, heldOf}
 use Rattle.archive_lists.specs.Recordings as recordings
@@ -68,24 +69,24 @@ answered-more l (elements.filled a m low x) = elements.filled a m low x
 answered-more l (elements.moved a m e f p roof x) = elements.moved a m e f p roof x
 answered-more l (elements.waits c m x) = elements.waits c m (asks-more l x)
 
-module _ (last : ℕ) (s v : State) (d : Drive) (k edge : ℕ) (h : heldOf v ≡ heldOf s) (more : s .elements .pending ≤ v .elements .pending) where
-  asks-as : {c : Command} → Asks last (heldOf s) (s .elements .pending) d k edge c → Asks last (heldOf v) (v .elements .pending) d k edge c
-  asks-as {c} x = subst (λ (y : Held). Asks last y (v .elements .pending) d k edge c) (sym h) (asks-more more x)
+module _ (last : ℕ) (s v : State) (d : Drive) (k edge : ℕ) (h : heldOf v ≡ heldOf s) (more : s .elements .queue .pending ≤ v .elements .queue .pending) where
+  asks-as : {c : Command} → Asks last (heldOf s) (s .elements .queue .pending) d k edge c → Asks last (heldOf v) (v .elements .queue .pending) d k edge c
+  asks-as {c} x = subst (λ (y : Held). Asks last y (v .elements .queue .pending) d k edge c) (sym h) (asks-more more x)
 
-  answered-as : {r : Reply} {c : Command} → Answered last (heldOf s) (s .elements .pending) d k edge r c → Answered last (heldOf v) (v .elements .pending) d k edge r c
-  answered-as {r} {c} x = subst (λ (y : Held). Answered last y (v .elements .pending) d k edge r c) (sym h) (answered-more more x)
+  answered-as : {r : Reply} {c : Command} → Answered last (heldOf s) (s .elements .queue .pending) d k edge r c → Answered last (heldOf v) (v .elements .queue .pending) d k edge r c
+  answered-as {r} {c} x = subst (λ (y : Held). Answered last y (v .elements .queue .pending) d k edge r c) (sym h) (answered-more more x)
 
   pub writing-as : {f : Flight} → Writing last s d k edge f → Writing last v d k edge f
   writing-as (elements.at-place a g l) = elements.at-place (ap (λ (x : Held). x .exchange .awaiting) h ∙ a) (ap (λ (x : Held). x .exchange .again) h ∙ g) (subst (λ (y : Held). Linked last y d k edge 0) (sym h) l)
   writing-as (elements.to-locate a g r l) =
-      elements.to-locate (ap (λ (x : Held). x .exchange .awaiting) h ∙ a) (ap (λ (x : Held). x .exchange .again) h ∙ g) (ap (λ (x : Held). x .locate) h ∙ r)
-      (subst (λ (y : Held). Moving last y d k edge (y .target .0)) (sym h) l)
+      elements.to-locate (ap (λ (x : Held). x .exchange .awaiting) h ∙ a) (ap (λ (x : Held). x .exchange .again) h ∙ g) (ap (λ (x : Held). x .course .locate) h ∙ r)
+      (subst (λ (y : Held). Moving last y d k edge (y .course .target .0)) (sym h) l)
   writing-as (elements.again a g x) =
-      elements.again (ap (λ (y : Held). y .exchange .awaiting) h ∙ a) (ap (λ (y : Held). y .exchange .again) h ∙ g) (subst (λ (c : Command). Asks last (heldOf v) (v .elements .pending) d k edge c) (sym (ap (λ (y : Held). y .exchange .command) h)) (asks-as x))
+      elements.again (ap (λ (y : Held). y .exchange .awaiting) h ∙ a) (ap (λ (y : Held). y .exchange .again) h ∙ g) (subst (λ (c : Command). Asks last (heldOf v) (v .elements .queue .pending) d k edge c) (sym (ap (λ (y : Held). y .exchange .command) h)) (asks-as x))
   writing-as (elements.under-way c f a g e x) =
       elements.under-way c f (ap (λ (y : Held). y .exchange .awaiting) h ∙ a) (ap (λ (y : Held). y .exchange .again) h ∙ g) (ap (λ (y : Held). y .exchange .command) h ∙ e) (asks-as x)
   writing-as (elements.replied r a g x) =
-      elements.replied r (ap (λ (y : Held). y .exchange .awaiting) h ∙ a) (ap (λ (y : Held). y .exchange .again) h ∙ g) (subst (λ (c : Command). Answered last (heldOf v) (v .elements .pending) d k edge r c) (sym (ap (λ (y : Held). y .exchange .command) h)) (answered-as x))
+      elements.replied r (ap (λ (y : Held). y .exchange .awaiting) h ∙ a) (ap (λ (y : Held). y .exchange .again) h ∙ g) (subst (λ (c : Command). Answered last (heldOf v) (v .elements .queue .pending) d k edge r c) (sym (ap (λ (y : Held). y .exchange .command) h)) (answered-as x))
 
 -- ---- numbers in a writing stage
 
@@ -129,29 +130,29 @@ answered-numbers {pending = pending} b (elements.filled a m low l) = link-number
 answered-numbers {pending = pending} b (elements.moved a m e f p _ x) = move-numbers pending x
 answered-numbers {pending = pending} b (elements.waits c m x) = asks-numbers b x
 
-pub writing-numbers : {last : ℕ} {s : State} {d : Drive} {k edge : ℕ} {f : Flight} → s .elements .outstanding ≤ s .elements .pending → Writing last s d k edge f → Numbers last (s .elements .first .0) (s .elements .outstanding) (s .elements .pending) k d
-writing-numbers {s = s} b (elements.at-place a g l) = link-numbers (s .elements .pending) (omega (arith, b)) l
-writing-numbers {s = s} b (elements.to-locate a g r m) = move-numbers (s .elements .pending) m
+pub writing-numbers : {last : ℕ} {s : State} {d : Drive} {k edge : ℕ} {f : Flight} → s .elements .queue .outstanding ≤ s .elements .queue .pending → Writing last s d k edge f → Numbers last (s .elements .queue .first .0) (s .elements .queue .outstanding) (s .elements .queue .pending) k d
+writing-numbers {s = s} b (elements.at-place a g l) = link-numbers (s .elements .queue .pending) (omega (arith, b)) l
+writing-numbers {s = s} b (elements.to-locate a g r m) = move-numbers (s .elements .queue .pending) m
 writing-numbers b (elements.again a g x) = asks-numbers b x
 writing-numbers b (elements.under-way c f a g e x) = asks-numbers b x
 writing-numbers b (elements.replied r a g x) = answered-numbers b x
 
 -- a WRITE in flight is of something due
-pub sent-due : {last : ℕ} {s : State} {d : Drive} {k edge : ℕ} {a : Address} {f : List ℕ} → Writing last s d k edge (recordings.sent (Write a) f) → s .elements .outstanding < s .elements .pending
+pub sent-due : {last : ℕ} {s : State} {d : Drive} {k edge : ℕ} {a : Address} {f : List ℕ} → Writing last s d k edge (recordings.sent (Write a) f) → s .elements .queue .outstanding < s .elements .queue .pending
 sent-due (elements.under-way _ _ a g e (elements.writes b p due off low l)) = due
 
 -- ---- the same elements, by another command
 
-pub relink : {last : ℕ} {d : Drive} {k edge extra : ℕ} (h v : Held) → v .first ≡ h .first → v .outstanding ≡ h .outstanding → v .next ≡ h .next → v .locate ≡ h .locate → Linked last h d k edge extra → Linked last v d k edge extra
-relink h v a b c e l =
+pub relink : {last : ℕ} {d : Drive} {k edge extra : ℕ} (h v : Held) → v .first ≡ h .first → v .outstanding ≡ h .outstanding → v .course ≡ h .course → Linked last h d k edge extra → Linked last v d k edge extra
+relink h v a b c l =
     let a0 = ap (λ (x : Seq). x .0) a in
-    let c0 = ap (λ (x : Address). x .0) c in
+    let c0 = ap (λ (x : Course). x .next .0) c in
     let taken-is = l .taken-is in
     let next-is = l .next-is in
     let known = l .known in
     let roof = l .roof in
     record {
-      placed = e ∙ l .placed;
+      placed = ap (λ (x : Course). x .locate) c ∙ l .placed;
       taken-is = omega arith;
       next-is = omega arith;
       known = omega arith;
@@ -166,9 +167,9 @@ remove h v a b m =
     let a0 = ap (λ (x : Seq). x .0) a in
     record { none-out = b ∙ m .none-out; first-is = a0 ∙ m .first-is; rests = m .rests; low = m .low; zone = m .zone; spread = m .spread; edge-is = m .edge-is }
 
-pub reask : {last pending : ℕ} {d : Drive} {k edge : ℕ} {c : Command} (h v : Held) → v .first ≡ h .first → v .outstanding ≡ h .outstanding → v .next ≡ h .next → v .locate ≡ h .locate → Asks last h pending d k edge c → Asks last v pending d k edge c
-reask h v a b c e (elements.writes x p due off low l) =
-    let c0 = ap (λ (y : Address). y .0) c in
-    elements.writes x (p ∙ sym c) (omega arith) (λ q. off (sym c0 ∙ q)) (omega arith) (relink h v a b c e l)
-reask h v a b c e (elements.asks l) = elements.asks (relink h v a b c e l)
-reask h v a b c e (elements.moves x roof m) = elements.moves x roof (remove h v a b m)
+pub reask : {last pending : ℕ} {d : Drive} {k edge : ℕ} {c : Command} (h v : Held) → v .first ≡ h .first → v .outstanding ≡ h .outstanding → v .course ≡ h .course → Asks last h pending d k edge c → Asks last v pending d k edge c
+reask h v a b c (elements.writes x p due off low l) =
+    let c0 = ap (λ (y : Course). y .next .0) c in
+    elements.writes x (p ∙ sym (ap (λ (y : Course). y .next) c)) (omega arith) (λ q. off (sym c0 ∙ q)) (omega arith) (relink h v a b c l)
+reask h v a b c (elements.asks l) = elements.asks (relink h v a b c l)
+reask h v a b c (elements.moves x roof m) = elements.moves x roof (remove h v a b m)

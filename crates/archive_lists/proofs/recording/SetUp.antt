@@ -13,6 +13,7 @@ use Rattle.recording_state.specs.State.{OutcomeSaid, isSpending, endedOf, close
 use Rattle.recording_state.specs.Accept.{acceptsNone, unspentClose, isSpent, closeOf}
 use Rattle.recording_state.specs.Fetch.{FetchedSaid, sending}
 use Rattle.recording_state.specs.Reply.{repliedOf, completedOf, headerReplyBy, elementReplyBy, stageReply}
+use Rattle.recording_state.specs.declared.report.Report.{Report}
 use Rattle.recording_state.specs.declared.state.Setup.{Setup}
 use Rattle.recording_state.specs.declared.state.State.{State}
 use Rattle.recording_state.proofs.Kept.{Held, heldOf, filemark-keeps, block-keeps, settled-held}
@@ -77,22 +78,22 @@ module _ (s : State) where
       (λ _. settled (withElements (repliedOf s) (x .elements)) (left (withElements (repliedOf s) (x .elements)) refl refl))
       (λ _. ended (withElements s (x .elements)) (x .number) refl)
 
-  stage-same : (c : copies.ProgressSaid) (x : reply.SteppedSaid) → Same (stageReply s c x .session)
-  stage-same c x = go (replying.stage-view s c x)
+  stage-same : (x : Report) → Same (stageReply s x .session)
+  stage-same x = go (replying.stage-view s x)
     where
-      go : {y : OutcomeSaid} → replying.StageView s c x y → Same (y .session)
-      go (replying.in-headers _) = header-same c
-      go (replying.in-elements _) = element-same x
+      go : {y : OutcomeSaid} → replying.StageView s x y → Same (y .session)
+      go (replying.in-headers _) = header-same (replying.onCopies s x)
+      go (replying.in-elements _) = element-same (replying.onElements s x)
       go (replying.in-done _) = ended s 8 refl
 
   reply-same : (r : Reply) {y : OutcomeSaid} → replying.ReplyView s r y → Same (y .session)
   reply-same r (replying.unasked _) = left s refl refl
   reply-same r (replying.busy _) = record { setup = refl; unspent = λ _ u. u }
-  reply-same r (replying.located _) = stage-same _ _
-  reply-same r (replying.taken _) = stage-same _ _
-  reply-same r (replying.counted _) = stage-same _ _
-  reply-same r (replying.failed _) = stage-same _ _
-  reply-same r (replying.overflowed _) = stage-same _ _
+  reply-same r (replying.located _) = stage-same _
+  reply-same r (replying.taken _) = stage-same _
+  reply-same r (replying.counted _) = stage-same _
+  reply-same r (replying.failed _) = stage-same _
+  reply-same r (replying.overflowed _) = stage-same _
   reply-same r (replying.unlisted _) = ended s 8 refl
 
   returned-same : (c : Call) → Same (returned s c)

@@ -1,5 +1,5 @@
 -- What the geometry and an opening fix, and that the invariant holds at the start. Assumes nothing.
-use Prim.Native.Nat.{ℕ, _+_, _-_, _%_, _^_, _≤_, _<_}
+use Prim.Native.Nat.{ℕ, _+_, _%_, _^_, _≤_, _<_}
 use mathlib.Core.Path.{_≡_, refl, sym, ap, subst, _∙_}
 use mathlib.Core.Bool.{Bool, true, false, _||_, true≢false}
 use mathlib.Core.List.{List, [], _++_, append-nil}
@@ -313,18 +313,18 @@ begins last d window earlier kept at s x on-newest none-bears same set unwritten
     room : (x .header .last .0 + 1) % 2 ^ 32 ≤ last + 1
     room = let e : (x .header .last .0 + 1) % 2 ^ 32 ≡ x .header .last .0 + 1 = mod-eq-of-lt (omega (arith, x .last-is, set .small)) in omega (arith, x .last-is)
 
-    aimed : s .elements .target .0 < s .elements .limit .0
+    aimed : s .elements .course .target .0 < s .elements .course .limit .0
     aimed =
         let e : (x .header .last .0 + 1) % 2 ^ 32 ≡ x .header .last .0 + 1 = mod-eq-of-lt (omega (arith, x .last-is, set .small)) in
-        let target : at ≡ s .elements .target .0 = ap (λ (r : State). r .elements .target .0) (x .is) in
-        let limit : (x .header .last .0 + 1) % 2 ^ 32 ≡ s .elements .limit .0 = ap (λ (r : State). r .elements .limit .0) (x .is) in
+        let target : at ≡ s .elements .course .target .0 = ap (λ (r : State). r .elements .course .target .0) (x .is) in
+        let limit : (x .header .last .0 + 1) % 2 ^ 32 ≡ s .elements .course .limit .0 = ap (λ (r : State). r .elements .course .limit .0) (x .is) in
         omega (arith, x .last-is, x .roof)
 
-    none-pending : (i : ℕ) → i < s .elements .pending → ⊥
-    none-pending i h = let e : 0 ≡ s .elements .pending = ap (λ (r : State). r .elements .pending) (x .is) in omega arith
+    none-pending : (i : ℕ) → i < s .elements .queue .pending → ⊥
+    none-pending i h = let e : 0 ≡ s .elements .queue .pending = ap (λ (r : State). r .elements .queue .pending) (x .is) in omega arith
 
-    first-is : s .elements .first .0 ≡ length earlier
-    first-is = sym (ap (λ (r : State). r .elements .first .0) (x .is)) ∙ x .number-is
+    first-is : s .elements .queue .first .0 ≡ length earlier
+    first-is = sym (ap (λ (r : State). r .elements .queue .first .0) (x .is)) ∙ x .number-is
 
     stage-is : S.OpeningHeaders ≡ s .stage
     stage-is = ap (λ (r : State). r .stage) (x .is)

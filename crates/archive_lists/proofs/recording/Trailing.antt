@@ -111,25 +111,25 @@ priorOf last h earlier at t same = record {
 
 -- it holds the frames from number k on; or it has stopped before the elements began, and a LOCATE that empties it is due
 pub data Buffered (last pass : ℕ) (prior : Prior) (xs : List Element) (e : Elements) (d : Drive) (k edge : ℕ) : Type 0 where
-  holds : k + length (d .buffer) ≤ e .first .0 + e .pending → Frames last pass xs (Place prior last pass k (d .at) edge (d .tape)) k (d .buffer) → Buffered last pass prior xs e d k edge
-  halted : d .failed ≡ true → e .locate ≡ true → Buffered last pass prior xs e d k edge
+  holds : k + length (d .buffer) ≤ e .queue .first .0 + e .queue .pending → Frames last pass xs (Place prior last pass k (d .at) edge (d .tape)) k (d .buffer) → Buffered last pass prior xs e d k edge
+  halted : d .failed ≡ true → e .course .locate ≡ true → Buffered last pass prior xs e d k edge
 
 -- ---- the whole, of a session's stage and elements, the drive and the command in flight. Of the elements ys the first, xs, are promised; of these k
 -- are on tape, EOD counted as one more
 
 pub record Trailing (last pass : ℕ) (prior : Prior) (xs ys : List Element) (st : Stage) (e : Elements) (d : Drive) (g : Flight) (k edge : ℕ) : Type 0 where
-  pub from : prior .base ≤ e .first .0
+  pub from : prior .base ≤ e .queue .first .0
   pub prefix : (i : ℕ) → i < length xs → itemAt ys i ≡ itemAt xs i
   -- the marks are those of the pending elements
-  pub marked : (i : ℕ) → i < e .pending → getD (e .marks) ((e .first .0 + i) % 64) false ≡ isFilemark xs (e .first .0 + i)
+  pub marked : (i : ℕ) → i < e .queue .pending → getD (e .queue .marks) ((e .queue .first .0 + i) % 64) false ≡ isFilemark xs (e .queue .first .0 + i)
   -- the trail is that before the oldest of them
-  pub trail : Traces xs (Marked prior last pass edge (d .tape)) (e .first .0) (e .trail)
+  pub trail : Traces xs (Marked prior last pass edge (d .tape)) (e .queue .first .0) (e .trail)
   -- the session's that are on tape
   pub written : (j : ℕ) → prior .base ≤ j → j < k → NumberBelow last pass xs edge (d .tape) j
   -- of these, those that are not known to be lie behind one another before the drive's place
-  pub behind : st ≡ S.Elements → (j a : ℕ) → e .first .0 ≤ j → j < k → a + k ≡ d .at + j → NumberAt last pass xs (d .tape) j a
+  pub behind : st ≡ S.Elements → (j a : ℕ) → e .queue .first .0 ≤ j → j < k → a + k ≡ d .at + j → NumberAt last pass xs (d .tape) j a
   -- the frames that the drive holds, and one that goes to it
   pub queue : st ≡ S.Elements → Buffered last pass prior xs e d k edge
-  pub sent : (a : Address) (f : List ℕ) → st ≡ S.Elements → g ≡ recordings.sent (Write a) f → Says last pass xs (Place prior last pass k (d .at) edge (d .tape)) (e .first .0 + e .outstanding) f
+  pub sent : (a : Address) (f : List ℕ) → st ≡ S.Elements → g ≡ recordings.sent (Write a) f → Says last pass xs (Place prior last pass k (d .at) edge (d .tape)) (e .queue .first .0 + e .queue .outstanding) f
   -- the tape
   pub tape : prior .same → prior .trailed → TapeTrails last pass xs ys k edge (d .tape)

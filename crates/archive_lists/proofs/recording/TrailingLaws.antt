@@ -142,7 +142,7 @@ tape-grow {last} {pass} {k} {edge} {t} xs ys ps zs alike few longer x a i f kind
       names = subst (λ (o : Option ℕ). NamesLatest o (MarkerBelow last pass edge t) (markerNamed f)) (sym (latest-alike ys zs i (λ j l. alike j (omega arith)))) (y .names);
     }
 
--- where those that are not on tape are given up
+-- where the others are given up
 pub tape-gives : {last pass k edge : ℕ} {t : Tape} {xs ys : List Element} (ps : List Element) → length ps ≡ k → TapeTrails last pass xs ys k edge t → TapeTrails last pass ps ys k edge t
 tape-gives ps size x a i f kind u r q = let y = x a i f kind u r q in record { among = let h = y .upto in omega arith; upto = y .upto; is = y .is; counts = y .counts; names = y .names }
 
@@ -224,18 +224,18 @@ module _ {last pass : ℕ} (xs : List Element) (t : Tape) (at k : ℕ) (read : L
 
 -- ---- the drive's buffer, to other elements of the session
 
-pub buffered-as : {last pass : ℕ} {prior : Prior} {xs : List Element} {d : Drive} {k edge : ℕ} (e f : Elements) → e .first .0 + e .pending ≤ f .first .0 + f .pending → (d .failed ≡ true → e .locate ≡ true → f .locate ≡ true)
+pub buffered-as : {last pass : ℕ} {prior : Prior} {xs : List Element} {d : Drive} {k edge : ℕ} (e f : Elements) → e .queue .first .0 + e .queue .pending ≤ f .queue .first .0 + f .queue .pending → (d .failed ≡ true → e .course .locate ≡ true → f .course .locate ≡ true)
     → Buffered last pass prior xs e d k edge → Buffered last pass prior xs f d k edge
 buffered-as e f more moving (holds fits fs) = holds (omega arith) fs
 buffered-as e f more moving (halted failed l) = halted failed (moving failed l)
 
 -- it holds nothing
-pub none-buffered : {last pass : ℕ} {prior : Prior} {xs : List Element} {k edge : ℕ} (e : Elements) (d : Drive) → k ≤ e .first .0 + e .pending → d .buffer ≡ [] → Buffered last pass prior xs e d k edge
+pub none-buffered : {last pass : ℕ} {prior : Prior} {xs : List Element} {k edge : ℕ} (e : Elements) (d : Drive) → k ≤ e .queue .first .0 + e .queue .pending → d .buffer ≡ [] → Buffered last pass prior xs e d k edge
 unfolding Frames
 none-buffered {last} {pass} {prior} {xs} {k} {edge} e d few none = holds (omega (arith, ap length none)) (subst (Frames last pass xs (Place prior last pass k (d .at) edge (d .tape)) k) (sym none) tt)
 
 -- or it rests, and a LOCATE is due
-pub rests-buffered : {last pass : ℕ} {prior : Prior} {xs : List Element} {k edge : ℕ} (e : Elements) (d : Drive) → k ≤ e .first .0 + e .pending → e .locate ≡ true → AtRest d → Buffered last pass prior xs e d k edge
+pub rests-buffered : {last pass : ℕ} {prior : Prior} {xs : List Element} {k edge : ℕ} (e : Elements) (d : Drive) → k ≤ e .queue .first .0 + e .queue .pending → e .course .locate ≡ true → AtRest d → Buffered last pass prior xs e d k edge
 rests-buffered e d few locate (stopped f) = halted f locate
 rests-buffered e d few locate (empty none) = none-buffered e d few none
 

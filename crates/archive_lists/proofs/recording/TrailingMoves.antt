@@ -68,7 +68,7 @@ module _ {last pass : ℕ} {prior : Prior} {xs ys : List Element} {st : Stage} {
   trailing-answered r = trailing-unsent (recordings.answered r) (λ _ _ q. answered-sent q)
 
   -- the drive has moved
-  pub trailing-moved : (r : Reply) (to : ℕ) → e .first .0 ≡ k → Trailing last pass prior xs ys st e (moved d to) (recordings.answered r) k edge
+  pub trailing-moved : (r : Reply) (to : ℕ) → e .queue .first .0 ≡ k → Trailing last pass prior xs ys st e (moved d to) (recordings.answered r) k edge
   unfolding Frames
   trailing-moved r to all = record { from = x .from; prefix = x .prefix; marked = x .marked; trail = x .trail; written = x .written; behind = λ _ j a l h _. absurd (omega arith); queue = λ _. holds (omega arith) tt; sent = λ _ _ _ q. answered-sent q; tape = x .tape }
 
@@ -97,7 +97,7 @@ module _ {last pass : ℕ} {prior : Prior} {xs ys : List Element} {st : Stage} {
     from = x .from;
     prefix = x .prefix;
     marked = x .marked;
-    trail = subst (λ (y : Tape). Traces xs (Marked prior last pass edge y) (e .first .0) (e .trail)) (sym q) (x .trail);
+    trail = subst (λ (y : Tape). Traces xs (Marked prior last pass edge y) (e .queue .first .0) (e .trail)) (sym q) (x .trail);
     written = λ j l m. let y = x .written j l m in written-moves y (y .low) (ap (λ (z : Tape). z (y .place)) q);
     behind = λ s. absurd (outside s);
     queue = λ s. absurd (outside s);
@@ -128,7 +128,7 @@ trailing-closed {last} {pass} {d = d} {edge = edge} large x = record {
     keeps j b m = record { frame = m .frame; user = m .user; low = omega (arith, user-within last b large (m .user)); reads = m .reads; found = m .found }
 
 -- a WRITE was taken
-pub trailing-taken : {last pass : ℕ} {prior : Prior} {xs ys : List Element} {st : Stage} {e : Elements} {d : Drive} {k edge : ℕ} (a : Address) (f : List ℕ) (r : Reply) → st ≡ S.Elements → e .locate ≡ false → e .outstanding < e .pending → e .first .0 + e .outstanding ≡ k + length (d .buffer)
+pub trailing-taken : {last pass : ℕ} {prior : Prior} {xs ys : List Element} {st : Stage} {e : Elements} {d : Drive} {k edge : ℕ} (a : Address) (f : List ℕ) (r : Reply) → st ≡ S.Elements → e .course .locate ≡ false → e .queue .outstanding < e .queue .pending → e .queue .first .0 + e .queue .outstanding ≡ k + length (d .buffer)
     → Trailing last pass prior xs ys st e d (recordings.sent (Write a) f) k edge → Trailing last pass prior xs ys st e (taking d f) (recordings.answered r) k edge
 trailing-taken {last} {pass} {prior} {xs} {ys} {st} {e} {d} {k} {edge} a f r is placed due there x = record {
   from = x .from;
@@ -155,10 +155,10 @@ module _ {last pass : ℕ} {prior : Prior} {xs ys : List Element} {st : Stage} {
   x : Trailing last pass prior xs ys st e d g k (d .at)
   x = subst (λ (n : ℕ). Trailing last pass prior xs ys st e d g k n) edge-here before
 
-  held : (k + length (d .buffer) ≤ e .first .0 + e .pending) × Frames last pass xs (Place prior last pass k (d .at) (d .at) (d .tape)) k (d .buffer)
+  held : (k + length (d .buffer) ≤ e .queue .first .0 + e .queue .pending) × Frames last pass xs (Place prior last pass k (d .at) (d .at) (d .tape)) k (d .buffer)
   held = go (x .queue is)
     where
-      go : Buffered last pass prior xs e d k (d .at) → (k + length (d .buffer) ≤ e .first .0 + e .pending) × Frames last pass xs (Place prior last pass k (d .at) (d .at) (d .tape)) k (d .buffer)
+      go : Buffered last pass prior xs e d k (d .at) → (k + length (d .buffer) ≤ e .queue .first .0 + e .queue .pending) × Frames last pass xs (Place prior last pass k (d .at) (d .at) (d .tape)) k (d .buffer)
       go (holds fits fs) = (fits, fs)
       go (halted f _) = clash f free
 
@@ -170,7 +170,7 @@ module _ {last pass : ℕ} {prior : Prior} {xs ys : List Element} {st : Stage} {
   tape-so v left s t = tape-tried (d .tape) (d .at) k v low (x .prefix) f (λ h q. left-reads left q) (head .0) s (x .tape s t)
 
   -- those on tape before it stay
-  stays : (v : Option (List ℕ)) (j a : ℕ) → e .first .0 ≤ j → j < k → a + k ≡ d .at + j → NumberAt last pass xs (put (d .tape) (d .at) v) j a
+  stays : (v : Option (List ℕ)) (j a : ℕ) → e .queue .first .0 ≤ j → j < k → a + k ≡ d .at + j → NumberAt last pass xs (put (d .tape) (d .at) v) j a
   stays v j a l h q = number-put (d .at) v (λ z. omega arith) (x .behind is j a l h q)
 
   keeps-written : (v : Option (List ℕ)) (j : ℕ) → prior .base ≤ j → j < k → NumberBelow last pass xs (d .at + 1) (put (d .tape) (d .at) v) j
@@ -213,7 +213,7 @@ module _ {last pass : ℕ} {prior : Prior} {xs ys : List Element} {st : Stage} {
           subst (NumberBelow last pass xs (d .at + 1) (put (d .tape) (d .at) (some read))) (sym z)
           (record { place = d .at; low = omega arith; there = number-written xs (d .tape) (d .at) k read here (user-within last (d .at) large here) found (d .at) refl })
 
-      by : (j a : ℕ) → e .first .0 ≤ j → a + (k + 1) ≡ d .at + 1 + j → (j ≡ k) ⊎ (j < k) → NumberAt last pass xs (put (d .tape) (d .at) (some read)) j a
+      by : (j a : ℕ) → e .queue .first .0 ≤ j → a + (k + 1) ≡ d .at + 1 + j → (j ≡ k) ⊎ (j < k) → NumberAt last pass xs (put (d .tape) (d .at) (some read)) j a
       by j a l q (inl z) = subst (λ (n : ℕ). NumberAt last pass xs (put (d .tape) (d .at) (some read)) n a) (sym z) (number-written xs (d .tape) (d .at) k read here (user-within last (d .at) large here) found a (omega arith))
       by j a l q (inr h) = stays (some read) j a l h (omega arith)
 
@@ -221,9 +221,9 @@ module _ {last pass : ℕ} {prior : Prior} {xs ys : List Element} {st : Stage} {
 
 module _ {last pass : ℕ} {prior : Prior} {xs ys : List Element} {st : Stage} {e : Elements} {d : Drive} {g : Flight} {k edge : ℕ} (large : 3000 ≤ last) (small : last + 65 < 2 ^ 32) (is : st ≡ S.Elements) (x : Trailing last pass prior xs ys st e d g k edge) where
   -- one that is on tape
-  marker-behind : (i a : ℕ) → e .first .0 + i < k → a + k ≡ d .at + (e .first .0 + i) → d .at ≤ edge → isFilemark xs (e .first .0 + i) ≡ true → Marked prior last pass edge (d .tape) (e .first .0 + i) a × (a < 2 ^ 32)
+  marker-behind : (i a : ℕ) → e .queue .first .0 + i < k → a + k ≡ d .at + (e .queue .first .0 + i) → d .at ≤ edge → isFilemark xs (e .queue .first .0 + i) ≡ true → Marked prior last pass edge (d .tape) (e .queue .first .0 + i) a × (a < 2 ^ 32)
   marker-behind i a h q tried m =
-      let n = x .behind is (e .first .0 + i) a (omega arith) h q in (
+      let n = x .behind is (e .queue .first .0 + i) a (omega arith) h q in (
         record {
           inside = user-within last a large (n .user);
           there = λ _. record {
@@ -231,43 +231,43 @@ module _ {last pass : ℕ} {prior : Prior} {xs ys : List Element} {st : Stage} {
             user = n .user;
             low = omega arith;
             reads = n .reads;
-            found = subst (λ (c : Kind). FoundAs (telling last pass 0) (record { 0 = e .first .0 + i }) c (n .frame)) (kind-marker xs (e .first .0 + i) m) (n .found);
+            found = subst (λ (c : Kind). FoundAs (telling last pass 0) (record { 0 = e .queue .first .0 + i }) c (n .frame)) (kind-marker xs (e .queue .first .0 + i) m) (n .found);
           };
         },
         omega (arith, user-within last a large (n .user)),
       )
 
   -- n more are confirmed
-  pub trail-after : (n : ℕ) → n ≤ e .pending → e .first .0 + n < 2 ^ 32 → e .first .0 + n ≤ k → (0 < n → (baseOf e .0 + k ≡ d .at + e .first .0) × (d .at ≤ edge))
-      → Traces xs (Marked prior last pass edge (d .tape)) (e .first .0 + n) (trailAfter e n)
+  pub trail-after : (n : ℕ) → n ≤ e .queue .pending → e .queue .first .0 + n < 2 ^ 32 → e .queue .first .0 + n ≤ k → (0 < n → (baseOf e .0 + k ≡ d .at + e .queue .first .0) × (d .at ≤ edge))
+      → Traces xs (Marked prior last pass edge (d .tape)) (e .queue .first .0 + n) (trailAfter e n)
   trail-after n few fits upto based =
-      traces-on xs (Marked prior last pass edge (d .tape)) (Marked prior last pass edge (d .tape)) (e .trail) (e .marks) (e .first) (baseOf e) n fits (λ i h. x .marked i (omega arith)) (λ j a _ m. m) new (x .trail)
+      traces-on xs (Marked prior last pass edge (d .tape)) (Marked prior last pass edge (d .tape)) (e .trail) (e .queue .marks) (e .queue .first) (baseOf e) n fits (λ i h. x .marked i (omega arith)) (λ j a _ m. m) new (x .trail)
     where
-      new : (i : ℕ) → i < n → isFilemark xs (e .first .0 + i) ≡ true → Marked prior last pass edge (d .tape) (e .first .0 + i) ((baseOf e .0 + i) % 2 ^ 32)
+      new : (i : ℕ) → i < n → isFilemark xs (e .queue .first .0 + i) ≡ true → Marked prior last pass edge (d .tape) (e .queue .first .0 + i) ((baseOf e .0 + i) % 2 ^ 32)
       new i h m =
           let y = based (omega arith) in
           let base-is = y .0 in
           let z = marker-behind i (baseOf e .0 + i) (omega arith) (omega arith) (y .1) m in
-          subst (Marked prior last pass edge (d .tape) (e .first .0 + i)) (sym (mod-eq-of-lt (z .1))) (z .0)
+          subst (Marked prior last pass edge (d .tape) (e .queue .first .0 + i)) (sym (mod-eq-of-lt (z .1))) (z .0)
 
   -- before the next element to be written
-  pub trail-before : e .outstanding ≤ e .pending → e .first .0 + e .outstanding < 2 ^ 32 → e .first .0 ≤ k → baseOf e .0 + k ≡ d .at + e .first .0 → d .at ≤ edge → baseOf e .0 + e .outstanding ≤ last + 1
-      → Traces xs (Place prior last pass k (d .at) edge (d .tape)) (e .first .0 + e .outstanding) (trailBefore e)
+  pub trail-before : e .queue .outstanding ≤ e .queue .pending → e .queue .first .0 + e .queue .outstanding < 2 ^ 32 → e .queue .first .0 ≤ k → baseOf e .0 + k ≡ d .at + e .queue .first .0 → d .at ≤ edge → baseOf e .0 + e .queue .outstanding ≤ last + 1
+      → Traces xs (Place prior last pass k (d .at) edge (d .tape)) (e .queue .first .0 + e .queue .outstanding) (trailBefore e)
   trail-before few fits least base-is tried roof =
-      traces-on xs (Marked prior last pass edge (d .tape)) (Place prior last pass k (d .at) edge (d .tape)) (e .trail) (e .marks) (e .first) (baseOf e) (e .outstanding) fits (λ i h. x .marked i (omega arith))
+      traces-on xs (Marked prior last pass edge (d .tape)) (Place prior last pass k (d .at) edge (d .tape)) (e .trail) (e .queue .marks) (e .queue .first) (baseOf e) (e .queue .outstanding) fits (λ i h. x .marked i (omega arith))
       (λ j a l m. on-tape (omega arith) m) new (x .trail)
     where
-      new : (i : ℕ) → i < e .outstanding → isFilemark xs (e .first .0 + i) ≡ true → Place prior last pass k (d .at) edge (d .tape) (e .first .0 + i) ((baseOf e .0 + i) % 2 ^ 32)
+      new : (i : ℕ) → i < e .queue .outstanding → isFilemark xs (e .queue .first .0 + i) ≡ true → Place prior last pass k (d .at) edge (d .tape) (e .queue .first .0 + i) ((baseOf e .0 + i) % 2 ^ 32)
       new i h m =
-          subst (Place prior last pass k (d .at) edge (d .tape) (e .first .0 + i)) (sym (mod-eq-of-lt (let z : baseOf e .0 + i < 2 ^ 32 = omega arith in z))) (go (decLe k (e .first .0 + i)))
+          subst (Place prior last pass k (d .at) edge (d .tape) (e .queue .first .0 + i)) (sym (mod-eq-of-lt (let z : baseOf e .0 + i < 2 ^ 32 = omega arith in z))) (go (decLe k (e .queue .first .0 + i)))
         where
-          go : Dec (k ≤ e .first .0 + i) → Place prior last pass k (d .at) edge (d .tape) (e .first .0 + i) (baseOf e .0 + i)
+          go : Dec (k ≤ e .queue .first .0 + i) → Place prior last pass k (d .at) edge (d .tape) (e .queue .first .0 + i) (baseOf e .0 + i)
           go (yes l) = to-come l (omega arith)
           go (no l) = on-tape (omega arith) (marker-behind i (baseOf e .0 + i) (omega arith) (omega arith) tried m .0)
 
 -- ---- a reply among the elements
 
-pub trailing-stepped : {last pass : ℕ} {prior : Prior} {xs ys : List Element} {s : State} {d : Drive} {g : Flight} {k edge : ℕ} (e : Elements) (step : Step last s d k edge e) → 3000 ≤ last → last + 65 < 2 ^ 32 → s .stage ≡ S.Elements → s .elements .outstanding ≤ s .elements .pending → s .elements .first .0 + s .elements .pending < 2 ^ 32
+pub trailing-stepped : {last pass : ℕ} {prior : Prior} {xs ys : List Element} {s : State} {d : Drive} {g : Flight} {k edge : ℕ} (e : Elements) (step : Step last s d k edge e) → 3000 ≤ last → last + 65 < 2 ^ 32 → s .stage ≡ S.Elements → s .elements .queue .outstanding ≤ s .elements .queue .pending → s .elements .queue .first .0 + s .elements .queue .pending < 2 ^ 32
     → Trailing last pass prior xs ys (s .stage) (s .elements) d g k edge → Trailing last pass prior xs ys (s .stage) e d recordings.no-command k (step .tried)
 trailing-stepped {last} {pass} {prior} {xs} {ys} {s} {d} {g} {k} {edge} e step large small is few fits before =
     let first-is = step .first-is in
@@ -278,11 +278,11 @@ trailing-stepped {last} {pass} {prior} {xs} {ys} {s} {d} {g} {k} {edge} e step l
       from = let f = x .from in omega arith;
       prefix = x .prefix;
       marked = λ i h.
-          let at : s .elements .first .0 + (step .n + i) ≡ e .first .0 + i = omega arith in
-          subst (λ (m : List Bool). getD m ((e .first .0 + i) % 64) false ≡ isFilemark xs (e .first .0 + i)) (sym (step .marks-is))
-          (subst (λ (j : ℕ). getD (s .elements .marks) (j % 64) false ≡ isFilemark xs j) at (x .marked (step .n + i) (omega arith)));
+          let at : s .elements .queue .first .0 + (step .n + i) ≡ e .queue .first .0 + i = omega arith in
+          subst (λ (m : List Bool). getD m ((e .queue .first .0 + i) % 64) false ≡ isFilemark xs (e .queue .first .0 + i)) (sym (step .marks-is))
+          (subst (λ (j : ℕ). getD (s .elements .queue .marks) (j % 64) false ≡ isFilemark xs j) at (x .marked (step .n + i) (omega arith)));
       trail =
-          subst (λ (t : Trail). Traces xs (Marked prior last pass (step .tried) (d .tape)) (e .first .0) t) (sym (step .trail-is))
+          subst (λ (t : Trail). Traces xs (Marked prior last pass (step .tried) (d .tape)) (e .queue .first .0) t) (sym (step .trail-is))
           (subst (λ (j : ℕ). Traces xs (Marked prior last pass (step .tried) (d .tape)) j (trailAfter (s .elements) (step .n))) (sym first-is)
           (trail-after large small is x (step .n) (omega arith) (omega arith) (step .on-tape) (λ h. let y = step .based h in (y .0, let z = y .1 in let f = step .further in omega arith))));
       written = x .written;

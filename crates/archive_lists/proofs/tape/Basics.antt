@@ -14,7 +14,7 @@ use Rattle.drive.specs.declared.reply.Reply.{Reply}
 use Rattle.archive_lists.specs.Recordings as recordings
 use Rattle.archive_lists.specs.Recordings.{Flight, TakesEffect}
 
--- a call refused with 1 to 7 takes no effect
+-- with 1 to 7 it takes none
 pub no-effect : {X : Type 0} {n : ℕ} → 1 ≤ n → n ≤ 7 → TakesEffect n → X
 no-effect l u (inl e) = absurd (omega arith)
 no-effect l u (inr e) = absurd (omega arith)

@@ -39,7 +39,7 @@ pub record EndsHere (told : Told) (t : Tape) (got : List Element) (e : ℕ) : Ty
 module _ (told : Told) (t : Tape) (got : List Element) (e : ℕ) where
   advanced : (a : ℕ) (f : List ℕ) (n : ℕ) (g : List Element) (tr : Trail) → isUser (told .last .0) a ≡ true → t a ≡ some f → foldOf told t a ≡ going n g tr
       → (j : JudgementSaid) → judgeFrame told (record { 0 = a }) (record { 0 = n }) f ≡ j → advance j f a n g tr ≡ finished got e → EndsHere told t got e
-  advanced a f n g tr u v r judgement.skipped j q = never (cc)
+  advanced a f n g tr u v r judgement.passedOver j q = never (cc)
   advanced a f n g tr u v r (judgement.refused m) j q = never (cc)
   advanced a f n g tr u v r judgement.block j q = never (cc)
   advanced a f n g tr u v r judgement.filemark j q = never (cc)

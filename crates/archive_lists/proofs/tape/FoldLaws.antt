@@ -16,7 +16,7 @@ use Rattle.geometry.specs.Cartridge.{isUser}
 use Rattle.geometry.proofs.PickLaws.{pick-t, pick-f, pick-by}
 use Rattle.frame.specs.declared.element.Kind.the-variants.{Eod}
 use Rattle.frame.specs.declared.trail.Trail.{Trail}
-use Rattle.judgement.specs.Judgement.{skipped, endsFrom, judgeFrame}
+use Rattle.judgement.specs.Judgement.{passedOver, endsFrom, judgeFrame}
 use Rattle.judgement.proofs.JudgeLaws.{unnamed, judge-alike}
 use Rattle.judgement.specs.declared.told.Told.{Told}
 use Rattle.archive_lists.specs.Tape.{Tape, SameFrames, put}
@@ -41,7 +41,7 @@ put-other t a v b h = pick-f _ (ne-eqb b a h)
 -- ---- one address
 
 -- a frame that is passed over
-pub look-passed : (told : Told) (a : ℕ) (f : List ℕ) (n : ℕ) (got : List Element) (trail : Trail) → judgeFrame told (record { 0 = a }) (record { 0 = n }) f ≡ skipped → look told a (some f) (going n got trail) ≡ going n got trail
+pub look-passed : (told : Told) (a : ℕ) (f : List ℕ) (n : ℕ) (got : List Element) (trail : Trail) → judgeFrame told (record { 0 = a }) (record { 0 = n }) f ≡ passedOver → look told a (some f) (going n got trail) ≡ going n got trail
 unfolding look
 look-passed told a f n got trail e = ap (λ j. advance j f a n got trail) e
 
@@ -52,7 +52,7 @@ look-none told a none r h = refl
 look-none told a (some f) r h = absurd (h f refl)
 
 -- whatever reads is passed over
-pub look-quiet : (told : Told) (a : ℕ) (v : Option (List ℕ)) (xs : List Element) (m : ℕ) {r : Reader} → ((f : List ℕ) → v ≡ some f → judgeFrame told (record { 0 = a }) (record { 0 = m }) f ≡ skipped) → Has xs m r → Has xs m (look told a v r)
+pub look-quiet : (told : Told) (a : ℕ) (v : Option (List ℕ)) (xs : List Element) (m : ℕ) {r : Reader} → ((f : List ℕ) → v ≡ some f → judgeFrame told (record { 0 = a }) (record { 0 = m }) f ≡ passedOver) → Has xs m r → Has xs m (look told a v r)
 look-quiet told a none xs m {r} h x = subst (Has xs m) (sym (look-none told a none r (λ f e. none-some e))) x
 look-quiet told a (some f) xs m h (has trail e) = has trail (ap (look told a (some f)) e ∙ look-passed told a f m (take m xs) trail (h f refl))
 
@@ -71,15 +71,15 @@ module _ {last pass : ℕ} (told : Told) (a : ℕ) (last-is : told .last .0 ≡ 
 
   -- one that was delivered is passed over
   pub look-again : a < endsFrom told → (n : ℕ) → k < n → Has xs n r → Has xs n (look told a (some f) r)
-  look-again early n h x = look-quiet told a (some f) xs n (λ g e. subst (λ (y : List ℕ). judgeFrame told (record { 0 = a }) (record { 0 = n }) y ≡ skipped) (some-same e) (stands-below told a last-is pass-is s (unnamed told (record { 0 = a }) early (kindFor (itemAt xs k))) n h)) x
+  look-again early n h x = look-quiet told a (some f) xs n (λ g e. subst (λ (y : List ℕ). judgeFrame told (record { 0 = a }) (record { 0 = n }) y ≡ passedOver) (some-same e) (stands-below told a last-is pass-is s (unnamed told (record { 0 = a }) early (kindFor (itemAt xs k))) n h)) x
 
 -- EOD with the next number or one below, where it does not end reading
 pub look-eod : {last pass : ℕ} (told : Told) (a : ℕ) → told .last .0 ≡ last → told .pass ≡ pass → (xs : List Element) (k m : ℕ) (f : List ℕ) → Stands last pass eod k f → {r : Reader} → a < endsFrom told → (k ≡ m) ⊎ (k < m) → Has xs m r → Has xs m (look told a (some f) r)
 look-eod told a last-is pass-is xs k m f s early at x =
-    look-quiet told a (some f) xs m (λ g e. subst (λ (y : List ℕ). judgeFrame told (record { 0 = a }) (record { 0 = m }) y ≡ skipped) (some-same e) (passed at)) x
+    look-quiet told a (some f) xs m (λ g e. subst (λ (y : List ℕ). judgeFrame told (record { 0 = a }) (record { 0 = m }) y ≡ passedOver) (some-same e) (passed at)) x
   where
-    passed : (k ≡ m) ⊎ (k < m) → judgeFrame told (record { 0 = a }) (record { 0 = m }) f ≡ skipped
-    passed (inl same) = subst (λ (n : ℕ). judgeFrame told (record { 0 = a }) (record { 0 = n }) f ≡ skipped) same (eod-passed told a last-is pass-is s early)
+    passed : (k ≡ m) ⊎ (k < m) → judgeFrame told (record { 0 = a }) (record { 0 = m }) f ≡ passedOver
+    passed (inl same) = subst (λ (n : ℕ). judgeFrame told (record { 0 = a }) (record { 0 = n }) f ≡ passedOver) same (eod-passed told a last-is pass-is s early)
     passed (inr less) = stands-below told a last-is pass-is s (unnamed told (record { 0 = a }) early Eod) m less
 
 -- ---- the fold
@@ -155,7 +155,7 @@ module _ (told : Told) (t : Tape) where
       ap (foldOf told t) e ∙ fold-none-by a (b - a) (λ c f m u. h c f m (omega arith))
 
   -- and so are those at which whatever reads is
-  fold-quiet-by : (xs : List Element) (m a n : ℕ) → ((b : ℕ) (f : List ℕ) → a ≤ b → b < n + a → isUser (told .last .0) b ≡ true → t b ≡ some f → judgeFrame told (record { 0 = b }) (record { 0 = m }) f ≡ skipped)
+  fold-quiet-by : (xs : List Element) (m a n : ℕ) → ((b : ℕ) (f : List ℕ) → a ≤ b → b < n + a → isUser (told .last .0) b ≡ true → t b ≡ some f → judgeFrame told (record { 0 = b }) (record { 0 = m }) f ≡ passedOver)
       → Has xs m (foldOf told t a) → Has xs m (foldOf told t (n + a))
   unfolding foldOf
   fold-quiet-by xs m a zero h x = let e : a ≡ zero + a = omega arith in subst (λ (i : ℕ). Has xs m (foldOf told t i)) e x
@@ -165,7 +165,7 @@ module _ (told : Told) (t : Tape) where
       subst (λ (i : ℕ). Has xs m (foldOf told t i)) e
       (pick-by (Has xs m) (isUser (told .last .0) (n + a)) (λ u. look-quiet told (n + a) (t (n + a)) xs m (λ f q. h (n + a) f (omega arith) (omega arith) u q) before) (λ _. before))
 
-  pub fold-quiet : (xs : List Element) (m a b : ℕ) → a ≤ b → ((c : ℕ) (f : List ℕ) → a ≤ c → c < b → isUser (told .last .0) c ≡ true → t c ≡ some f → judgeFrame told (record { 0 = c }) (record { 0 = m }) f ≡ skipped)
+  pub fold-quiet : (xs : List Element) (m a b : ℕ) → a ≤ b → ((c : ℕ) (f : List ℕ) → a ≤ c → c < b → isUser (told .last .0) c ≡ true → t c ≡ some f → judgeFrame told (record { 0 = c }) (record { 0 = m }) f ≡ passedOver)
       → Has xs m (foldOf told t a) → Has xs m (foldOf told t b)
   fold-quiet xs m a b l h x =
       let e : b - a + a ≡ b = omega arith in

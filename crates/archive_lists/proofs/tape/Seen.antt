@@ -8,7 +8,7 @@ use mathlib.Core.Option.{some}
 use lib.ListN.{length, take}
 use Rattle.geometry.specs.Cartridge.{isUser}
 use Rattle.frame.specs.declared.trail.Trail.{Trail}
-use Rattle.judgement.specs.Judgement.{skipped, judgeFrame}
+use Rattle.judgement.specs.Judgement.{passedOver, judgeFrame}
 use Rattle.judgement.specs.declared.told.Told.{Told}
 use Rattle.archive_lists.specs.Tape.{Tape, Bears}
 use Rattle.archive_lists.specs.Fold.{Reader, going, finished, foldOf, wholeOf}
@@ -22,7 +22,7 @@ pub data Has (xs : List Element) (m : ℕ) (r : Reader) : Type 0 where
 
 -- from an address on, whatever reads is passed over in the open view by a reading that expects base or more
 abbrev pub Quiet : ℕ → ℕ → ℕ → ℕ → Tape → Type 0
-Quiet last pass base edge t = (a : ℕ) (f : List ℕ) → edge ≤ a → isUser last a ≡ true → t a ≡ some f → (i : ℕ) → base ≤ i → judgeFrame (unending last pass) (record { 0 = a }) (record { 0 = i }) f ≡ skipped
+Quiet last pass base edge t = (a : ℕ) (f : List ℕ) → edge ≤ a → isUser last a ≡ true → t a ≡ some f → (i : ℕ) → base ≤ i → judgeFrame (unending last pass) (record { 0 = a }) (record { 0 = i }) f ≡ passedOver
 
 -- from an address on no user frame bears the pass
 abbrev pub NoneFrom : ℕ → ℕ → Tape → ℕ → Type 0

@@ -14,7 +14,7 @@ use lib.ListN.{length, take, length-append}
 use lib.Seq.{take-append-le, length-take-le}
 use Rattle.geometry.specs.Cartridge.{isUser}
 use Rattle.geometry.proofs.UserFrames.{user-ranges}
-use Rattle.judgement.specs.Judgement.{skipped, endsFrom, judgeFrame}
+use Rattle.judgement.specs.Judgement.{passedOver, endsFrom, judgeFrame}
 use Rattle.archive_lists.specs.Conduct.{Left, as-before, as-new, not-at-all, reads}
 use Rattle.archive_lists.specs.Tape.{Tape, Cartridge, put}
 use Rattle.archive_lists.specs.Fold.{Reader, going, look, foldOf}
@@ -205,12 +205,12 @@ module _ {last pass k : ℕ} {ps xs : List Element} {t : Tape} where
           quiet = quiet-put (some f);
         }
 
-    failed-with : (v : Option (List ℕ)) → ((f : List ℕ) → v ≡ some f → judgeFrame (unending last pass) (record { 0 = a }) (record { 0 = h .m }) f ≡ skipped) → Seen last pass ps xs k (a + 1) (put t a v)
+    failed-with : (v : Option (List ℕ)) → ((f : List ℕ) → v ≡ some f → judgeFrame (unending last pass) (record { 0 = a }) (record { 0 = h .m }) f ≡ passedOver) → Seen last pass ps xs k (a + 1) (put t a v)
     failed-with v passed =
         seen-as h (put-has v (look-quiet (unending last pass) a v xs (h .m) passed (h .seen)))
         (quiet-put v)
 
-    -- a failed address reads as before, as the new frame, or not at all
+    -- whatever a failed address reads as
     pub seen-fails : (f : List ℕ) (v : Option (List ℕ)) → Stands last pass (itemAt ps k) k f → Left (t a) f v → Seen last pass ps xs k (a + 1) (put t a v)
     seen-fails f v s as-before = failed-with (t a) (λ g e. h .quiet a g (le-refl a) here e (h .m) (h .floor))
     seen-fails f v s (as-new _ (reads read q)) =

@@ -13,7 +13,7 @@ use Rattle.frame.specs.Trail.{marked}
 use Rattle.frame.specs.declared.trail.Trail.{Trail}
 use Rattle.frame.specs.Sent.{ReadsAs}
 use Rattle.frame.proofs.AsSent.{data-as-sent}
-use Rattle.judgement.specs.Judgement.{skipped, refused, end, foundSaid, endsFrom, isEarlierEnd, isNamedEnd, judgeFrame}
+use Rattle.judgement.specs.Judgement.{passedOver, refused, end, foundSaid, endsFrom, isEarlierEnd, isNamedEnd, judgeFrame}
 use Rattle.judgement.specs.declared.told.Told.{Told}
 use Rattle.judgement.proofs.Facts.{FoundAs}
 use Rattle.judgement.proofs.JudgeLaws.{below-so, one-below-so, above-so, earlier-so, found-so, found-told}
@@ -83,7 +83,7 @@ module _ {last pass i : ℕ} {x : Item} {f : List ℕ} (told : Told) (a : ℕ) (
   found-here = found-told (telling last pass 0) told (sym last-is) (sym pass-is) (s .found)
 
   -- once its number is below the expected
-  pub stands-below : isNamedEnd (kindFor x) told (record { 0 = a }) ≡ false → (n : ℕ) → i < n → judgeFrame told (record { 0 = a }) (record { 0 = n }) f ≡ skipped
+  pub stands-below : isNamedEnd (kindFor x) told (record { 0 = a }) ≡ false → (n : ℕ) → i < n → judgeFrame told (record { 0 = a }) (record { 0 = n }) f ≡ passedOver
   stands-below other n h = below-so told (record { 0 = a }) (record { 0 = n }) f (kindFor x) other (found-here .typed) (subst (λ (k : ℕ). k < n) (sym (found-here .number)) h)
 
   pub stands-above : (n : ℕ) → n < i → judgeFrame told (record { 0 = a }) (record { 0 = n }) f ≡ refused 10
@@ -94,7 +94,7 @@ module _ {last pass i : ℕ} {x : Item} {f : List ℕ} (told : Told) (a : ℕ) (
 
 -- an EOD below where EODs end reading, and from there on
 module _ {last pass i : ℕ} {f : List ℕ} (told : Told) (a : ℕ) (last-is : told .last .0 ≡ last) (pass-is : told .pass ≡ pass) (s : Stands last pass eod i f) where
-  pub eod-passed : a < endsFrom told → judgeFrame told (record { 0 = a }) (record { 0 = i }) f ≡ skipped
+  pub eod-passed : a < endsFrom told → judgeFrame told (record { 0 = a }) (record { 0 = i }) f ≡ passedOver
   eod-passed h = let x = found-here told a last-is pass-is s in earlier-so told (record { 0 = a }) (record { 0 = i }) f (x .typed) (x .number) h
 
   pub eod-ends : endsFrom told ≤ a → judgeFrame told (record { 0 = a }) (record { 0 = i }) f ≡ end

@@ -17,7 +17,8 @@ use Rattle.frame.proofs.AuxFields.{aux-filemarks, aux-marker}
 use Rattle.frame.proofs.Frames.{element-data, element-aux}
 use Rattle.judgement.proofs.Facts.{FoundAs}
 use Rattle.judgement.proofs.Written.{found-written}
-use Rattle.elements.specs.Elements.{numberOf, kindOf}
+use Rattle.elements.specs.Elements.{kindOf}
+use Rattle.elements.specs.Queue.{numberOf}
 use Rattle.elements.specs.Trail.{trailBefore}
 use Rattle.recording_state.specs.State.{windowLength}
 use Rattle.recording_state.specs.Window.{blockAt}
@@ -34,16 +35,16 @@ block-fits Eod b h = refl
 
 module _ (s : State) (window : List ℕ) (long : length window ≡ windowLength s) where
   inside : elementPlace s * 32768 + 32768 ≤ length window
-  inside = subst (λ (n : ℕ). elementPlace s * 32768 + 32768 ≤ n) (sym long) (place-inside (numberOf (s .elements) (s .elements .outstanding) .0) (s .setup .highest))
+  inside = subst (λ (n : ℕ). elementPlace s * 32768 + 32768 ≤ n) (sym long) (place-inside (numberOf (s .elements .queue) (s .elements .queue .outstanding) .0) (s .setup .highest))
 
   fitting : elementFits (kindOf (s .elements)) 33280 (length (blockAt window (elementPlace s))) ≡ true
   fitting = block-fits (kindOf (s .elements)) (blockAt window (elementPlace s)) (block-length window (elementPlace s) inside)
 
   pub written-found : {r : List ℕ} → s .copies .header .pass < 2 ^ 16 → ReadsAs (writtenElement s window) r
-      → FoundAs (telling (s .copies .header .last .0) (s .copies .header .pass) 0) (numberOf (s .elements) (s .elements .outstanding)) (kindOf (s .elements)) r
+      → FoundAs (telling (s .copies .header .last .0) (s .copies .header .pass) 0) (numberOf (s .elements .queue) (s .elements .queue .outstanding)) (kindOf (s .elements)) r
   unfolding writtenElement elementOf
   written-found small reads =
-      found-written (elementOf s) small (mod-lt (s .elements .first .0 + s .elements .outstanding) (lit< tt)) (blockAt window (elementPlace s)) fitting reads
+      found-written (elementOf s) small (mod-lt (s .elements .queue .first .0 + s .elements .queue .outstanding) (lit< tt)) (blockAt window (elementPlace s)) fitting reads
 
   -- the data bytes are the element's own
   pub written-data : take 32768 (writtenElement s window) ≡ dataBytes (kindOf (s .elements)) (blockAt window (elementPlace s))

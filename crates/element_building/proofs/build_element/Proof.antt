@@ -17,7 +17,7 @@ same-length c = search needs
 returns : tie.Need-returns
 returns c =
     let e = sym (c .before .before .before .before .before .fits2 .ensures) ∙ c .before .before .before .before .if1 .taken in
-    (sym (pick-t 1 e), c .before .before .fill-element .ensures ∙ sym (pick-t _ e))
+    (c .before .before .fill-element .ensures .0 ∙ sym (pick-t 1 e), c .before .before .fill-element .ensures .1 ∙ sym (pick-t _ e))
 
 returns-2 : tie.Need-returns-2
 returns-2 c =

@@ -10,15 +10,15 @@ trail-after-requires c κs = tt
 number-requires : tie.Need-number-requires
 number-requires c κs = tt
 
-minus-requires : tie.Need-minus-requires
-minus-requires c κs = tt
+saturating-sub-requires : tie.Need-saturating-sub-requires
+saturating-sub-requires c κs = tt
 
-sub-e : tie.Need-sub-e
-sub-e c = omega arith
+sub-queue : tie.Need-sub-queue
+sub-queue c = omega arith
 
 returns : tie.Need-returns
 unfolding confirmedOf
-returns c = simp (c .before .before .number .ensures, c .before .minus .ensures, c .before .before .before .trail-after .ensures)
+returns c = simp (c .before .before .number .ensures, c .before .saturating-sub .ensures, c .before .before .before .before .trail-after .ensures)
 
 pub confirmed-spec : {M : Type 1} → statement M
-confirmed-spec = tie.close (tie.spec trail-after-requires number-requires minus-requires sub-e returns)
+confirmed-spec = tie.close (tie.spec trail-after-requires number-requires saturating-sub-requires sub-queue returns)

@@ -11,7 +11,9 @@ limit-due-requires : tie.Need-limit-due-requires
 limit-due-requires c κs = search needs
 
 returns : tie.Need-returns
-returns c = ap (λ (n : Address). leb (c .before .before .before .before .before .before .before .args .depth) (c .before .before .before .before .before .before .before .args .e .outstanding) || (ltb 0 (c .before .before .before .before .before .before .before .args .e .outstanding) && (eqb (c .before .before .before .before .before .before .before .args .e .next .0) 2990 || leb (n .0) (c .before .before .before .before .before .before .before .args .e .next .0)))) (c .before .before .before .before .before .limit-due .ensures)
+returns c =
+    let a = c .before .before .before .before .before .before .before .args in
+    ap (λ (n : Address). leb (a .depth) (a .e .queue .outstanding) || (ltb 0 (a .e .queue .outstanding) && (eqb (a .e .course .next .0) 2990 || leb (n .0) (a .e .course .next .0)))) (c .before .before .before .before .before .limit-due .ensures)
 
 pub must-confirm-spec : {M : Type 1} → statement M
 must-confirm-spec = tie.close (tie.spec limit-due-requires returns)

@@ -3,13 +3,17 @@ use Prim.Native.Nat.{ℕ, _+_, _-_, _*_, _^_, _≤_}
 use mathlib.Core.Path.{_≡_, sym, ap, _∙_}
 use native.Mathlib.Omega.{arith}
 use borrow.Author.Needs.{needs}
-use Rattle.frame_bounds.specs.Bounds.{smaller, groupCopies, sessionCopies}
+use Rattle.geometry.specs.Cartridge.{groupCopies}
+use Rattle.frame_bounds.specs.Bounds.{smaller, sessionCopies}
 use Rattle.frame_bounds.proofs.SmallerLaws.{smaller-left, product-fits}
 use Rattle.frame_bounds.proofs.header_frames_sent_at_most.Statement.{statement}
 use Rattle.frame_bounds.proofs.header_frames_sent_at_most.Tie as tie
 use Rattle.frame_bounds.proofs.header_frames_sent_at_most.Reads as reads
 use Rattle.frame_bounds.proofs.header_frames_sent_at_most.Lts as lts
 use Rattle.frame_bounds.proofs.smaller.Reads as held
+
+cast-smaller : tie.Need-cast-smaller
+cast-smaller c = search needs
 
 smaller-requires : tie.Need-smaller-requires
 smaller-requires c κs = search needs
@@ -43,4 +47,4 @@ add-result : tie.Need-add-result
 add-result c = record { fits = omega (arith, product c) }
 
 pub header-frames-sent-at-most-spec : {M : Type 1} → statement M
-header-frames-sent-at-most-spec = tie.close (tie.spec smaller-requires returns sub-result cast-result mul-result add-result returns-2)
+header-frames-sent-at-most-spec = tie.close (tie.spec cast-smaller smaller-requires returns sub-result cast-result mul-result add-result returns-2)

@@ -18,7 +18,7 @@ same-length c = search needs
 returns-2 : tie.Need-returns-2
 returns-2 c =
     let e = eq-eqb _ 33280 (c .before .before .before .before .if1 .left) in
-    (sym (pick-t 1 e), c .before .before .fill-header .ensures ∙ sym (pick-t _ e))
+    (c .before .before .fill-header .ensures .0 ∙ sym (pick-t 1 e), c .before .before .fill-header .ensures .1 ∙ sym (pick-t _ e))
 
 pub build-header-spec : {M : Type 1} → statement M
 build-header-spec = tie.close (tie.spec returns fill-header-requires same-length returns-2)

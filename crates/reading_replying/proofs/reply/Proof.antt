@@ -12,17 +12,17 @@ use Rattle.geometry.proofs.PickLaws.{pick-t, pick-f}
 use Rattle.geometry.proofs.TestLaws.{neither}
 use Rattle.drive.specs.declared.reply.Reply.{Reply}
 use Rattle.reading_state.specs.declared.state.State.{State}
-use Rattle.reading_state.specs.Reply.{nothing, TakenSaid, delivering, caseOf, replyBy, replyOf}
+use Rattle.reading_state.specs.Reply.{nothing, RepliedSaid, delivering, caseOf, replyBy, replyOf}
 use Rattle.reading_replying.proofs.reply.Statement.{statement}
 use Rattle.reading_replying.proofs.reply.Tie as tie
 
 -- what answers the case of an arm answers the reply
 module _ (s : State) (r : Reply) (frame : List ℕ) {case : ℕ} (phase : (s .ended || not (s .exchange .awaiting)) ≡ false) (long : length frame ≡ 33280) (told : case ≡ caseOf s r) where
-  arm : {n : ℕ} {t : TakenSaid} → case ≡ n → t ≡ replyBy s n frame → t ≡ replyOf s r frame
+  arm : {n : ℕ} {t : RepliedSaid} → case ≡ n → t ≡ replyBy s n frame → t ≡ replyOf s r frame
   unfolding replyOf
   arm key answer = answer ∙ sym (pick-f _ phase ∙ pick-t _ (eq-eqb _ _ long) ∙ ap (λ k. replyBy s k frame) (sym told ∙ key))
 
-  arm-of-two : {m n : ℕ} {t : TakenSaid} → (case ≡ m) ⊎ (case ≡ n) → t ≡ replyBy s m frame → t ≡ replyBy s n frame → t ≡ replyOf s r frame
+  arm-of-two : {m n : ℕ} {t : RepliedSaid} → (case ≡ m) ⊎ (case ≡ n) → t ≡ replyBy s m frame → t ≡ replyBy s n frame → t ≡ replyOf s r frame
   arm-of-two (inl key) first second = arm key first
   arm-of-two (inr key) first second = arm key second
 
@@ -55,8 +55,8 @@ located-requires c κs = search needs
 judged-requires : tie.Need-judged-requires
 judged-requires c κs = search needs
 
-skipped-requires : tie.Need-skipped-requires
-skipped-requires c κs = search needs
+passed-over-requires : tie.Need-passed-over-requires
+passed-over-requires c κs = search needs
 
 jumped-requires : tie.Need-jumped-requires
 jumped-requires c κs = search needs
@@ -91,7 +91,7 @@ returns-6 : tie.Need-returns-6
 unfolding replyBy
 returns-6 c =
     let a = c .before .before .before .before .before .before .before .before .before .args in
-    arm (a .s) (a .reply) (now (a .frame)) (c .before .before .before .before .before .if1 .left) (c .before .before .before .before .if2 .left) (c .before .before .case-of .ensures) (c .before .match .keys4) (c .skipped .ensures)
+    arm (a .s) (a .reply) (now (a .frame)) (c .before .before .before .before .before .if1 .left) (c .before .before .before .before .if2 .left) (c .before .before .case-of .ensures) (c .before .match .keys4) (c .passed-over .ensures)
 
 returns-7 : tie.Need-returns-7
 unfolding replyBy
@@ -133,7 +133,7 @@ reply-spec =
     deliver-requires
     located-requires
     judged-requires
-    skipped-requires
+    passed-over-requires
     jumped-requires
     end-requires
     end-requires-2

@@ -12,7 +12,7 @@ use lib.ListN.{length}
 use Rattle.geometry.specs.declared.address.Seq.{Seq}
 use Rattle.geometry.proofs.PickLaws.{pick-t, pick-f}
 use Rattle.recording_state.specs.declared.state.State.{State}
-use Rattle.elements.specs.Elements.{numberOf}
+use Rattle.elements.specs.Queue.{numberOf}
 use Rattle.recording_state.specs.State.{windowLength, OutcomeSaid, accepting}
 use Rattle.recording_state.specs.Window.{putBlock}
 use Rattle.recording_state.specs.Accept.{StoredSaid, withElement, blockOf}
@@ -121,7 +121,7 @@ returns-5 c =
     ∙ ap (λ (w : List ℕ). stored w (accepting (withElement (a .s) false)))
     (c .before .before .before .before .put-block .ensures
     ∙ ap (λ (n : Seq). putBlock (a .window .now) (n .0 % c .before .before .before .before .before .before .before .before .before .before .before .before .blocks2 .result) (a .block .now)) (c .before .before .before .before .before .before .before .number .ensures)
-    ∙ ap (λ (w : ℕ). putBlock (a .window .now) (numberOf (a .s .elements) (a .s .elements .pending) .0 % w) (a .block .now)) (c .before .before .before .before .before .before .before .before .before .before .before .before .blocks2 .ensures))
+    ∙ ap (λ (w : ℕ). putBlock (a .window .now) (numberOf (a .s .elements .queue) (a .s .elements .queue .pending) .0 % w) (a .block .now)) (c .before .before .before .before .before .before .before .before .before .before .before .before .blocks2 .ensures))
     ∙ sym
     (pick-f _ (sym (c .before .before .before .before .before .before .before .before .before .before .before .before .before .before .before .accepts-none .ensures) ∙ c .before .before .before .before .before .before .before .before .before .before .before .before .before .before .if1 .left)
     ∙ pick-t _ (both-lengths (a .s) (a .block .now) (a .window .now) (c .before .before .before .before .before .before .before .before .before .before .before .before .before .if2 .left) (eq-eqb _ _ alike))

@@ -9,7 +9,7 @@ accept-requires : tie.Need-accept-requires
 accept-requires c κs = tt
 
 returns : tie.Need-returns
-returns c = ap (λ (e : Elements). withElements (c .before .before .args .s) e) (c .accept .ensures)
+returns c = ap (λ (e : Elements). withElements (c .before .args .s) e) (c .accept .ensures)
 
 pub with-element-spec : {M : Type 1} → statement M
 with-element-spec = tie.close (tie.spec accept-requires returns)

@@ -3,7 +3,9 @@ use mathlib.Core.Path.{_∙_, ap}
 use Rattle.geometry.specs.declared.address.Seq.{Seq}
 use Rattle.frame.specs.declared.element.Kind.{Kind}
 use Rattle.frame.specs.declared.element.Element.{Element}
-use Rattle.elements.specs.Elements.{numberOf, kindOf}
+use Rattle.frame.proofs.FrameTypes.{type-tells}
+use Rattle.elements.specs.Elements.{kindOf}
+use Rattle.elements.specs.Queue.{numberOf}
 use Rattle.frame.specs.declared.trail.Trail.{Trail}
 use Rattle.recording_state.specs.Written.{elementOf}
 use Rattle.recording_state.specs.declared.state.State.{State}
@@ -32,10 +34,10 @@ number-requires c κs = tt
 returns : tie.Need-returns
 unfolding elementOf
 returns c =
-    let s = c .before .before .before .before .before .before .before .before .args .s in
-    ap (λ k. made s k (c .number .result) (c .before .before .before .trail-after .result)) (c .before .kind .ensures)
+    let s = c .before .before .before .before .before .before .before .before .before .args .s in
+    ap (λ k. made s k (c .number .result) (c .before .before .before .trail-after .result)) (type-tells _ _ (c .before .kind .ensures))
     ∙ ap (λ n. made s (kindOf (s .elements)) n (c .before .before .before .trail-after .result)) (c .number .ensures)
-    ∙ ap (made s (kindOf (s .elements)) (numberOf (s .elements) (s .elements .outstanding))) (c .before .before .before .trail-after .ensures)
+    ∙ ap (made s (kindOf (s .elements)) (numberOf (s .elements .queue) (s .elements .queue .outstanding))) (c .before .before .before .trail-after .ensures)
 
 pub element-spec : {M : Type 1} → statement M
 element-spec = tie.close (tie.spec trail-after-requires kind-requires number-requires returns)

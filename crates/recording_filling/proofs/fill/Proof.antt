@@ -20,12 +20,14 @@ mul-if1 c = omega arith
 
 returns : tie.Need-returns
 returns c =
-    sym (pick-f _ (not-first _ (ne-eqb _ _ (λ e. c .if1 .taken (e ∙ ap (λ n. n * 32768) (sym (c .before .blocks2 .ensures)))))))
+    let short = not-first _ (ne-eqb _ _ (λ e. c .if1 .taken (e ∙ ap (λ n. n * 32768) (sym (c .before .blocks2 .ensures))))) in
+    (sym (pick-f 0 short), sym (pick-f _ short))
 
 returns-2 : tie.Need-returns-2
 returns-2 c =
     let a = c .before .before .before .before .before .args in
-    sym (pick-f _ (not-second (eqb (length (a .window .now)) (windowLength (a .s))) (ne-eqb _ _ (c .if2 .taken))))
+    let short = not-second (eqb (length (a .window .now)) (windowLength (a .s))) (ne-eqb _ _ (c .if2 .taken)) in
+    (sym (pick-f 0 short), sym (pick-f _ short))
 
 fill-stage-requires : tie.Need-fill-stage-requires
 fill-stage-requires c κs =
@@ -36,8 +38,8 @@ same-length c = search needs
 
 returns-3 : tie.Need-returns-3
 returns-3 c =
-    c .before .before .fill-stage .ensures
-    ∙ sym (pick-t _ (both (eq-eqb _ _ (right-window (c .before .before .before .before .before .before .blocks2 .ensures) (c .before .before .before .before .before .if1 .left))) (eq-eqb _ _ (c .before .before .before .before .if2 .left))))
+    let long = both (eq-eqb _ _ (right-window (c .before .before .before .before .before .before .blocks2 .ensures) (c .before .before .before .before .before .if1 .left))) (eq-eqb _ _ (c .before .before .before .before .if2 .left)) in
+    (c .before .before .fill-stage .ensures .0 ∙ sym (pick-t 1 long), c .before .before .fill-stage .ensures .1 ∙ sym (pick-t _ long))
 
 pub fill-spec : {M : Type 1} → statement M
 fill-spec = tie.close (tie.spec blocks-requires mul-if1 returns returns-2 fill-stage-requires same-length returns-3)

@@ -8,7 +8,7 @@ use Rattle.geometry.proofs.PickLaws.{pick-t}
 use Rattle.frame.specs.declared.element.Kind.the-variants.{Data, Marker, Eod}
 use Rattle.frame.specs.declared.element.Kind.{Kind}
 use Rattle.frame.specs.Frame.{elementFrame, elementFits}
-use Rattle.elements.specs.Elements.{numberOf}
+use Rattle.elements.specs.Queue.{numberOf}
 use Rattle.recording_state.specs.Written.{elementOf, writtenElement}
 use Rattle.recording_state.specs.Window.{blockAt}
 use Rattle.recording_state.proofs.BlockPlace.{place-low, place-inside, block-length}
@@ -29,7 +29,7 @@ element-requires c κs = tt
 block-at-requires : tie.Need-block-at-requires
 block-at-requires c κs =
     let a = c .before .before .before .before .before .args in
-    let number = numberOf (a .s .elements) (a .s .elements .outstanding) .0 in
+    let number = numberOf (a .s .elements .queue) (a .s .elements .queue .outstanding) .0 in
     (omega (arith, place-low number (a .s .setup .highest), c .before .before .element-place .ensures, c .before .before .before .before .before .good .0 .1 .1 .0 .1 .1 .1 .0), omega (arith, place-inside number (a .s .setup .highest), c .before .before .element-place .ensures, c .before .before .before .before .before .pre .0))
 
 build-element-requires : tie.Need-build-element-requires
@@ -42,11 +42,14 @@ returns : tie.Need-returns
 unfolding writtenElement
 returns c =
     let a = c .before .before .before .before .before .before .before .before .before .args in
-    let number = numberOf (a .s .elements) (a .s .elements .outstanding) .0 in
-    c .before .before .build-element .ensures .1
-    ∙ pick-t _ (fits (c .before .before .before .before .element .result .kind) (c .before .before .before .before .before .before .before .before .before .pre .1) (ap length (c .before .before .before .block-at .ensures) ∙ block-length (a .window .now) (c .before .before .before .before .before .before .element-place .result) (omega (arith, place-inside number (a .s .setup .highest), c .before .before .before .before .before .before .element-place .ensures, c .before .before .before .before .before .before .before .before .before .pre .0))))
-    ∙ ap (λ e. elementFrame e (c .before .before .before .block-at .result .now)) (c .before .before .before .before .element .ensures)
-    ∙ ap (elementFrame (elementOf (a .s))) (c .before .before .before .block-at .ensures ∙ ap (blockAt (a .window .now)) (c .before .before .before .before .before .before .element-place .ensures))
+    let number = numberOf (a .s .elements .queue) (a .s .elements .queue .outstanding) .0 in
+    let suits = fits (c .before .before .before .before .element .result .kind) (c .before .before .before .before .before .before .before .before .before .pre .1) (ap length (c .before .before .before .block-at .ensures) ∙ block-length (a .window .now) (c .before .before .before .before .before .before .element-place .result) (omega (arith, place-inside number (a .s .setup .highest), c .before .before .before .before .before .before .element-place .ensures, c .before .before .before .before .before .before .before .before .before .pre .0))) in (
+      c .before .before .build-element .ensures .0 ∙ pick-t 1 suits,
+      c .before .before .build-element .ensures .1
+          ∙ pick-t _ suits
+          ∙ ap (λ e. elementFrame e (c .before .before .before .block-at .result .now)) (c .before .before .before .before .element .ensures)
+          ∙ ap (elementFrame (elementOf (a .s))) (c .before .before .before .block-at .ensures ∙ ap (blockAt (a .window .now)) (c .before .before .before .before .before .before .element-place .ensures)),
+    )
 
 pub fill-element-spec : {M : Type 1} → statement M
 fill-element-spec =

@@ -12,7 +12,9 @@ same-length : tie.Need-same-length
 same-length c = c .before .frame .given
 
 returns : tie.Need-returns
-returns c = c .before .before .build-header .ensures .1 ∙ pick-t _ (eq-eqb _ _ (c .before .before .before .before .before .before .before .pre))
+returns c =
+    let long = eq-eqb _ _ (c .before .before .before .before .before .before .before .pre) in
+    (c .before .before .build-header .ensures .0 ∙ pick-t 1 long, c .before .before .build-header .ensures .1 ∙ pick-t _ long)
 
 pub fill-header-spec : {M : Type 1} → statement M
 fill-header-spec = tie.close (tie.spec build-header-requires same-length returns)

@@ -26,7 +26,7 @@ same-length c = c .before .frame .given
 
 returns : tie.Need-returns
 unfolding writtenFrame
-returns c = c .before .before .fill-element .ensures ∙ sym (pick-t _ (ap amongElements (c .before .before .before .before .enum-told .given .1)))
+returns c = (c .before .before .fill-element .ensures .0, c .before .before .fill-element .ensures .1 ∙ sym (pick-t _ (ap amongElements (c .before .before .before .before .enum-told .given .1))))
 
 same-length-2 : tie.Need-same-length-2
 unfolding writtenFrame
@@ -34,7 +34,7 @@ same-length-2 c = c .before .frame2 .given
 
 returns-2 : tie.Need-returns-2
 unfolding writtenFrame
-returns-2 c = c .before .before .fill-header .ensures ∙ sym (pick-f _ (outside (λ (k : Stage). amongElements k ≡ false) (c .before .before .before .before .before .before .before .args .s .stage) (c .before .before .before .before .match .keys2) refl refl refl))
+returns-2 c = (c .before .before .fill-header .ensures .0, c .before .before .fill-header .ensures .1 ∙ sym (pick-f _ (outside (λ (k : Stage). amongElements k ≡ false) (c .before .before .before .before .before .before .before .args .s .stage) (c .before .before .before .before .match .keys2) refl refl refl)))
 
 pub fill-stage-spec : {M : Type 1} → statement M
 fill-stage-spec =

@@ -2,7 +2,6 @@
 use mathlib.Core.Path.{_∙_, sym, ap}
 use Rattle.geometry.proofs.PickLaws.{pick-t, pick-f}
 use Rattle.recording_state.specs.State.{accepting}
-use Rattle.frame.specs.declared.header.Header.{Header}
 use Rattle.recording_state.specs.Open.{fresh, openWith}
 use Rattle.recording_state.specs.declared.state.Setup.{Setup}
 use Rattle.recording_opening.proofs.open_with.Statement.{statement}

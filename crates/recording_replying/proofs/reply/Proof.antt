@@ -4,7 +4,9 @@ use mathlib.Core.Logic.{⊎-elim, inl, inr}
 use borrow.Author.Tests.{ne-eqb}
 use Rattle.geometry.proofs.TestLaws.{neither}
 use Rattle.geometry.proofs.PickLaws.{pick-t, pick-f}
-use Rattle.recording_state.specs.Reply.{replyBy, replyOf}
+use Rattle.geometry.specs.declared.address.Address.{Address}
+use Rattle.recording_state.specs.Reply.{stageReply, replyBy, replyOf}
+use Rattle.recording_state.specs.declared.report.Report.the-variants.{Located, Overflowed}
 use Rattle.recording_state.specs.State.{accepting}
 use Rattle.recording_state.proofs.ReplyView.{reply-so}
 use Rattle.recording_replying.proofs.reply.Statement.{statement}
@@ -26,20 +28,26 @@ repeated-requires c κs = tt
 accepted-requires : tie.Need-accepted-requires
 accepted-requires c κs = tt
 
-located-requires : tie.Need-located-requires
-located-requires c κs = tt
+address-requires : tie.Need-address-requires
+address-requires c κs = tt
 
-taken-requires : tie.Need-taken-requires
-taken-requires c κs = tt
+stage-reply-requires : tie.Need-stage-reply-requires
+stage-reply-requires c κs = tt
 
-counted-requires : tie.Need-counted-requires
-counted-requires c κs = tt
+stage-reply-requires-2 : tie.Need-stage-reply-requires-2
+stage-reply-requires-2 c κs = tt
 
-failed-requires : tie.Need-failed-requires
-failed-requires c κs = tt
+stage-reply-requires-3 : tie.Need-stage-reply-requires-3
+stage-reply-requires-3 c κs = tt
 
-overflowed-requires : tie.Need-overflowed-requires
-overflowed-requires c κs = tt
+stage-reply-requires-4 : tie.Need-stage-reply-requires-4
+stage-reply-requires-4 c κs = tt
+
+address-requires-2 : tie.Need-address-requires-2
+address-requires-2 c κs = tt
+
+stage-reply-requires-5 : tie.Need-stage-reply-requires-5
+stage-reply-requires-5 c κs = tt
 
 end-requires : tie.Need-end-requires
 end-requires c κs = tt
@@ -53,24 +61,32 @@ returns-2 c =
 
 returns-3 : tie.Need-returns-3
 unfolding replyBy
-returns-3 c = c .located .ensures ∙ sym (reply-so (c .before .before .before .before .before .before .before .args .s) (c .before .before .before .before .before .before .before .args .reply) (c .before .before .before .if1 .left) (sym (c .before .before .case-of .ensures) ∙ c .before .match .keys2))
+returns-3 c =
+    let a = c .before .before .before .before .before .before .before .before .args in
+    c .stage-reply .ensures
+    ∙ ap (λ (x : Address). stageReply (a .s) (Located x)) (c .before .address .ensures)
+    ∙ sym (reply-so (a .s) (a .reply) (c .before .before .before .before .if1 .left) (sym (c .before .before .before .case-of .ensures) ∙ c .before .before .match .keys2))
 
 returns-4 : tie.Need-returns-4
 unfolding replyBy
-returns-4 c = c .taken .ensures ∙ sym (reply-so (c .before .before .before .before .before .before .before .args .s) (c .before .before .before .before .before .before .before .args .reply) (c .before .before .before .if1 .left) (sym (c .before .before .case-of .ensures) ∙ c .before .match .keys3))
+returns-4 c = c .stage-reply2 .ensures ∙ sym (reply-so (c .before .before .before .before .before .before .before .args .s) (c .before .before .before .before .before .before .before .args .reply) (c .before .before .before .if1 .left) (sym (c .before .before .case-of .ensures) ∙ c .before .match .keys3))
 
 returns-5 : tie.Need-returns-5
 unfolding replyBy
-returns-5 c = c .counted .ensures ∙ sym (reply-so (c .before .before .before .before .before .before .before .args .s) (c .before .before .before .before .before .before .before .args .reply) (c .before .before .before .if1 .left) (sym (c .before .before .case-of .ensures) ∙ c .before .match .keys4))
+returns-5 c = c .stage-reply3 .ensures ∙ sym (reply-so (c .before .before .before .before .before .before .before .args .s) (c .before .before .before .before .before .before .before .args .reply) (c .before .before .before .if1 .left) (sym (c .before .before .case-of .ensures) ∙ c .before .match .keys4))
 
 returns-6 : tie.Need-returns-6
 unfolding replyBy
 returns-6 c =
-    ⊎-elim (λ k. c .failed .ensures ∙ sym (reply-so (c .before .before .before .before .before .before .before .before .args .s) (c .before .before .before .before .before .before .before .before .args .reply) (c .before .before .before .before .if1 .left) (sym (c .before .before .before .case-of .ensures) ∙ k))) (λ k. c .failed .ensures ∙ sym (reply-so (c .before .before .before .before .before .before .before .before .args .s) (c .before .before .before .before .before .before .before .before .args .reply) (c .before .before .before .before .if1 .left) (sym (c .before .before .before .case-of .ensures) ∙ k))) (c .before .before .match .keys5)
+    ⊎-elim (λ k. c .stage-reply4 .ensures ∙ sym (reply-so (c .before .before .before .before .before .before .before .before .args .s) (c .before .before .before .before .before .before .before .before .args .reply) (c .before .before .before .before .if1 .left) (sym (c .before .before .before .case-of .ensures) ∙ k))) (λ k. c .stage-reply4 .ensures ∙ sym (reply-so (c .before .before .before .before .before .before .before .before .args .s) (c .before .before .before .before .before .before .before .before .args .reply) (c .before .before .before .before .if1 .left) (sym (c .before .before .before .case-of .ensures) ∙ k))) (c .before .before .match .keys5)
 
 returns-7 : tie.Need-returns-7
 unfolding replyBy
-returns-7 c = c .overflowed .ensures ∙ sym (reply-so (c .before .before .before .before .before .before .before .args .s) (c .before .before .before .before .before .before .before .args .reply) (c .before .before .before .if1 .left) (sym (c .before .before .case-of .ensures) ∙ c .before .match .keys6))
+returns-7 c =
+    let a = c .before .before .before .before .before .before .before .before .args in
+    c .stage-reply5 .ensures
+    ∙ ap (λ (x : Address). stageReply (a .s) (Overflowed x)) (c .before .address2 .ensures)
+    ∙ sym (reply-so (a .s) (a .reply) (c .before .before .before .before .if1 .left) (sym (c .before .before .before .case-of .ensures) ∙ c .before .before .match .keys6))
 
 returns-8 : tie.Need-returns-8
 unfolding replyBy
@@ -95,11 +111,13 @@ reply-spec =
     case-of-requires
     repeated-requires
     accepted-requires
-    located-requires
-    taken-requires
-    counted-requires
-    failed-requires
-    overflowed-requires
+    address-requires
+    stage-reply-requires
+    stage-reply-requires-2
+    stage-reply-requires-3
+    stage-reply-requires-4
+    address-requires-2
+    stage-reply-requires-5
     end-requires
     returns-2
     returns-3

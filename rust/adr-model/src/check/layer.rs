@@ -18,7 +18,7 @@ pub trait Layer {
     /// Its reading sessions.
     type Reading: ReadingCalls;
 
-    /// Opens a recording at the end that a reading found.
+    /// Opens a recording behind what a reading has delivered.
     fn open_at_end(
         reading: &Self::Reading,
         depth: u32,

@@ -152,7 +152,7 @@ impl Opened {
     }
 }
 
-/// What an opening at the end of a reading must answer.
+/// What an opening behind a reading must answer.
 fn at_end_outcome<R>(back: &ReadBack<R>) -> Outcome {
     let old = &back.header;
     match back.end {

@@ -1,7 +1,7 @@
 //! The power cut at every frame of a recording: what the tape then reads as.
 //!
-//! The frame that is being written reads as before, as new or as nothing; what
-//! the drive only holds is lost. On every header that reads and is a copy of
+//! At the address that is being written the old frame, the new one or nothing is
+//! read; what the drive only holds is lost. On every header that reads and is a copy of
 //! the one that the recording was opened on (if it adds), or newer, a reading
 //! gives all that was there before and then first elements of the recording, to
 //! an end or to a 12. Until a newer header is on tape for the first time, the
@@ -105,7 +105,7 @@ struct Looked<'a, L: Layer> {
     written: BTreeSet<Address>,
     /// Whether a newer header was on tape.
     newer_seen: bool,
-    /// How far readings are the same whatever the frame being written reads as.
+    /// How far readings are the same whatever reads at the address being written.
     kept: Vec<PlainReading>,
     random: Random,
     counts: &'a mut [u64; CUTS],

@@ -135,7 +135,7 @@ layout!(ReadFetched, 68, {
     answer: 64,
     number: 65,
 });
-layout!(ReadTaken, 60, {
+layout!(ReadReplied, 60, {
     session: 0,
     answer: 56,
     number: 57,

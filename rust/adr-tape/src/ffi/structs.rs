@@ -9,7 +9,7 @@ pub struct Geometry {
     pub segtrk: u32,
     /// Tracks.
     pub trks: u32,
-    /// 0 for a cartridge loaded at its beginning, 1 at its centre.
+    /// Where the cartridge is loaded: 0 the beginning, 1 the centre.
     pub load: u32,
 }
 
@@ -111,7 +111,7 @@ pub struct Copies {
     pub group: u8,
     /// Its number in the group; 5 behind the last.
     pub copy: u8,
-    /// Of this group: taken by the drive, not known on tape.
+    /// Of this group: taken by the drive and not confirmed.
     pub outstanding: u8,
     /// Of both groups: known on tape.
     pub confirmed: u8,
@@ -278,10 +278,10 @@ pub struct ReadFetched {
     pub number: u8,
 }
 
-/// `struct adr_read_taken`.
+/// `struct adr_read_replied`.
 #[repr(C)]
 #[derive(Clone, Copy, Debug, PartialEq, Eq)]
-pub struct ReadTaken {
+pub struct ReadReplied {
     /// The session after the call.
     pub session: Reading,
     /// [`NOTHING`](super::NOTHING), [`BLOCK`](super::BLOCK),
@@ -291,3 +291,6 @@ pub struct ReadTaken {
     /// The refusal, 0 for none.
     pub number: u8,
 }
+
+/// The name that [`ReadReplied`] had before.
+pub type ReadTaken = ReadReplied;

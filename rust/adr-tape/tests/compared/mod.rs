@@ -114,8 +114,8 @@ pub fn read_answer_of(fetched: &ffi::ReadFetched) -> Option<ReadAnswer> {
 }
 
 /// The outcome of a reading's reply; none for numbers that say nothing.
-pub fn read_outcome_of(taken: &ffi::ReadTaken) -> Option<ReadOutcome> {
-    match (taken.answer, taken.number) {
+pub fn read_outcome_of(replied: &ffi::ReadReplied) -> Option<ReadOutcome> {
+    match (replied.answer, replied.number) {
         (5, 0) => Some(ReadOutcome::Nothing),
         (6, 0) => Some(ReadOutcome::Block),
         (7, 0) => Some(ReadOutcome::Filemark),
@@ -359,11 +359,11 @@ impl ReadingCalls for ComparedReading {
     /// Whoever lends the frame sees what becomes of it.
     fn reply(&mut self, reply: &Reply, frame: &[u8]) -> ReadOutcome {
         let outcome = self.model.reply(reply, frame);
-        let taken = ffi::read_reply(self.layer, reply_of(reply), frame);
-        if read_outcome_of(&taken) != Some(outcome) {
-            self.complain(format!("{taken:?}, but the model answers {outcome:?}"));
+        let replied = ffi::read_reply(self.layer, reply_of(reply), frame);
+        if read_outcome_of(&replied) != Some(outcome) {
+            self.complain(format!("{replied:?}, but the model answers {outcome:?}"));
         }
-        self.follow("a reading's reply", taken.session);
+        self.follow("a reading's reply", replied.session);
         outcome
     }
 

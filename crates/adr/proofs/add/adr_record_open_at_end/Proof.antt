@@ -2,7 +2,7 @@
 use mathlib.Core.Path.{ap, sym, _∙_}
 use Rattle.geometry.proofs.PickLaws.{pick-t, pick-f}
 use Rattle.reading_state.specs.declared.state.State.{State as Reading}
-use Rattle.reading_twins.specs.Reading.{readingOf}
+use Rattle.reading_twins.specs.Reading.{readingStateOf}
 use Rattle.recording_answers.specs.Recording.{outcomeTwin}
 use Rattle.adding_opening.specs.AtEnd.{openAtEndOf}
 use Rattle.numbers.specs.declared.arguments.Sizes.{Sizes}
@@ -34,7 +34,7 @@ returns c =
     ∙ ap outcomeTwin
     (c .before .open-at-end .ensures
     ∙ ap (λ (s : Reading). openAtEndOf s (sizes .depth) (sizes .blocks) (sizes .tail)) (c .before .before .session-of .ensures)
-    ∙ ap (λ (s : Sizes). openAtEndOf (readingOf reading) (s .depth) (s .blocks) (s .tail)) (c .before .before .before .of .ensures)
+    ∙ ap (λ (s : Sizes). openAtEndOf (readingStateOf reading) (s .depth) (s .blocks) (s .tail)) (c .before .before .before .of .ensures)
     ∙ sym (pick-t _ (sym (c .before .before .before .before .before .is-reading .ensures) ∙ c .before .before .before .before .if1 .taken)))
 
 open-at-none-requires : tie.Need-open-at-none-requires

@@ -16,8 +16,20 @@ by-remainders group copy =
 cast-header-address : tie.Need-cast-header-address
 cast-header-address c = search needs
 
+rem-header-address : tie.Need-rem-header-address
+rem-header-address c = omega arith
+
 cast-header-address-2 : tie.Need-cast-header-address-2
 cast-header-address-2 c = search needs
+
+cast-header-address-3 : tie.Need-cast-header-address-3
+cast-header-address-3 c = search needs
+
+rem-header-address-2 : tie.Need-rem-header-address-2
+rem-header-address-2 c = omega arith
+
+cast-header-address-4 : tie.Need-cast-header-address-4
+cast-header-address-4 c = search needs
 
 header-address-requires : tie.Need-header-address-requires
 header-address-requires c κs = tt
@@ -26,4 +38,4 @@ returns : tie.Need-returns
 returns c = c .header-address .ensures ∙ by-remainders (c .before .args .group) (c .before .args .copy)
 
 pub adr-header-address-spec : {M : Type 1} → statement M
-adr-header-address-spec = tie.close (tie.spec cast-header-address cast-header-address-2 header-address-requires returns)
+adr-header-address-spec = tie.close (tie.spec cast-header-address rem-header-address cast-header-address-2 cast-header-address-3 rem-header-address-2 cast-header-address-4 header-address-requires returns)

@@ -5,7 +5,7 @@ use Rattle.reading_state.specs.declared.state.State.{State}
 use Rattle.drive.specs.declared.reply.Reply.{Reply}
 use Rattle.reading_state.specs.Reply.{replyOf}
 use Rattle.numbers.specs.Arguments.{asReply}
-use Rattle.reading_answers.specs.Reading.{takenTwin}
+use Rattle.reading_answers.specs.Reading.{repliedTwin}
 use Rattle.adr.specs.Read.{replyThrough}
 use Rattle.adr.proofs.read.adr_read_reply.Statement.{statement}
 use Rattle.adr.proofs.read.adr_read_reply.Tie as tie
@@ -30,7 +30,7 @@ unfolding replyThrough
 returns c =
     let a = c .before .before .before .before .before .before .before .args in
     c .of .ensures
-    ∙ ap takenTwin
+    ∙ ap repliedTwin
     (c .before .reply2 .ensures
     ∙ ap (λ (r : Reply). replyOf (c .before .before .before .session-of .result .state) r (a .frame .now)) (c .before .before .reply .ensures)
     ∙ ap (λ (t : State). replyOf t (asReply (a .reply)) (a .frame .now)) (c .before .before .before .session-of .ensures))

@@ -4,6 +4,7 @@ use mathlib.Core.Bool.{Bool, _&&_}
 use mathlib.Core.List.{List}
 use Prim.Native.Nat.{ℕ}
 use denote.Ref.{now}
+use Rattle.geometry.proofs.Verdicts.{not-refused}
 use Rattle.buffer.specs.Bytes.{agree}
 use Rattle.frame.specs.Aux.{auxBytes, elementAux}
 use Rattle.frame.specs.declared.aux.Fields.{Fields}
@@ -20,6 +21,16 @@ element-aux-requires c κs = search needs
 
 build-aux-requires : tie.Need-build-aux-requires
 build-aux-requires c κs = search needs
+
+enum-told : tie.Need-enum-told
+enum-told c = search needs
+
+-- 512 bytes are never refused
+returns : tie.Need-returns
+returns c = not-refused (c .enum-told .given .1) (c .before .before .before .build-aux .ensures .0)
+
+enum-told-2 : tie.Need-enum-told-2
+enum-told-2 c = search needs
 
 sub-agrees : tie.Need-sub-agrees
 sub-agrees c = search needs
@@ -67,10 +78,10 @@ agrees-requires-2 c κs = search needs
 built : (c : tie.After-build-aux) → c .build-aux .last .0 ≡ auxBytes (elementAux (c .before .before .before .before .args .e))
 built c = c .build-aux .ensures .1 ∙ ap (λ (f : Fields). auxBytes f) (c .before .element-aux .ensures)
 
-returns : tie.Need-returns
+returns-2 : tie.Need-returns-2
 unfolding asTable
-returns c =
-    let b = c .before .before .before .before .before .before .before .before .before in
+returns-2 c =
+    let b = c .before .before .before .before .before .before .before .before .before .before .before in
     let aux = now (b .before .before .before .before .args .aux) in
     ap (λ (r : Bool). r && c .agrees2 .result) (c .before .before .before .before .agrees .ensures ∙ ap (λ (l : List ℕ). agree (part 18 36 aux) (part 18 36 l)) (built b))
     ∙ ap (λ (r : Bool). agree (part 18 36 aux) (part 18 36 (auxBytes (elementAux (b .before .before .before .before .args .e)))) && r) (c .agrees2 .ensures ∙ ap (λ (l : List ℕ). agree (part 44 68 aux) (part 44 68 l)) (built b))
@@ -82,6 +93,9 @@ as-table-spec =
     slice-aggregate-build-aux
     element-aux-requires
     build-aux-requires
+    enum-told
+    returns
+    enum-told-2
     sub-agrees
     part-agrees-start
     part-agrees-end
@@ -96,4 +110,4 @@ as-table-spec =
     part-agrees-start-4
     part-agrees-end-4
     agrees-requires-2
-    returns)
+    returns-2)

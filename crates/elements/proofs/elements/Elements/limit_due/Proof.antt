@@ -23,13 +23,13 @@ sub-t11 c = search needs
 returns : tie.Need-returns
 returns c =
     let a = c .before .before .before .args in
-    let none : _≡_ {A = ℕ} 0 (a .self .limit .0 - c .before .closed .result) = omega (arith, c .if1 .taken) in
-    ap asAddress (none ∙ ap (λ (n : ℕ). a .self .limit .0 - n) (c .before .closed .ensures)) ∙ by-eod (a .self .eod) (a .self .limit) (a .tail)
+    let none : _≡_ {A = ℕ} 0 (a .self .course .limit .0 - c .before .closed .result) = omega (arith, c .if1 .taken) in
+    ap asAddress (none ∙ ap (λ (n : ℕ). a .self .course .limit .0 - n) (c .before .closed .ensures)) ∙ by-eod (a .self .eod) (a .self .course .limit) (a .tail)
 
 returns-2 : tie.Need-returns-2
 returns-2 c =
     let a = c .before .before .before .args in
-    ap (λ (n : ℕ). asAddress (a .self .limit .0 - n)) (c .before .closed .ensures) ∙ by-eod (a .self .eod) (a .self .limit) (a .tail)
+    ap (λ (n : ℕ). asAddress (a .self .course .limit .0 - n)) (c .before .closed .ensures) ∙ by-eod (a .self .eod) (a .self .course .limit) (a .tail)
 
 pub limit-due-spec : {M : Type 1} → statement M
 limit-due-spec = tie.close (tie.spec closed-requires sub-t11 returns returns-2)

@@ -13,9 +13,9 @@ trail-of-requires c κs = tt
 
 returns : tie.Need-returns
 returns c =
-    let a = c .before .before .before .before .before .args in
+    let a = c .before .before .before .args in
     let s = a .self in
-    c .trail-of .ensures ∙ ap (λ (b : Address). trailOf (s .trail) (s .marks) (s .first) b (a .n)) (c .before .base .ensures)
+    c .trail-of .ensures ∙ ap (λ (b : Address). trailOf (s .trail) (s .queue .marks) (s .queue .first) b (a .n)) (c .before .base .ensures)
 
 pub trail-after-spec : {M : Type 1} → statement M
 trail-after-spec = tie.close (tie.spec base-requires trail-of-requires returns)

@@ -6,8 +6,8 @@ use Rattle.reading_answers.specs.Reading.{withoutCommand}
 use Rattle.reading_answers.proofs.reading_answers.AdrReadFetched.of.Statement.{statement}
 use Rattle.reading_answers.proofs.reading_answers.AdrReadFetched.of.Tie as tie
 
-reading-twin-requires : tie.Need-reading-twin-requires
-reading-twin-requires c κs = tt
+reading-state-twin-requires : tie.Need-reading-state-twin-requires
+reading-state-twin-requires c κs = tt
 
 enum-known-answer : tie.Need-enum-known-answer
 enum-known-answer c = search needs
@@ -31,13 +31,13 @@ without-requires-2 : tie.Need-without-requires-2
 without-requires-2 c κs = tt
 
 returns : tie.Need-returns
-returns c = rw (c .before .before .answer .given .1, c .command-twin .ensures, c .before .before .before .before .reading-twin .ensures)
+returns c = rw (c .before .before .answer .given .1, c .command-twin .ensures, c .before .before .before .before .reading-state-twin .ensures)
 
 returns-2 : tie.Need-returns-2
-returns-2 c = rw (c .before .enum-told .given .1) (c .without .ensures ∙ ap (λ (s : AdrReading). withoutCommand s 4 0) (c .before .before .before .reading-twin .ensures))
+returns-2 c = rw (c .before .enum-told .given .1) (c .without .ensures ∙ ap (λ (s : AdrReading). withoutCommand s 4 0) (c .before .before .before .reading-state-twin .ensures))
 
 returns-3 : tie.Need-returns-3
-returns-3 c = rw (c .before .before .before .answer2 .given .1) (c .without2 .ensures ∙ rw (c .before .number .ensures, c .before .before .before .before .before .reading-twin .ensures))
+returns-3 c = rw (c .before .before .before .answer2 .given .1) (c .without2 .ensures ∙ rw (c .before .number .ensures, c .before .before .before .before .before .reading-state-twin .ensures))
 
 pub of-spec : {M : Type 1} → statement M
-of-spec = tie.close (tie.spec reading-twin-requires enum-known-answer command-twin-requires enum-told without-requires enum-known-answer-2 number-requires without-requires-2 returns returns-2 returns-3)
+of-spec = tie.close (tie.spec reading-state-twin-requires enum-known-answer command-twin-requires enum-told without-requires enum-known-answer-2 number-requires without-requires-2 returns returns-2 returns-3)

@@ -2,14 +2,14 @@
 use Rattle.reading_answers.proofs.reading_answers.AdrReadOpened.of.Statement.{statement}
 use Rattle.reading_answers.proofs.reading_answers.AdrReadOpened.of.Tie as tie
 
-reading-twin-requires : tie.Need-reading-twin-requires
-reading-twin-requires c κs = tt
+reading-state-twin-requires : tie.Need-reading-state-twin-requires
+reading-state-twin-requires c κs = tt
 
 verdict-number-requires : tie.Need-verdict-number-requires
 verdict-number-requires c κs = tt
 
 returns : tie.Need-returns
-returns c = rw (c .verdict-number .ensures, c .before .reading-twin .ensures)
+returns c = rw (c .verdict-number .ensures, c .before .reading-state-twin .ensures)
 
 pub of-spec : {M : Type 1} → statement M
-of-spec = tie.close (tie.spec reading-twin-requires verdict-number-requires returns)
+of-spec = tie.close (tie.spec reading-state-twin-requires verdict-number-requires returns)

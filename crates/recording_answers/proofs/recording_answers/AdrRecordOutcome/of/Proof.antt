@@ -2,14 +2,14 @@
 use Rattle.recording_answers.proofs.recording_answers.AdrRecordOutcome.of.Statement.{statement}
 use Rattle.recording_answers.proofs.recording_answers.AdrRecordOutcome.of.Tie as tie
 
-recording-twin-requires : tie.Need-recording-twin-requires
-recording-twin-requires c κs = tt
+recording-state-twin-requires : tie.Need-recording-state-twin-requires
+recording-state-twin-requires c κs = tt
 
 verdict-number-requires : tie.Need-verdict-number-requires
 verdict-number-requires c κs = tt
 
 returns : tie.Need-returns
-returns c = rw (c .verdict-number .ensures, c .before .recording-twin .ensures)
+returns c = rw (c .verdict-number .ensures, c .before .recording-state-twin .ensures)
 
 pub of-spec : {M : Type 1} → statement M
-of-spec = tie.close (tie.spec recording-twin-requires verdict-number-requires returns)
+of-spec = tie.close (tie.spec recording-state-twin-requires verdict-number-requires returns)
