@@ -1,0 +1,9 @@
+pub mod Line
+pub mod Answer
+pub mod Step
+pub mod Calls
+pub mod Dump
+pub mod Prints
+pub mod Cases
+pub mod Columns
+pub mod Promises
