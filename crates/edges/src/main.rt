@@ -1,4 +1,4 @@
-// Plays recordings and readings through the public calls and prints what they give. The output was worked out by hand from 01 and 02.
+// Plays recordings, readings and sheets through the public calls and prints what they give. The output was worked out by hand from 01 and 02.
 fn main() {
     edge_recordings::play_all();
     edge_readings::example();
@@ -13,4 +13,5 @@ fn main() {
     edge_given_up::play_all();
     edge_frames::play_all();
     edge_cuts::play_all();
+    edge_sheets::play_all();
 }

@@ -63,15 +63,18 @@ fn entry_at(next: u64, kind: u16, number: u32) -> Entry
     ensures { λ r. ⌜ r ≡ entryOf next kind number ⌝ }
 {
     let n = number as u64;
-    let expected = n == next;
-    if (kind == DATA_TYPE) & expected {
-        return Entry::Block;
+    if n == next {
+        return match kind {
+            DATA_TYPE => Entry::Block,
+            MARKER_TYPE => Entry::Filemark,
+            EOD_TYPE => Entry::End,
+            _ => Entry::Wrong,
+        };
     }
-    if (kind == MARKER_TYPE) & expected {
-        return Entry::Filemark;
-    }
-    if (kind == EOD_TYPE) & (expected | (n + 1 == next)) {
-        return Entry::End;
+    if n + 1 == next {
+        if kind == EOD_TYPE {
+            return Entry::End;
+        }
     }
     Entry::Wrong
 }

@@ -69,7 +69,7 @@ fn turn(s: Sheet) -> Sheet
     if n < AUX_LENGTH {
         return finish(s);
     }
-    enter(s, &aux)
+    enter(s, &aux[..n])
 }
 
 fn main() {

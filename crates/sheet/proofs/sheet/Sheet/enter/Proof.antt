@@ -1,7 +1,9 @@
 -- Both lengths are tested, then whether the sheet has ended. Assumes nothing.
-use mathlib.Core.Path.{_∙_}
+use mathlib.Core.Path.{_≡_, _∙_}
+use native.Mathlib.Omega.{arith}
 use borrow.Author.Tests.{eq-eqb, ne-eqb}
 use borrow.Author.Needs.{needs}
+use lib.ListN.{length}
 use Rattle.sheet.specs.Calls.{enterOf}
 use Rattle.sheet.proofs.sheet.Sheet.enter.Statement.{statement}
 use Rattle.sheet.proofs.sheet.Sheet.enter.Tie as tie
@@ -11,21 +13,23 @@ refuse-requires c κs = search needs
 
 returns : tie.Need-returns
 unfolding enterOf
-returns c = rw (c .refuse .ensures, ne-eqb _ 512 (c .before .if1 .taken))
+returns c =
+    let aux = c .before .before .before .before .args .aux .now in
+    rw (c .refuse .ensures, ne-eqb (length aux) 512 (λ (h : length aux ≡ 512). omega (arith, c .before .if1 .taken)))
 
 refuse-requires-2 : tie.Need-refuse-requires-2
 refuse-requires-2 c κs = search needs
 
 returns-2 : tie.Need-returns-2
 unfolding enterOf
-returns-2 c = rw (c .refuse2 .ensures, eq-eqb _ 512 (c .before .before .if1 .left), ne-eqb _ 28 (c .before .if2 .taken))
+returns-2 c = rw (c .refuse2 .ensures, eq-eqb (length (c .before .before .before .before .before .args .aux .now)) 512 (omega (arith, c .before .before .if1 .left)), ne-eqb _ 28 (c .before .if2 .taken))
 
 silent-requires : tie.Need-silent-requires
 silent-requires c κs = search needs
 
 returns-3 : tie.Need-returns-3
 unfolding enterOf
-returns-3 c = rw (c .silent .ensures, eq-eqb _ 512 (c .before .before .before .if1 .left), eq-eqb _ 28 (c .before .before .if2 .left), c .before .if3 .taken)
+returns-3 c = rw (c .silent .ensures, eq-eqb (length (c .before .before .before .before .before .before .args .aux .now)) 512 (omega (arith, c .before .before .before .if1 .left)), eq-eqb _ 28 (c .before .before .if2 .left), c .before .if3 .taken)
 
 be16-at-requires : tie.Need-be16-at-requires
 be16-at-requires c κs = search needs
@@ -43,7 +47,7 @@ returns-4 : tie.Need-returns-4
 unfolding enterOf
 returns-4 c =
     c .before .before .step .ensures
-    ∙ rw (c .before .before .before .before .before .be16-at .ensures, c .before .before .before .before .be32-at .ensures, eq-eqb _ 512 (c .before .before .before .before .before .before .before .before .if1 .left), eq-eqb _ 28 (c .before .before .before .before .before .before .before .if2 .left), c .before .before .before .before .before .before .if3 .left)
+    ∙ rw (c .before .before .before .before .before .be16-at .ensures, c .before .before .before .before .be32-at .ensures, eq-eqb (length (c .before .before .before .before .before .before .before .before .before .before .before .args .aux .now)) 512 (omega (arith, c .before .before .before .before .before .before .before .before .if1 .left)), eq-eqb _ 28 (c .before .before .before .before .before .before .before .if2 .left), c .before .before .before .before .before .before .if3 .left)
 
 pub enter-spec : {M : Type 1} → statement M
 enter-spec =
