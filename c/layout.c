@@ -1,7 +1,8 @@
 /* Structs cross the boundary whole: numbers that are no session's come back as
    they were, and a session of distinct numbers is altered by a call in the
    members named and no others, so that two members of a width that changed
-   places are seen; so is a recording opened from the numbers of a reading.
+   places are seen; so is a recording opened from the numbers of a reading. A
+   shelf sheet crosses in the same way.
    Names, order and widths of all are compared with the crates' by members.awk. */
 #include "adr.h"
 
@@ -96,6 +97,14 @@ static void same_reading(struct adr_reading a, struct adr_reading b)
     SAME(a, b, ended);
 }
 
+static void same_sheet(struct adr_sheet a, struct adr_sheet b)
+{
+    SAME(a, b, first);
+    SAME(a, b, next);
+    SAME(a, b, job);
+    SAME(a, b, ended);
+}
+
 static void no_session(void)
 {
     static uint8_t block[ADR_BLOCK_LENGTH], window[ADR_BLOCK_LENGTH], frame[ADR_FRAME_LENGTH];
@@ -125,6 +134,22 @@ static void no_session(void)
     struct adr_read_replied rt = adr_read_reply(r, reply, frame, sizeof frame);
     expect("refused with 7", rt.answer == ADR_REFUSED && rt.number == ADR_WRONG_PHASE);
     same_reading(rt.session, r);
+}
+
+static void no_sheet(void)
+{
+    static uint8_t aux[ADR_AUX_LENGTH], line[ADR_LINE_LENGTH];
+    struct adr_sheet s;
+    fill(&s, sizeof s);
+    struct adr_sheet_entered answered[] = {
+        adr_sheet_enter(s, aux, sizeof aux, line, sizeof line),
+        adr_sheet_finish(s, line, sizeof line),
+    };
+    for (size_t i = 0; i < sizeof answered / sizeof *answered; i++) {
+        expect("refused with 7",
+               answered[i].answer == ADR_REFUSED && answered[i].number == ADR_WRONG_PHASE);
+        same_sheet(answered[i].sheet, s);
+    }
 }
 
 /* A recording with a number of its own in every member that takes one. It
@@ -522,6 +547,36 @@ static void refusing(void)
         not_added(unfit[i], 256, 21, 256, ADR_WRONG_PHASE);
 }
 
+/* A field of this type and number alters the sheet to what is expected. */
+static void entered(struct adr_sheet s, uint8_t type, uint8_t number, uint8_t answer,
+                    struct adr_sheet expected)
+{
+    static uint8_t aux[ADR_AUX_LENGTH], line[ADR_LINE_LENGTH];
+    aux[16] = type;
+    aux[47] = number;
+    struct adr_sheet_entered e = adr_sheet_enter(s, aux, sizeof aux, line, sizeof line);
+    expect("a field", e.answer == answer && e.number == 0);
+    same_sheet(e.sheet, expected);
+}
+
+/* A sheet with a number of its own in every member. */
+static void sheets(void)
+{
+    struct adr_sheet s = { .first = 20, .next = 30, .job = 40 }, expected = s;
+    expected.next = 31;
+    entered(s, 0x80, 30, ADR_NOTHING, expected);
+
+    expected.first = 31;
+    expected.job = 41;
+    entered(s, 0x02, 30, ADR_LINE, expected);
+
+    expected = s;
+    expected.ended = 1;
+    entered(s, 0x01, 29, ADR_LINE, expected);
+    entered(s, 0x80, 29, ADR_LINE, expected);
+    entered(expected, 0x80, 30, ADR_NOTHING, expected);
+}
+
 static void small_structs(void)
 {
     static uint8_t blank[ADR_FRAME_LENGTH];
@@ -547,6 +602,7 @@ static void small_structs(void)
 int main(void)
 {
     no_session();
+    no_sheet();
     accepting();
     elements();
     giving_up();
@@ -558,6 +614,7 @@ int main(void)
     ends();
     adding();
     refusing();
+    sheets();
     small_structs();
     if (!wrong)
         puts("every struct crosses whole");

@@ -20,7 +20,7 @@ static const struct adr_reply good;
    and EOD. */
 static uint8_t tape[KEPT][ADR_FRAME_LENGTH];
 static uint8_t block[ADR_BLOCK_LENGTH], window[ADR_WINDOW_LENGTH(BLOCKS)];
-static uint8_t frame[ADR_FRAME_LENGTH];
+static uint8_t frame[ADR_FRAME_LENGTH], line[ADR_LINE_LENGTH];
 static struct adr_reading reading;
 static int made; /* every call, with the answer that it should give */
 
@@ -50,24 +50,42 @@ static int record(struct adr_record_outcome o, uint32_t bad_spot)
     return 0;
 }
 
-/* Reads to the end, where so many blocks and filemarks were read. */
+/* Reads to the end, where so many blocks and filemarks were read, and as many
+   lines of a sheet are printed. */
 static int read_back(int count)
 {
     struct adr_read_opened o = adr_read_open(geometry, tape[HEADER], sizeof tape[HEADER]);
     struct adr_read_replied t = { o.session, ADR_NOTHING, o.number };
-    int blocks = 0, filemarks = 0;
+    struct adr_sheet sheet = adr_sheet_open(line, sizeof line).sheet;
+    int blocks = 0, filemarks = 0, lines = 0;
     while (!t.number) {
         struct adr_read_fetched f = adr_read_fetch(t.session);
         reading = f.session;
         if (f.answer != ADR_COMMAND)
-            return f.answer == ADR_END && blocks == count && filemarks == count;
+            return f.answer == ADR_END && blocks == count && filemarks == count
+                   && lines == count && sheet.ended;
         if (f.command.address >= KEPT)
             return 0;
-        t = adr_read_reply(f.session, good, tape[f.command.address], ADR_FRAME_LENGTH);
+        uint8_t *read = tape[f.command.address];
+        t = adr_read_reply(f.session, good, read, ADR_FRAME_LENGTH);
         blocks += t.answer == ADR_BLOCK;
         filemarks += t.answer == ADR_FILEMARK;
+        if (t.answer == ADR_NOTHING)
+            continue;
+        struct adr_sheet_entered e = adr_sheet_enter(sheet, read + ADR_BLOCK_LENGTH,
+                                                     ADR_AUX_LENGTH, line, sizeof line);
+        sheet = e.sheet;
+        lines += e.answer == ADR_LINE;
     }
     return 0;
+}
+
+/* A sheet without a field ends with asterisks. */
+static int break_off(void)
+{
+    struct adr_sheet_entered e = adr_sheet_open(line, sizeof line);
+    return e.answer == ADR_LINE
+           && adr_sheet_finish(e.sheet, line, sizeof line).answer == ADR_LINE;
 }
 
 static int ask(void)
@@ -77,7 +95,7 @@ static int ask(void)
     return !choice.number && adr_frames(geometry) == FRAMES && !adr_last(geometry).number
            && adr_is_user(FRAMES - 1, FIRST) && adr_header_address(0, 0) == HEADER
            && adr_frames_sent_at_most(2, 1, DEPTH, BLOCKS) == 5
-           && adr_header_frames_sent_at_most(1, DEPTH) == 21;
+           && adr_header_frames_sent_at_most(1, DEPTH) == 21 && break_off();
 }
 
 static void make_calls(void)

@@ -25,15 +25,17 @@
    a length in bytes; the pointer is never null, not even where the length is
    0. Buffers lent to the same call don't overlap, but for the two headers of
    adr_choose, which are only read and may be the same. The library writes only
-   to the window of adr_record_block and to the frame of adr_record_fetch, and
-   only if the call is not refused.
+   to the window of adr_record_block, to the frame of adr_record_fetch and to the
+   line of a sheet's calls, and only if the call is not refused.
 
    REFUSALS. No call has a precondition on its numbers or lengths: what it
    can't serve it refuses with a number. A refused call writes to no buffer. 1
    to 7 leave the session as it was, and the call counts for nothing; 8 and more
    end it, and every later call is refused with 7, but for one close after a 9
    (see THE TAIL). An opening that is refused, by whatever number, gives a
-   session that has ended; 13 comes from openings alone.
+   session that has ended; 13 comes from openings alone. A shelf sheet is no
+   session, but its calls are refused in the same way: with 7 for numbers that
+   stand for no sheet, then with 1, and with no other.
 
    A RECORDING, in short. 'send' sends a command to the drive and returns its
    reply; it sends the frame with a WRITE, and fills it with what a READ brings:
@@ -146,6 +148,39 @@
 
    c/record.c is a whole program; it also finds the newest header, adds, and goes
    on with a second cartridge where the first is full.
+
+   A SHELF SHEET lists the jobs of a cartridge, to be printed for its box. A job is
+   the blocks up to a filemark, or up to EOD if there are any. Below a header line
+   each has a line: its number, counted from 1, the number of its first element,
+   which without blocks is the filemark, and the count of its blocks. For two
+   blocks, a filemark, another filemark and EOD:
+
+         JOB      FIRST     BLOCKS
+           1          0          2
+           2          3          0
+
+   The host keeps the sheet as it keeps a session, enters the AUX of each frame
+   that a reading delivers and of EOD, and prints the lent line wherever the answer
+   is ADR_LINE. With the reading opened as above:
+
+       struct adr_sheet_entered e = adr_sheet_open(line, sizeof line);
+       print(e, line);
+       while (!t.number) {
+           ... fetch and reply as in a reading
+           if (t.answer == ADR_BLOCK || t.answer == ADR_FILEMARK || t.answer == ADR_END) {
+               e = adr_sheet_enter(e.sheet, frame + ADR_BLOCK_LENGTH, ADR_AUX_LENGTH,
+                                   line, sizeof line);
+               print(e, line);
+           }
+       }
+       e = adr_sheet_finish(e.sheet, line, sizeof line);
+       print(e, line);
+
+   where 'print' writes the ADR_LINE_LENGTH bytes of the line if e.answer is
+   ADR_LINE. A reading that was refused has not come to EOD: the last call then
+   ends the sheet with a line of 27 asterisks. So does a job above 99,999, and a
+   field of another type or number than comes next. After EOD or asterisks nothing
+   more is printed. c/sheet.c is a whole program.
 
    THE DRIVE'S NUMBERS come from these commands of the standard, 'ADR Commands
    and Logical Tape Format 1.3'. Page codes are hexadecimal; the bytes of a mode
@@ -289,9 +324,12 @@ extern "C" {
 #define ADR_VERSION_PATCH 0
 
 /* Lengths in bytes. A frame has as many data bytes as a block, then 512 of AUX. A window
-   of W blocks is W times a block. */
+   of W blocks is W times a block. A line of a shelf sheet has 27 characters and a line
+   feed. */
 #define ADR_BLOCK_LENGTH 32768
+#define ADR_AUX_LENGTH 512
 #define ADR_FRAME_LENGTH 33280
+#define ADR_LINE_LENGTH 28
 #define ADR_WINDOW_LENGTH(blocks) ((size_t)(blocks) * ADR_BLOCK_LENGTH)
 
 /* Refusals: the member 'number', 0 where nothing is refused. */
@@ -301,7 +339,7 @@ extern "C" {
 #define ADR_BAD_SIZE 4       /* D is not 1 to 255, W not 1 to 64, or T not 0 to 255 */
 #define ADR_EXHAUSTED 5      /* the cartridge's passes or update counts are used up */
 #define ADR_WINDOW_FULL 6    /* W elements are not yet on tape: fetch and reply first */
-#define ADR_WRONG_PHASE 7    /* the call does not fit here, or no session was given */
+#define ADR_WRONG_PHASE 7    /* the call does not fit here, or no session or sheet was given */
 #define ADR_BAD_REPLY 8      /* the drive's reply is unlawful for its command */
 #define ADR_TAPE_FULL 9      /* no room is left on tape; close may be (see THE TAIL) */
 #define ADR_MISSING 10       /* an element is missing on tape */
@@ -309,15 +347,17 @@ extern "C" {
 #define ADR_NOT_FOUND 12     /* no header copy could be written; no end was found */
 #define ADR_END_ELSEWHERE 13 /* the header does not name the end at which the reading is */
 
-/* Answers of fetches and of a reading's replies: the member 'answer'. */
+/* Answers of fetches, of a reading's replies and of a sheet's calls: the member
+   'answer'. */
 #define ADR_REFUSED 0  /* 'number' says why */
 #define ADR_COMMAND 1  /* send 'command' to the drive and bring its reply */
 #define ADR_IDLE 2     /* nothing to do: accept an element, or close */
 #define ADR_DONE 3     /* the recording is closed, and whole but for what was given up */
 #define ADR_END 4      /* everything was read */
-#define ADR_NOTHING 5  /* the reply delivers nothing */
+#define ADR_NOTHING 5  /* the reply delivers nothing, or nothing is to be printed */
 #define ADR_BLOCK 6    /* the first 32,768 bytes of the lent frame are the next block */
 #define ADR_FILEMARK 7 /* the next element is a filemark */
+#define ADR_LINE 8     /* the lent line is to be printed */
 
 /* Commands, by operation code. */
 #define ADR_READ 0x08          /* read the frame where the drive stands */
@@ -476,6 +516,14 @@ struct adr_reading {
     uint8_t ended;    /* by a refusal of 8 or more, or by a refused opening */
 };
 
+/* A shelf sheet. A host sets none of its members. */
+struct adr_sheet {
+    uint64_t first; /* number of the open job's first element */
+    uint64_t next;  /* the number that comes next, up to 4,294,967,296 */
+    uint32_t job;   /* the open job, from 1 */
+    uint8_t ended;  /* by EOD or asterisks; 0 or 1 */
+};
+
 /* What the calls return: the session after the call, and what is answered. */
 struct adr_record_outcome {
     struct adr_recording session;
@@ -509,6 +557,12 @@ struct adr_read_replied {
 
 /* The name that this struct had before, for programs that use it. */
 #define adr_read_taken adr_read_replied
+
+struct adr_sheet_entered {
+    struct adr_sheet sheet;
+    uint8_t answer; /* ADR_LINE, ADR_NOTHING or ADR_REFUSED */
+    uint8_t number;
+};
 
 /* THE CARTRIDGE */
 
@@ -692,6 +746,29 @@ struct adr_read_fetched adr_read_fetch(struct adr_reading s);
 struct adr_read_replied adr_read_reply(struct adr_reading s, struct adr_reply reply,
                                        const uint8_t *frame, size_t frame_length);
 
+/* A SHELF SHEET */
+
+/* A new sheet. Its header line is to be printed: 'line', ADR_LINE_LENGTH bytes.
+   Refused with 1; the sheet returned is then an ended one. */
+struct adr_sheet_entered adr_sheet_open(uint8_t *line, size_t line_length);
+
+/* Enters the AUX field, ADR_AUX_LENGTH bytes, of the next frame that a reading
+   delivers, or of EOD. A filemark closes the open job, and EOD does if the job has
+   blocks: its line is to be printed. Of the field only the type (bytes 16 and 17:
+   80 00 data, 02 00 marker, 01 00 EOD) and the number (44 to 47, the high byte
+   first) are looked at. The number has to be the next, from 0 on; EOD's may be one
+   below it, as where elements were given up (see THE TAIL above). Any other field
+   ends the sheet with a line of asterisks, and so does the line of a job above
+   99,999. Once the sheet has ended, fields print nothing. Refused with 7, for
+   numbers that stand for no sheet, or 1. */
+struct adr_sheet_entered adr_sheet_enter(struct adr_sheet s,
+                                         const uint8_t *aux, size_t aux_length,
+                                         uint8_t *line, size_t line_length);
+
+/* No further field comes: a line of asterisks unless the sheet has ended. Blocks
+   that neither a filemark nor EOD followed have no line. Refused with 7 or 1. */
+struct adr_sheet_entered adr_sheet_finish(struct adr_sheet s, uint8_t *line, size_t line_length);
+
 /* IN WORDS. Constant strings, for messages and logs. */
 
 /* What a refusal means and what to do about it, without a full stop. */
@@ -702,7 +779,8 @@ static inline const char *adr_refusal_text(uint8_t number)
         return "nothing was refused";
     case ADR_WRONG_LENGTH:
         return "a buffer has the wrong length: lend 32,768 bytes for a block, "
-               "33,280 for a frame or header, 32,768 for each block of the window";
+               "33,280 for a frame or header, 32,768 for each block of the window, "
+               "512 for an AUX field, 28 for a line of a sheet";
     case ADR_NO_CARTRIDGE:
         return "the geometry is no cartridge's, or has fewer than 3,001 frames: "
                "check frames per track, tracks and load point";
@@ -752,6 +830,7 @@ static inline const char *adr_answer_name(uint8_t answer)
     case ADR_NOTHING: return "nothing";
     case ADR_BLOCK: return "block";
     case ADR_FILEMARK: return "filemark";
+    case ADR_LINE: return "line";
     default: return "unknown answer";
     }
 }
@@ -874,6 +953,12 @@ ADR_OFFSET(adr_reading, exchange, 40);
 ADR_OFFSET(adr_reading, finished, 52);
 ADR_OFFSET(adr_reading, ended, 53);
 
+ADR_SIZE(adr_sheet, 24);
+ADR_OFFSET(adr_sheet, first, 0);
+ADR_OFFSET(adr_sheet, next, 8);
+ADR_OFFSET(adr_sheet, job, 16);
+ADR_OFFSET(adr_sheet, ended, 20);
+
 ADR_SIZE(adr_record_outcome, 148);
 ADR_OFFSET(adr_record_outcome, session, 0);
 ADR_OFFSET(adr_record_outcome, number, 144);
@@ -898,6 +983,11 @@ ADR_SIZE(adr_read_replied, 60);
 ADR_OFFSET(adr_read_replied, session, 0);
 ADR_OFFSET(adr_read_replied, answer, 56);
 ADR_OFFSET(adr_read_replied, number, 57);
+
+ADR_SIZE(adr_sheet_entered, 32);
+ADR_OFFSET(adr_sheet_entered, sheet, 0);
+ADR_OFFSET(adr_sheet_entered, answer, 24);
+ADR_OFFSET(adr_sheet_entered, number, 25);
 
 #undef ADR_OFFSET
 #undef ADR_SIZE

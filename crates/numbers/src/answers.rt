@@ -19,7 +19,7 @@ pub const DONE: u8 = 3;
 // A reading is at its end.
 pub const END: u8 = 4;
 
-// A reply delivers nothing.
+// A reply delivers nothing, or nothing is to be printed.
 pub const NOTHING: u8 = 5;
 
 // A reply delivers a block.
@@ -27,6 +27,9 @@ pub const BLOCK: u8 = 6;
 
 // A reply delivers a filemark.
 pub const FILEMARK: u8 = 7;
+
+// The lent line is to be printed.
+pub const LINE: u8 = 8;
 
 // The number of the refusal, 0 for none.
 pub fn verdict_number(v: Verdict) -> u8

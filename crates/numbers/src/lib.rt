@@ -9,6 +9,7 @@ pub use answers::DONE;
 pub use answers::END;
 pub use answers::FILEMARK;
 pub use answers::IDLE;
+pub use answers::LINE;
 pub use answers::NOTHING;
 pub use answers::REFUSED;
 pub use answers::verdict_number;

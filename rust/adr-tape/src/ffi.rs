@@ -14,8 +14,9 @@
 //!   valid for the whole call; `&mut` keeps what is written apart from
 //!   everything else that is lent;
 //! * the layer keeps no pointer, has no state of its own, reads only what is
-//!   lent and writes only to the window of [`record_block`] and the frame of
-//!   [`record_fetch`].
+//!   lent and writes only to the window of [`record_block`], the frame of
+//!   [`record_fetch`] and the line of [`sheet_open`], [`sheet_enter`] and
+//!   [`sheet_finish`].
 #![allow(unsafe_code)]
 
 mod layout;
@@ -45,12 +46,14 @@ pub const IDLE: u8 = 2;
 pub const DONE: u8 = 3;
 /// Answer: the reading has come to its end.
 pub const END: u8 = 4;
-/// Answer: nothing is delivered.
+/// Answer: nothing is delivered, or nothing is to be printed.
 pub const NOTHING: u8 = 5;
 /// Answer: the frame's first 32,768 bytes are the next block.
 pub const BLOCK: u8 = 6;
 /// Answer: the next element is a filemark.
 pub const FILEMARK: u8 = 7;
+/// Answer: the lent line is to be printed.
+pub const LINE: u8 = 8;
 
 mod calls {
     use super::*;
@@ -123,6 +126,19 @@ mod calls {
             frame: *const u8,
             frame_length: usize,
         ) -> ReadReplied;
+        pub(super) fn adr_sheet_open(line: *mut u8, line_length: usize) -> SheetEntered;
+        pub(super) fn adr_sheet_enter(
+            sheet: Sheet,
+            aux: *const u8,
+            aux_length: usize,
+            line: *mut u8,
+            line_length: usize,
+        ) -> SheetEntered;
+        pub(super) fn adr_sheet_finish(
+            sheet: Sheet,
+            line: *mut u8,
+            line_length: usize,
+        ) -> SheetEntered;
     }
 }
 
@@ -282,4 +298,34 @@ pub fn read_fetch(session: Reading) -> ReadFetched {
 pub fn read_reply(session: Reading, reply: Reply, frame: &[u8]) -> ReadReplied {
     // SAFETY: the slice is lent for the call and only read.
     unsafe { calls::adr_read_reply(session, reply, frame.as_ptr(), frame.len()) }
+}
+
+/// `adr_sheet_open`: a new sheet, and its header line.
+#[must_use]
+pub fn sheet_open(line: &mut [u8]) -> SheetEntered {
+    // SAFETY: the line is lent for the call and overlaps nothing.
+    unsafe { calls::adr_sheet_open(line.as_mut_ptr(), line.len()) }
+}
+
+/// `adr_sheet_enter`: the AUX field of the next delivery, or of EOD.
+#[must_use]
+pub fn sheet_enter(sheet: Sheet, aux: &[u8], line: &mut [u8]) -> SheetEntered {
+    // SAFETY: the field is lent for the call and only read; the line is lent
+    // for the call and overlaps nothing.
+    unsafe {
+        calls::adr_sheet_enter(
+            sheet,
+            aux.as_ptr(),
+            aux.len(),
+            line.as_mut_ptr(),
+            line.len(),
+        )
+    }
+}
+
+/// `adr_sheet_finish`: no further field comes.
+#[must_use]
+pub fn sheet_finish(sheet: Sheet, line: &mut [u8]) -> SheetEntered {
+    // SAFETY: the line is lent for the call and overlaps nothing.
+    unsafe { calls::adr_sheet_finish(sheet, line.as_mut_ptr(), line.len()) }
 }

@@ -115,6 +115,12 @@ layout!(Reading, 56, {
     finished: 52,
     ended: 53,
 });
+layout!(Sheet, 24, {
+    first: 0,
+    next: 8,
+    job: 16,
+    ended: 20,
+});
 layout!(RecordOutcome, 148, {
     session: 0,
     number: 144,
@@ -139,4 +145,9 @@ layout!(ReadReplied, 60, {
     session: 0,
     answer: 56,
     number: 57,
+});
+layout!(SheetEntered, 32, {
+    sheet: 0,
+    answer: 24,
+    number: 25,
 });

@@ -228,6 +228,21 @@ pub struct Reading {
     pub ended: u8,
 }
 
+/// `struct adr_sheet`: a shelf sheet that is being printed. Keep it, hand it
+/// back, change nothing.
+#[repr(C)]
+#[derive(Clone, Copy, Debug, Default, PartialEq, Eq)]
+pub struct Sheet {
+    /// The number of the open job's first element.
+    pub first: u64,
+    /// The number that comes next, up to 4,294,967,296.
+    pub next: u64,
+    /// The open job, from 1.
+    pub job: u32,
+    /// 1 once nothing more is printed.
+    pub ended: u8,
+}
+
 /// `struct adr_record_outcome`.
 #[repr(C)]
 #[derive(Clone, Copy, Debug, PartialEq, Eq)]
@@ -286,6 +301,19 @@ pub struct ReadReplied {
     pub session: Reading,
     /// [`NOTHING`](super::NOTHING), [`BLOCK`](super::BLOCK),
     /// [`FILEMARK`](super::FILEMARK), [`END`](super::END) or
+    /// [`REFUSED`](super::REFUSED).
+    pub answer: u8,
+    /// The refusal, 0 for none.
+    pub number: u8,
+}
+
+/// `struct adr_sheet_entered`.
+#[repr(C)]
+#[derive(Clone, Copy, Debug, PartialEq, Eq)]
+pub struct SheetEntered {
+    /// The sheet after the call.
+    pub sheet: Sheet,
+    /// [`LINE`](super::LINE), [`NOTHING`](super::NOTHING) or
     /// [`REFUSED`](super::REFUSED).
     pub answer: u8,
     /// The refusal, 0 for none.
