@@ -7,6 +7,7 @@
 //! * [`recording`] (with [`header_copies`] and [`elements`]) and [`reading`]:
 //!   the two sessions, call by call; [`state`]: where they stand.
 //! * [`drive`] (with [`hostility`], [`tape`] and [`random`]): the drive.
+//! * [`sheet`]: the shelf sheet of a dump of AUX fields.
 //! * [`check`]: whole cartridges recorded and read back; [`fault`]: planted
 //!   faults that the checks must find.
 //!
@@ -27,6 +28,7 @@ pub mod random;
 pub mod reading;
 pub mod recording;
 pub mod reply;
+pub mod sheet;
 pub mod state;
 pub mod tape;
 
