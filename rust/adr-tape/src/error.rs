@@ -1,8 +1,9 @@
-//! How whole recordings and readings fail.
+//! How whole recordings, readings and sheets fail.
 
 use std::convert::Infallible;
 use std::error::Error;
 use std::fmt;
+use std::io;
 
 use crate::element::Element;
 use crate::refusal::Refusal;
@@ -145,6 +146,18 @@ pub enum AppendError<D, S> {
     Record(RecordError<D, S>),
 }
 
+/// What failed while the sheet of a dump was printed.
+///
+/// It is shown as what failed; [`Error::source`] gives the error in it.
+#[derive(Debug)]
+pub enum SheetError {
+    /// The dump could not be read further. The sheet ends there, with a line of
+    /// asterisks.
+    Dump(io::Error),
+    /// The sheet could not be written. What was written of it is not whole.
+    Output(io::Error),
+}
+
 impl<D> From<Refusal> for HeaderError<D> {
     fn from(refusal: Refusal) -> Self {
         HeaderError::Refused(refusal)
@@ -214,6 +227,15 @@ impl<D, S> fmt::Display for AppendError<D, S> {
     }
 }
 
+impl fmt::Display for SheetError {
+    fn fmt(&self, formatter: &mut fmt::Formatter<'_>) -> fmt::Result {
+        formatter.write_str(match self {
+            SheetError::Dump(_) => "the dump of AUX fields could not be read",
+            SheetError::Output(_) => "the shelf sheet could not be written",
+        })
+    }
+}
+
 impl<D: Error + 'static> Error for HeaderError<D> {
     fn source(&self) -> Option<&(dyn Error + 'static)> {
         Some(match self {
@@ -250,5 +272,13 @@ impl<D: Error + 'static, S: Error + 'static> Error for AppendError<D, S> {
             AppendError::Read(error) => error,
             AppendError::Record(error) => error,
         })
+    }
+}
+
+impl Error for SheetError {
+    fn source(&self) -> Option<&(dyn Error + 'static)> {
+        match self {
+            SheetError::Dump(error) | SheetError::Output(error) => Some(error),
+        }
     }
 }

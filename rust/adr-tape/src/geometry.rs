@@ -9,6 +9,21 @@ use crate::refusal::Refusal;
 pub const BLOCK_LENGTH: usize = 32_768;
 /// Bytes of a whole frame: as many data bytes as a block has, then 512 of AUX.
 pub const FRAME_LENGTH: usize = 33_280;
+/// Bytes of an AUX field: the last ones of a frame.
+pub const AUX_LENGTH: usize = FRAME_LENGTH - BLOCK_LENGTH;
+
+/// The AUX field of a frame.
+///
+/// ```
+/// let mut frame = [0; adr_tape::FRAME_LENGTH];
+/// frame[adr_tape::BLOCK_LENGTH] = 7;
+/// assert_eq!(adr_tape::aux_of(&frame)[..2], [7, 0]);
+/// ```
+#[must_use]
+pub fn aux_of(frame: &[u8; FRAME_LENGTH]) -> &[u8; AUX_LENGTH] {
+    // A frame is longer than its AUX.
+    frame.last_chunk().unwrap_or(&[0; AUX_LENGTH])
+}
 
 /// A frame address: a place on tape, counted from 0.
 #[derive(Clone, Copy, Debug, Default, PartialEq, Eq, PartialOrd, Ord, Hash)]

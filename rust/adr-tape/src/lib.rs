@@ -13,6 +13,8 @@
 //!   when the mains go, and what can be done next.
 //! * [`frames_sent_at_most`] and [`FramesSent`]: the most frames that a recording
 //!   can send, and those that one sent.
+//! * [`ShelfSheet`] and [`print_sheet`]: the printed sheet of a cartridge's jobs,
+//!   made from what [`read_deliveries`] hands on or from a dump of it.
 //! * [`ffi`]: the calls as C sees them, for hosts with buffers of their own.
 //!
 //! A drive in memory, recorded and read back:
@@ -92,6 +94,7 @@ pub mod ffi;
 mod frames_sent;
 mod geometry;
 mod header;
+mod print_sheet;
 mod read_all;
 mod reader;
 mod record_all;
@@ -99,6 +102,7 @@ mod recorder;
 mod refusal;
 mod reply;
 mod setup;
+mod sheet;
 mod summary;
 mod unclosed;
 #[cfg(doctest)]
@@ -108,15 +112,19 @@ pub use append_all::{append_all, Appended};
 pub use command::Command;
 pub use drive::Drive;
 pub use element::Element;
-pub use error::{AppendError, Full, HeaderError, ReadError, RecordError};
+pub use error::{AppendError, Full, HeaderError, ReadError, RecordError, SheetError};
 pub use frames_sent::{frames_sent_at_most, header_frames_sent_at_most, FramesSent};
-pub use geometry::{header_addresses, Address, Geometry, LoadPoint, BLOCK_LENGTH, FRAME_LENGTH};
+pub use geometry::{
+    aux_of, header_addresses, Address, Geometry, LoadPoint, AUX_LENGTH, BLOCK_LENGTH, FRAME_LENGTH,
+};
 pub use header::{newer, newest_header};
-pub use read_all::{read_all, read_with};
+pub use print_sheet::{print_sheet, SheetEnd};
+pub use read_all::{read_all, read_deliveries, read_with};
 pub use reader::{Delivery, ReadNext, Reader};
 pub use record_all::{record_all, record_with};
 pub use recorder::{Next, Recorder};
 pub use refusal::Refusal;
 pub use reply::{Reply, Sense};
 pub use setup::Setup;
+pub use sheet::{SheetLine, ShelfSheet, LINE_LENGTH};
 pub use summary::Summary;

@@ -2,8 +2,9 @@
 
 use std::error::Error;
 use std::fmt;
+use std::io;
 
-use adr_tape::{AppendError, Full, HeaderError, ReadError, RecordError, Refusal};
+use adr_tape::{AppendError, Full, HeaderError, ReadError, RecordError, Refusal, SheetError};
 
 /// An error of the host's own.
 #[derive(Clone, Copy, Debug, PartialEq)]
@@ -55,4 +56,15 @@ fn an_addition_fails() {
     comes_from(&Failed::Read(read), &read);
     let record = RecordError::Source(fmt::Error);
     comes_from(&Failed::Record(record.clone()), &record);
+}
+
+#[test]
+fn a_sheet_fails() {
+    for failed in [SheetError::Dump, SheetError::Output] {
+        let error = failed(io::Error::other(Cable));
+        let source = error.source().and_then(|source| source.downcast_ref());
+        let source: &io::Error = source.expect("the system's");
+        assert_eq!(source.to_string(), Cable.to_string());
+        assert!(!error.to_string().contains(&Cable.to_string()), "{error}");
+    }
 }

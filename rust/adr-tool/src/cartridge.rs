@@ -1,5 +1,6 @@
 //! An image in the simulated drive.
 
+mod fields;
 mod reading;
 
 use std::path::Path;

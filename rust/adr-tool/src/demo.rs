@@ -18,6 +18,7 @@ use crate::map::{Destination, Map};
 use crate::output;
 use crate::progress::Progress;
 use crate::record::told;
+use crate::sheet;
 use crate::text::grouped;
 use crate::timestamp::Timestamp;
 
@@ -75,6 +76,10 @@ pub fn run(arguments: &Arguments) -> Result<(), Failure> {
 
     output::line("\nRead back on the same drive and compared:")?;
     compare(&path, &files, seed)?;
+
+    output::line("\nThe sheet for its box:\n")?;
+    let cartridge = Cartridge::load(&path, Access::Read, SETUP.depth, Some(seed))?;
+    sheet::print(cartridge, Progress::new("reading", true))?;
 
     output::line("\nThe cartridge now:\n")?;
     let map = Map::of(&path, true)?;

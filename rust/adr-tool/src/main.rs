@@ -10,6 +10,7 @@ mod checksum;
 mod cut_session;
 mod demo;
 mod digest;
+mod dump;
 mod earlier_jobs;
 mod failure;
 mod faults;
@@ -30,6 +31,7 @@ mod record;
 mod restore;
 mod room;
 mod salvage;
+mod sheet;
 mod shell;
 mod size;
 #[allow(unsafe_code)]
@@ -53,7 +55,7 @@ struct Command {
     run: fn(&Arguments) -> Result<(), Failure>,
 }
 
-static COMMANDS: [Command; 9] = [
+static COMMANDS: [Command; 11] = [
     Command {
         name: "format",
         help: usage::FORMAT,
@@ -101,6 +103,18 @@ static COMMANDS: [Command; 9] = [
         help: usage::PLAN,
         options: plan::OPTIONS,
         run: plan::run,
+    },
+    Command {
+        name: "sheet",
+        help: usage::SHEET,
+        options: sheet::OPTIONS,
+        run: sheet::run,
+    },
+    Command {
+        name: "dump",
+        help: usage::DUMP,
+        options: dump::OPTIONS,
+        run: dump::run,
     },
     Command {
         name: "demo",

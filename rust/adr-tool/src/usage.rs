@@ -17,6 +17,8 @@ commands:
   salvage  restore what can still be had of a damaged cartridge
   map      show the cartridge as a picture
   plan     tell the most frames that a recording sends, and the time for them
+  sheet    print the shelf sheet: a line for each job
+  dump     write the AUX fields that a shelf sheet is made from
   demo     record on a faulty drive, read back, compare and show the map
 
   adr COMMAND --help tells more about a command, adr --version the version.
@@ -234,13 +236,52 @@ A job takes a block for each 32 KiB begun, two blocks more, and a filemark.
   --rate N        the drive's rate, in units of 1,000 bytes a second (2097)
 ";
 
+/// The help of `sheet`.
+pub const SHEET: &str = "\
+usage: adr sheet [OPTION...] IMAGE
+
+Prints the shelf sheet that goes into a cartridge's box: a header line, and for
+each job its number, the number of its first element and the count of its
+blocks. Elements are blocks and filemarks, counted from 0; a job ends with a
+filemark, whichever program recorded it. The two blocks around a file's bytes
+count.
+
+A line of 27 asterisks ends a sheet that may lack jobs: the reading stopped
+before the end of data, there is no recording, or there are more than 99,999
+jobs. Standard error tells which, and the exit status is then 1. It is 1
+as well where the last session was not closed, as after a power cut.
+
+The sheet is the one that 'adr dump IMAGE | shelf_sheet' prints.
+
+  --faults SEED   let the drive have faults, picked by this number
+  --quiet         no progress on a terminal
+";
+
+/// The help of `dump`.
+pub const DUMP: &str = "\
+usage: adr dump [OPTION...] IMAGE
+
+Writes the AUX fields of all that a reading delivers, blocks and filemarks in
+order, and then of the end of data, to standard output: 512 bytes each. The
+program shelf_sheet prints the shelf sheet from them.
+
+Where a reading stops the dump ends, so that a sheet made from it ends with
+asterisks; standard error tells why, and the exit status is 1. So it is for a
+cartridge without a recording, which gives no field, and where the last session
+was not closed, as after a power cut, though the dump may then be whole.
+
+  --faults SEED   let the drive have faults, picked by this number
+  --quiet         no progress on a terminal
+";
+
 /// The help of `demo`.
 pub const DEMO: &str = "\
 usage: adr demo [OPTION...]
 
 Records generated files on a drive with write errors, over an earlier
 recording, reads them back, compares them and shows the map. It is the same
-every time. The image is in a directory for temporary files.
+every time. The image is in a directory for temporary files. Before the map
+comes the shelf sheet.
 
   --faults SEED   other faults
   --svg FILE      write the map as a picture too; '-' is standard output

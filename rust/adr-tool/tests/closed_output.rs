@@ -23,6 +23,8 @@ fn what_nobody_gets() {
         "check a.adr",
         "map a.adr",
         "map a.adr --svg -",
+        "sheet a.adr",
+        "dump a.adr",
         "salvage a.adr --into out --overwrite",
         "plan --blocks 1 --errors 1",
         "--version",

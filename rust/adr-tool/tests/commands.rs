@@ -25,7 +25,7 @@ fn help_and_version() {
     let whole = place.adr(&["--help"]).succeeded();
     assert!(whole.output_text().starts_with("usage: adr COMMAND"));
     for command in [
-        "format", "record", "list", "restore", "check", "map", "demo",
+        "format", "record", "list", "restore", "check", "map", "demo", "sheet", "dump",
     ] {
         assert!(whole.output_text().contains(&format!("\n  {command} ")));
         for words in [[command, "--help"], ["help", command]] {
@@ -78,6 +78,12 @@ fn wrong_command_lines() {
         &["restore", "a.adr", "1", "-o", "x", "-o", "y"],
         &["check"],
         &["map"],
+        &["sheet"],
+        &["sheet", "a.adr", "b.adr"],
+        &["sheet", "a.adr", "--output", "x"],
+        &["dump"],
+        &["dump", "a.adr", "1"],
+        &["dump", "a.adr", "--faults", "x"],
         &["demo", "a.adr"],
         &["demo", "--keep=yes"],
     ] {
@@ -530,6 +536,9 @@ fn demo() {
     assert_eq!(first.output_text(), again.output_text());
     assert!(first.output_text().contains("write error at"));
     assert!(first.output_text().contains("all as recorded"));
+    // A file of 1,500,000 bytes behind one of 700,000.
+    let line = "\n    2         25         48\n";
+    assert!(first.output_text().contains(line));
     assert!(first.output_text().lines().all(|line| line.len() <= 100));
     let shown = concat!(env!("CARGO_MANIFEST_DIR"), "/../../docs/demo-map.svg");
     let shown = fs::read(shown).expect("the picture in the documents");

@@ -13,11 +13,13 @@ use place::image::{
 use place::{bytes, feed, Place};
 
 /// Commands that have nothing but an image to work on.
-const ON_AN_IMAGE: [&[&str]; 6] = [
+const ON_AN_IMAGE: [&[&str]; 8] = [
     &["list", "a.adr"],
     &["restore", "a.adr", "1"],
     &["check", "a.adr"],
     &["map", "a.adr"],
+    &["sheet", "a.adr"],
+    &["dump", "a.adr"],
     &["record", "--overwrite", "a.adr", "file"],
     &["record", "--append", "a.adr", "file"],
 ];

@@ -8,16 +8,12 @@ use std::fs;
 use std::ops::Range;
 use std::os::unix::ffi::OsStrExt;
 
-use place::image::{end_of_data, frame_at, move_frame, tell_end};
+use place::image::{end_of_data, frame_at, BEHIND_GROUP};
 use place::{bytes, Place, Ran, ADR};
 
 const BLOCK: usize = 32_768;
 /// The first user frame.
 const FIRST: usize = 10;
-/// The first address of the second header group, and the user frame behind it
-/// and the defect map.
-const GROUP: usize = 2_990;
-const BEHIND_GROUP: usize = 3_000;
 /// Where a job's name stands in its row.
 const NAME: usize = 41;
 /// The files of the worked example, and their blocks: they would fit but for bad
@@ -32,25 +28,6 @@ const WEEK: [(&str, usize); 4] = [
 /// take long.
 const SEEDS: Range<u64> = 96..400;
 
-/// A cartridge of so many frames with the job `mon`, whose end of data stands
-/// so many frames before the second header group, behind a long stretch that
-/// does not read.
-fn nearly_full(name: &str, frames: usize, free: usize) -> Place {
-    let place = Place::new(name);
-    place.write("mon", &bytes(40_000, 1));
-    let size = ["--segtrk", &frames.to_string(), "--trks", "1"];
-    place
-        .adr(&[&["format", "a.adr"], &size[..]].concat())
-        .succeeded();
-    place.adr(&["record", "a.adr", "mon"]).succeeded();
-    let mut image = place.read("a.adr");
-    let end = end_of_data(&image);
-    move_frame(&mut image, end, GROUP - free);
-    tell_end(&mut image, GROUP - free);
-    place.write("a.adr", &image);
-    place
-}
-
 /// The jobs that a cartridge lists, from their names on.
 #[track_caller]
 fn listed(list: &Ran) -> Vec<String> {
@@ -60,7 +37,7 @@ fn listed(list: &Ran) -> Vec<String> {
 
 #[test]
 fn tails() {
-    let place = nearly_full("full-usage", BEHIND_GROUP + 1, 30);
+    let place = Place::nearly_full("full-usage", BEHIND_GROUP + 1, 30);
     let image = place.read("a.adr");
     place.write("tue", b"tuesday");
     for tail in ["256", "4294967296", "-1", "x", ""] {
@@ -83,7 +60,7 @@ fn tails() {
 /// What is kept for the end of data is not free for files of known length.
 #[test]
 fn room() {
-    let place = nearly_full("full-room", BEHIND_GROUP + 20, 5);
+    let place = Place::nearly_full("full-room", BEHIND_GROUP + 20, 5);
     // 2,985 to 2,989, and 3,000 to 3,011 with a tail of 8.
     let told = "adr: a.adr: capacity at most 98.0 MB: 97.4 MB used, at most 557.0 kB free\n";
     assert_eq!(place.adr(&["list", "a.adr"]).succeeded().error, told);
@@ -109,7 +86,7 @@ fn room() {
 /// something else.
 #[test]
 fn a_pipe_that_is_too_long() {
-    let place = nearly_full("full-pipe", BEHIND_GROUP + 1, 30);
+    let place = Place::nearly_full("full-pipe", BEHIND_GROUP + 1, 30);
     let odd = OsStr::from_bytes(b"it's $HOME;\n\xFF\x1b[2J `x` \"*\"");
     fs::write(place.path("-r"), bytes(50_000, 2)).expect("room for a file");
     let odd_path = place.path("").join(odd);
@@ -195,7 +172,7 @@ fn is_cut(place: &Place, job: usize, name: &str) {
 /// What is added behind a job that was cut off is whole, and it is not.
 #[test]
 fn adding_to_a_full_tape() {
-    let place = nearly_full("full-add", BEHIND_GROUP + 20, 5);
+    let place = Place::nearly_full("full-add", BEHIND_GROUP + 20, 5);
     let image = place.read("a.adr");
     let stream = bytes(30 * BLOCK, 2);
     place.write("stream", &stream);
@@ -248,7 +225,7 @@ fn adding_to_a_full_tape() {
 /// here.
 #[test]
 fn only_a_filemark_is_missing() {
-    let place = nearly_full("full-filemark", BEHIND_GROUP + 1, 5);
+    let place = Place::nearly_full("full-filemark", BEHIND_GROUP + 1, 5);
     place.write("stream", &bytes(3 * BLOCK - 1, 2));
     let line = "$ADR record --append --name stream a.adr - < stream > rest.sh";
     let recorded = place.shell(line).failed();
@@ -390,7 +367,7 @@ fn a_whole_job_replaces_others() {
 /// empty ones were allowed.
 #[test]
 fn a_cut_pipe_is_no_empty_job() {
-    let place = nearly_full("full-empty-pipe", BEHIND_GROUP + 1, 30);
+    let place = Place::nearly_full("full-empty-pipe", BEHIND_GROUP + 1, 30);
     place.write("stream", &bytes(40 * BLOCK, 2));
     let line =
         "cat stream | $ADR record --append --allow-empty a.adr - > rest.sh; cat rest.sh | sh";
@@ -406,7 +383,7 @@ fn a_cut_pipe_is_no_empty_job() {
 /// What a shell opened is not there for a later command.
 #[test]
 fn descriptors_are_read_once() {
-    let place = nearly_full("full-descriptors", BEHIND_GROUP + 1, 30);
+    let place = Place::nearly_full("full-descriptors", BEHIND_GROUP + 1, 30);
     place.write("stream", &bytes(40 * BLOCK, 2));
     place.write("tue", &bytes(70_000, 3));
     let (given, feed) = ("< tue 3< mon", "{ cat stream > pipe & }");
@@ -432,7 +409,7 @@ fn descriptors_are_read_once() {
 /// that is not theirs.
 #[test]
 fn files_that_change_on_a_full_tape() {
-    let place = nearly_full("full-changed", BEHIND_GROUP + 1, 30);
+    let place = Place::nearly_full("full-changed", BEHIND_GROUP + 1, 30);
     place.write("stream", &bytes(40 * BLOCK, 2));
     let line = "cat stream | $ADR record --append --quiet a.adr mon /proc/version mon - > rest.sh";
     let recorded = place.shell(line).failed();
@@ -520,7 +497,7 @@ impl Seen {
 /// both tapes is what was to be recorded, or nothing was changed.
 #[test]
 fn bad_spots() {
-    let place = nearly_full("full-faults", BEHIND_GROUP + 1, 32);
+    let place = Place::nearly_full("full-faults", BEHIND_GROUP + 1, 32);
     let image = place.read("a.adr");
     let files = ["tue", "wed", "thu", "fri"];
     for (seed, name) in (2..).zip(files) {

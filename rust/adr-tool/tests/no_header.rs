@@ -2,13 +2,14 @@
 
 mod place;
 
-use place::image::{cells_with, entries, number, seal_frame, seal_index, CELL, CELLS};
+use place::image::{cells_with, header_addresses, lose_frame, seal_frame};
 use place::{bytes, Place};
 
 /// Commands that read, one that adds and one that records.
-const COMMANDS: [(&[&str], &str); 6] = [
+const COMMANDS: [(&[&str], &str); 7] = [
     (&["list", "a.adr"], "use a copy"),
     (&["check", "a.adr"], "use a copy"),
+    (&["dump", "a.adr"], "use a copy"),
     (&["restore", "--into", "out", "a.adr"], "use a copy"),
     (&["restore", "a.adr", "1"], "use a copy"),
     (&["record", "--append", "a.adr", "file"], "use a copy"),
@@ -17,9 +18,6 @@ const COMMANDS: [(&[&str], &str); 6] = [
         "'adr format --overwrite'",
     ),
 ];
-
-/// Where an entry of the index tells whether a frame reads.
-const MARKS: std::ops::Range<usize> = 4..8;
 
 #[test]
 fn frames_without_a_header() {
@@ -38,13 +36,7 @@ fn frames_without_a_header() {
         seal_frame(&mut invalid, *header);
     }
     let mut missing = image.clone();
-    for entry in entries(&image) {
-        let start = CELLS + number(&image, entry + 8) * CELL;
-        if headers.contains(&start) {
-            missing[entry..][MARKS].fill(0);
-        }
-    }
-    seal_index(&mut missing);
+    header_addresses().for_each(|address| lose_frame(&mut missing, address));
 
     for altered in [invalid, missing] {
         place.write("a.adr", &altered);

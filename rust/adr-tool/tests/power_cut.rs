@@ -3,7 +3,7 @@
 mod place;
 
 use place::image::frame_at;
-use place::{bytes, Place, Ran, ADR};
+use place::{bytes, Place, Ran};
 
 const BLOCK: usize = 32_768;
 /// The frames that a job takes beside its data, the last of them its filemark.
@@ -461,13 +461,6 @@ fn on_faulty_drives() {
 /// The example in the documentation is what the tool prints.
 #[test]
 fn the_example() {
-    let text = include_str!("../../../docs/TOOL.md");
-    let section = text
-        .split_once("## When the mains are gone\n")
-        .expect("it")
-        .1;
-    let example = section.split_once("```sh\n").expect("an example").1;
-    let example = example.split_once("```").expect("its end").0;
     let place = Place::new("cut-example");
     for (day, length) in [
         ("05 mon", 20_000),
@@ -480,14 +473,7 @@ fn the_example() {
         place.shell(&touch).succeeded();
     }
     place.directory("there");
-    let mut printed = String::new();
-    for line in example.lines().filter(|line| !line.starts_with('#')) {
-        let ran = place.shell(&line.replacen("adr", ADR, 1));
-        printed.push_str(&format!("{line}\n"));
-        let lines = ran.output_text().lines().chain(ran.error.lines());
-        lines.for_each(|line| printed.push_str(&format!("# {line}\n")));
-    }
-    assert_eq!(printed, example);
+    place.runs_example("When the mains are gone", str::to_string);
 }
 
 /// Where a frame of a session that was not closed is damaged, nobody can tell

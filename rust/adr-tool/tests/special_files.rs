@@ -8,7 +8,7 @@ use place::{bytes, Place};
 
 /// Every command that takes an image; `$NAME` is the image, and none may
 /// wait for anything.
-const COMMANDS: [&str; 9] = [
+const COMMANDS: [&str; 11] = [
     "format $NAME",
     "format --overwrite $NAME",
     "record $NAME file",
@@ -17,6 +17,8 @@ const COMMANDS: [&str; 9] = [
     "restore $NAME 1",
     "check $NAME",
     "map $NAME",
+    "sheet $NAME",
+    "dump $NAME",
     "salvage $NAME --into .",
 ];
 

@@ -50,7 +50,12 @@ fn progress_gives_way() {
         .adr(&["record", "a.adr", "large", "small"])
         .succeeded();
     place.write("out/large", b"kept");
-    for line in ["list a.adr", "check a.adr", "restore --into out a.adr"] {
+    for line in [
+        "list a.adr",
+        "check a.adr",
+        "restore --into out a.adr",
+        "sheet a.adr",
+    ] {
         // The same commands without a terminal have no progress.
         place.shell("rm -f out/small").succeeded();
         let plain = place.shell(&format!("$ADR {line} 2>&1"));
@@ -63,6 +68,9 @@ fn progress_gives_way() {
         assert_eq!(screen(&sent), expected, "{line}: {sent:?}");
     }
     assert_eq!(on_a_terminal(&place, "restore a.adr 2 -o -"), "x");
+    let refused = on_a_terminal(&place, "dump a.adr");
+    let told = "adr: a dump's bytes are not for a terminal: ";
+    assert!(refused.starts_with(told), "{refused}");
 }
 
 /// What is added to is read first.

@@ -143,6 +143,13 @@ impl Found<'_> {
     }
 }
 
+/// Shows how far a reading has come on the way to the end of data.
+pub(super) fn show_progress(progress: &mut Progress, summary: &Summary, end: Address) {
+    let bytes = bytes_in(summary.blocks);
+    let (address, end) = (u64::from(summary.address.0), u64::from(end.0));
+    progress.update(bytes, address, Some(end));
+}
+
 impl Cartridge {
     /// Reads jobs to the end of data, or until `taker` breaks. An empty
     /// cartridge has none.
@@ -179,7 +186,7 @@ impl Cartridge {
         let refused = |refusal| self.refused("reading stopped", refusal);
         let last = self.geometry.last().map_err(refused)?;
         let mut reader = Reader::open(self.geometry, header).map_err(refused)?;
-        let end = u64::from(end_of_data(header).0);
+        let end = end_of_data(header);
         let mut found = Found {
             jobs: Jobs::new(taker),
             stopped: false,
@@ -189,8 +196,7 @@ impl Cartridge {
         let sink = |element: Element<'_>| found.take(address.get(), &element);
         let read = read_with(self, &mut reader, sink, |summary| {
             address.set(summary.address);
-            let bytes = bytes_in(summary.blocks);
-            progress.update(bytes, u64::from(summary.address.0), Some(end));
+            show_progress(progress, summary, end);
         });
         match read {
             // What the jobs are handed to tells itself where it failed.

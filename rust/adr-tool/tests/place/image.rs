@@ -11,12 +11,19 @@ pub const DESCRIPTION: &[u8] = b"ADRJOB 2";
 /// Where a header tells the address of EOD.
 pub const EOD: std::ops::Range<usize> = 32..36;
 
+/// The first address of the second header group, and the user frame behind it
+/// and the defect map.
+pub const GROUP: usize = 2_990;
+pub const BEHIND_GROUP: usize = 3_000;
+
 /// Bytes of a frame; a cell's label stands behind it.
 pub const FRAME: usize = 33_280;
 const BLOCK: usize = 32_768;
 /// Where an index cell's entries start, and their length.
 const ENTRIES: usize = 8;
 const ENTRY: usize = 24;
+/// Where an entry tells whether a frame reads.
+const MARKS: std::ops::Range<usize> = 4..8;
 
 /// The 64-bit number at `at`.
 pub fn number(image: &[u8], at: usize) -> usize {
@@ -47,16 +54,21 @@ pub fn entries(image: &[u8]) -> Vec<usize> {
     (0..count).map(|turn| first + turn * ENTRY).collect()
 }
 
+/// Where the entry of an address starts.
+fn entry_of(image: &[u8], address: usize) -> usize {
+    let mut all = entries(image).into_iter();
+    let entry = all.find(|entry| number(image, *entry) >> 32 == address);
+    entry.expect("an entry")
+}
+
 /// Where the frame of an address starts, as the index has it.
 pub fn frame_at(image: &[u8], address: usize) -> usize {
-    let all = entries(image).into_iter();
-    let mut at = all.filter(|entry| number(image, *entry) >> 32 == address);
-    CELLS + number(image, at.next().expect("an entry") + 8) * CELL
+    CELLS + number(image, entry_of(image, address) + 8) * CELL
 }
 
 /// The addresses of the header's copies.
 pub fn header_addresses() -> impl Iterator<Item = usize> {
-    (5..10).chain(2_990..2_995)
+    (5..10).chain(GROUP..GROUP + 5)
 }
 
 /// Changes every copy of the header.
@@ -70,10 +82,15 @@ pub fn change_headers(image: &mut [u8], change: impl Fn(&mut [u8])) {
 
 /// Lets the frame of one address stand at another.
 pub fn move_frame(image: &mut [u8], from: usize, to: usize) {
-    let all = entries(image).into_iter();
-    let mut entry = all.filter(|entry| number(image, *entry) >> 32 == from);
-    let entry = entry.next().expect("an entry");
+    let entry = entry_of(image, from);
     image[entry..entry + 4].copy_from_slice(&(to as u32).to_be_bytes());
+    seal_index(image);
+}
+
+/// Lets nothing read at an address.
+pub fn lose_frame(image: &mut [u8], address: usize) {
+    let entry = entry_of(image, address);
+    image[entry..][MARKS].fill(0);
     seal_index(image);
 }
 

@@ -8,6 +8,8 @@ use std::path::PathBuf;
 use std::process::{Child, Command, Output, Stdio};
 use std::time::Duration;
 
+use image::{end_of_data, move_frame, tell_end, GROUP};
+
 /// The tool.
 pub const ADR: &str = env!("CARGO_BIN_EXE_adr");
 
@@ -40,6 +42,25 @@ impl Place {
         place.write("new", &bytes(new, 2));
         place.adr(&["format", "a.adr"]).succeeded();
         place.adr(&["record", "a.adr", "file"]).succeeded();
+        place
+    }
+
+    /// A place with an image of so many frames with the job `mon`, whose end of
+    /// data stands so many frames before the second header group, behind a long
+    /// stretch that does not read.
+    pub fn nearly_full(name: &str, frames: usize, free: usize) -> Place {
+        let place = Place::new(name);
+        place.write("mon", &bytes(40_000, 1));
+        let size = ["--segtrk", &frames.to_string(), "--trks", "1"];
+        place
+            .adr(&[&["format", "a.adr"], &size[..]].concat())
+            .succeeded();
+        place.adr(&["record", "a.adr", "mon"]).succeeded();
+        let mut image = place.read("a.adr");
+        let end = end_of_data(&image);
+        move_frame(&mut image, end, GROUP - free);
+        tell_end(&mut image, GROUP - free);
+        place.write("a.adr", &image);
         place
     }
 
@@ -91,6 +112,24 @@ impl Place {
 
     pub fn adr(&self, words: &[&str]) -> Ran {
         Ran::of(self.command(words).output().expect("the tool"))
+    }
+
+    /// Runs the commands of the first example in a section of docs/TOOL.md, made
+    /// ready for a shell: they must print what stands there.
+    #[track_caller]
+    pub fn runs_example(&self, section: &str, ready: impl Fn(&str) -> String) {
+        let text = include_str!("../../../../docs/TOOL.md");
+        let (_, section) = text.split_once(&format!("## {section}\n")).expect("it");
+        let (_, example) = section.split_once("```sh\n").expect("an example");
+        let (example, _) = example.split_once("```").expect("its end");
+        let mut printed = String::new();
+        for line in example.lines().filter(|line| !line.starts_with('#')) {
+            let ran = self.shell(&ready(line).replacen("adr", ADR, 1));
+            printed.push_str(&format!("{line}\n"));
+            let lines = ran.output_text().lines().chain(ran.error.lines());
+            lines.for_each(|line| printed.push_str(&format!("# {line}\n")));
+        }
+        assert_eq!(printed, example);
     }
 
     /// Runs a shell's command line; `$ADR` is the tool.
