@@ -10,7 +10,7 @@ use Rattle.sheet.specs.declared.sheet.Sheet.{Sheet}
 use Rattle.sheet.specs.Line.{lineLength, blank, lineFeed, lineOf, heading, asterisks}
 use Rattle.sheet.specs.Step.{highestNumber}
 use Rattle.sheet.specs.Dump.{sheetOf}
-use Rattle.sheet.specs.Prints.{enterAll}
+use Rattle.sheet.specs.Prints.{enterAll, printAll}
 
 -- a field of a type and a number; the other bytes are not looked at, and are not 0 here
 abbrev field : ℕ → ℕ → List ℕ
@@ -112,9 +112,15 @@ lateCases =
 abbrev highest : ℕ → List ℕ
 highest last = 0x34 ∷ 0x32 ∷ 0x39 ∷ 0x34 ∷ 0x39 ∷ 0x36 ∷ 0x37 ∷ 0x32 ∷ 0x39 ∷ last ∷ []
 
+-- any line that a call may be lent
+abbrev lent : ℕ → List ℕ
+lent k = replicate lineLength 0x5A
+
 pub record Cases : Type 0 where
+  -- by the calls, and by the definition of a dump's sheet
+  pub example-printed : printAll lent example ≡ printed
   pub sheets : map (λ (c : Case). sheetOf (c .dump)) dumps ≡ map (λ (c : Case). c .sheet) dumps
-  pub late : map (λ (c : LateCase). enterAll (λ _. zeros lineLength) 0 (c .from) (c .fields)) lateCases ≡ map (λ (c : LateCase). c .printed) lateCases
+  pub late : map (λ (c : LateCase). enterAll lent 0 (c .from) (c .fields)) lateCases ≡ map (λ (c : LateCase). c .printed) lateCases
   -- the highest job and the highest number, as of a filemark that has it; the most blocks, where all numbers are blocks'
   pub highest-number : lineOf 99999 highestNumber 0 ≡ replicate 5 0x39 ++ blank ∷ highest 0x35 ++ replicate 10 blank ++ 0x30 ∷ lineFeed ∷ []
   pub most-blocks : lineOf 1 0 (highestNumber + 1) ≡ replicate 4 blank ++ 0x31 ∷ replicate 10 blank ++ 0x30 ∷ blank ∷ highest 0x36 ++ lineFeed ∷ []
