@@ -9,13 +9,11 @@ use crate::image::Access;
 use crate::output;
 use crate::progress::Progress;
 use crate::record::DEPTH;
+use crate::sheet;
 use crate::writer::Writer;
 
-/// The options of `dump`.
-pub const OPTIONS: Options = Options {
-    valued: &["--faults"],
-    plain: &["--quiet"],
-};
+/// The options of `dump` are those of `sheet`.
+pub const OPTIONS: Options = sheet::OPTIONS;
 
 /// Runs the command.
 pub fn run(arguments: &Arguments) -> Result<(), Failure> {
