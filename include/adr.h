@@ -779,8 +779,7 @@ static inline const char *adr_refusal_text(uint8_t number)
         return "nothing was refused";
     case ADR_WRONG_LENGTH:
         return "a buffer has the wrong length: lend 32,768 bytes for a block, "
-               "33,280 for a frame or header, 32,768 for each block of the window, "
-               "512 for an AUX field, 28 for a line of a sheet";
+               "33,280 for a frame or header, 32,768 for each block of the window";
     case ADR_NO_CARTRIDGE:
         return "the geometry is no cartridge's, or has fewer than 3,001 frames: "
                "check frames per track, tracks and load point";

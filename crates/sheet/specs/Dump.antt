@@ -47,12 +47,12 @@ jobsFrom first blocks (Filemark ∷ es) = record { first = first; blocks = block
 jobsFrom first blocks (End ∷ es) = pick (ltb 0 blocks) (record { first = first; blocks = blocks } ∷ []) []
 jobsFrom first blocks (Wrong ∷ es) = []
 
--- a line a job, from this job's number on
+-- a line for each job, from this job's number on
 unfoldable pub linesFrom : ℕ → List Job → List ℕ
 linesFrom k [] = []
 linesFrom k (j ∷ js) = lineOf k (j .first) (j .blocks) ++ linesFrom (k + 1) js
 
--- the header line, a line a job up to 99,999, and asterisks where there are more jobs or the dump is not whole
+-- the header line, a line for each job up to 99,999, and asterisks where there are more jobs or the dump is not whole
 unfoldable pub sheetOf : List ℕ → List ℕ
 sheetOf dump = heading ++ linesFrom 1 (take lastJob jobs) ++ pick (isWhole entries && leb (length jobs) lastJob) [] asterisks
   where

@@ -109,8 +109,7 @@ impl Refusal {
         match self {
             Refusal::Length => {
                 "a buffer has the wrong length: lend 32,768 bytes for a block, \
-                 33,280 for a frame or header, 32,768 for each block of the window, \
-                 512 for an AUX field, 28 for a line of a sheet"
+                 33,280 for a frame or header, 32,768 for each block of the window"
             }
             Refusal::Geometry => {
                 "the geometry is no cartridge's, or has fewer than 3,001 frames: \
