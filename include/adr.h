@@ -151,9 +151,9 @@
 
    A SHELF SHEET lists the jobs of a cartridge, to be printed for its box. A job is
    the blocks up to a filemark, or up to EOD if there are any. Below a header line
-   each has a line: its number, counted from 1, the number of its first element,
-   which without blocks is the filemark, and the count of its blocks. For two
-   blocks, a filemark, another filemark and EOD:
+   each has a line: its number, counted from 1, the number of the element that it
+   begins with, which without blocks is the filemark, and how many blocks it has.
+   Where blocks 0 and 1, filemarks 2 and 3 and EOD are read:
 
          JOB      FIRST     BLOCKS
            1          0          2
@@ -521,7 +521,7 @@ struct adr_sheet {
     uint64_t first; /* number of the open job's first element */
     uint64_t next;  /* the number that comes next, up to 4,294,967,296 */
     uint32_t job;   /* the open job, from 1 */
-    uint8_t ended;  /* by EOD or asterisks; 0 or 1 */
+    uint8_t ended;  /* by EOD, by asterisks or by a refused opening; 0 or 1 */
 };
 
 /* What the calls return: the session after the call, and what is answered. */
@@ -758,8 +758,8 @@ struct adr_sheet_entered adr_sheet_open(uint8_t *line, size_t line_length);
    80 00 data, 02 00 marker, 01 00 EOD) and the number (44 to 47, the high byte
    first) are looked at. The number has to be the next, from 0 on; EOD's may be one
    below it, as where elements were given up (see THE TAIL above). Any other field
-   ends the sheet with a line of asterisks, and so does the line of a job above
-   99,999. Once the sheet has ended, fields print nothing. Refused with 7, for
+   ends the sheet with a line of asterisks, which also comes in place of the line of
+   job 100,000. Once the sheet has ended, fields print nothing. Refused with 7, for
    numbers that stand for no sheet, or 1. */
 struct adr_sheet_entered adr_sheet_enter(struct adr_sheet s,
                                          const uint8_t *aux, size_t aux_length,

@@ -8,9 +8,9 @@ use native.Mathlib.Omega.{arith}
 use borrow.Author.Tests.{eqb-true}
 use lib.Dec.{eqb}
 use lib.ListN.{length}
-use Rattle.sheet.specs.Line.{decimal, numberColumn, leading}
+use Rattle.sheet.specs.Line.{decimal, numberColumn}
 use Rattle.sheet.specs.Columns.{valueOf, ColumnsTell}
-use Rattle.sheet.proofs.Columns.{lead, last-digit, length-number}
+use Rattle.sheet.proofs.Columns.{leading, lead, last-digit, length-number}
 
 value-behind : (n : ℕ) (cs : List ℕ) (c : ℕ) → valueOf n (cs ++ (c ∷ [])) ≡ valueOf n cs * 10 + (c - 0x30)
 unfolding valueOf

@@ -7,12 +7,17 @@ use native.Mathlib.Nat.{not-suc-le-zero}
 use native.Mathlib.Numerals.{add-one}
 use native.Mathlib.Omega.{arith}
 use borrow.Author.Tests.{ltb-true, ltb-false, ne-eqb}
-use lib.Dec.{ltb}
+use lib.Dec.{eqb, ltb}
 use lib.ListN.{length, drop, set, replicate, length-append, length-set, drop-of-length-le}
 use lib.Seq.{drop-cons, getD-set-same, drop-set-lt}
-use Rattle.sheet.specs.Line.{blank, decimal, rightAligned, numberColumn, leading}
+use Rattle.geometry.specs.Pick.{pick}
+use Rattle.sheet.specs.Line.{blank, digit, decimal, rightAligned, numberColumn}
 
--- what stands in front of a number's last digit
+-- a character in front of a number's last digit: a digit, or a blank where none is left
+abbrev pub leading : ℕ → ℕ
+leading n = pick (eqb n 0) blank (digit (n % 10))
+
+-- so many of them
 unfoldable pub lead : ℕ → ℕ → List ℕ
 lead zero n = []
 lead (suc w) n = lead w (n / 10) ++ (leading n ∷ [])

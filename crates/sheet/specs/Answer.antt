@@ -2,7 +2,6 @@
 use Prim.Native.Nat.{ℕ}
 use mathlib.Core.List.{List}
 use Rattle.geometry.specs.Refusal.{refusalNumber}
-use Rattle.geometry.specs.declared.refusal.Refusal.the-variants.{Length}
 use Rattle.sheet.specs.declared.sheet.Sheet.{Sheet}
 use Rattle.sheet.specs.declared.sheet.Answer.{Answer}
 use Rattle.sheet.specs.declared.sheet.Answer.the-variants.{Nothing, Line, Refused}
@@ -39,10 +38,3 @@ printing s text = record { sheet = s; said = whole-line; line = text }
 -- 01's refusal 1: the lent line is left alone
 abbrev pub refusing : Sheet → List ℕ → EnteredSaid
 refusing s l = record { sheet = s; said = refused 1; line = l }
-
--- for the code: what such calls return
-abbrev pub silentOf : Sheet → Entered
-silentOf s = record { sheet = s; answer = Nothing }
-
-abbrev pub refusedOf : Sheet → Entered
-refusedOf s = record { sheet = s; answer = Refused Length }

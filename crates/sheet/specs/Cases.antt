@@ -25,7 +25,7 @@ filemark n = field markerType n
 abbrev eod : ℕ → List ℕ
 eod n = field eodType n
 
--- two blocks, a filemark, another filemark and EOD
+-- 02's example: a job of two blocks, one of none, and EOD
 abbrev pub example : List ℕ
 example = block 0 ++ block 1 ++ filemark 2 ++ filemark 3 ++ eod 4
 

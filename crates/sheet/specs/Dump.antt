@@ -38,8 +38,8 @@ pub record Job : Type 0 where
   pub first : ℕ
   pub blocks : ℕ
 
--- the jobs up to EOD or to the first wrong field, where the open one begins at a number and has so many blocks: runs up to a filemark, or up to EOD
--- where there are blocks
+-- the jobs, as Card 3 has them: a filemark closes the open one, and EOD does if it has blocks; behind EOD or a wrong field there are none.
+-- The open one has begun at a number and has so many blocks
 unfoldable pub jobsFrom : ℕ → ℕ → List Entry → List Job
 jobsFrom first blocks [] = []
 jobsFrom first blocks (Block ∷ es) = jobsFrom first (blocks + 1) es

@@ -1,7 +1,7 @@
 -- 02, Card 9: the lines of the sheet, in ASCII.
 use Prim.Native.Nat.{ℕ, zero, suc, _+_, _-_, _/_, _%_}
 use mathlib.Core.List.{List, [], _∷_, _++_}
-use lib.Dec.{eqb, ltb}
+use lib.Dec.{ltb}
 use lib.ListN.{length, replicate}
 use Rattle.geometry.specs.Pick.{pick}
 
@@ -36,7 +36,7 @@ numberColumn w n = rightAligned w (decimal w n)
 abbrev pub columns : List ℕ → List ℕ → List ℕ → List ℕ
 columns a b c = a ++ blank ∷ b ++ blank ∷ c ++ lineFeed ∷ []
 
--- a job's line, in columns 5, 10 and 10 wide: job, number of its first element, count of its blocks
+-- a job's line: its number, the number at which it begins, and how many blocks it has
 unfoldable pub lineOf : ℕ → ℕ → ℕ → List ℕ
 lineOf job first blocks = columns (numberColumn 5 job) (numberColumn 10 first) (numberColumn 10 blocks)
 
@@ -57,7 +57,3 @@ heading = columns (rightAligned 5 jobName) (rightAligned 10 firstName) (rightAli
 -- the line of 27 asterisks
 unfoldable pub asterisks : List ℕ
 asterisks = replicate 27 0x2A ++ lineFeed ∷ []
-
--- for the code, which fills a column from the right: in front of a number's last digit a digit, or a blank where none is left
-abbrev pub leading : ℕ → ℕ
-leading n = pick (eqb n 0) blank (digit (n % 10))

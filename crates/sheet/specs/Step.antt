@@ -27,7 +27,7 @@ entryOf next type number =
     (pick (eqb type markerType && eqb number next) Filemark
     (pick (eqb type eodType && (eqb number next || eqb (number + 1) next)) End Wrong))
 
--- what a field of 512 bytes is: AUX bytes 16-17 are its type and 44-47 its number, and no other is looked at
+-- what a field of 512 bytes is: 01, "AUX bytes", has the type at 16-17 and the sequence number at 44-47; no other byte is looked at
 abbrev pub fieldEntry : ℕ → List ℕ → Entry
 fieldEntry next aux = entryOf next (get16 aux 16) (get32 aux 44)
 

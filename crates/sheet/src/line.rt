@@ -1,16 +1,29 @@
-// The lines of the sheet: three columns of 5, 10 and 10 characters, right-aligned, with a blank between, and a line feed.
+// The lines of the sheet: three columns, each two parted by a blank, and a line feed.
 ghost use mathlib.Core.Path.{_≡_};
-ghost use Prim.Native.Nat.{_<_};
+ghost use Prim.Native.Nat.{_%_, _<_};
+ghost use lib.Dec.{eqb};
 ghost use lib.ListN.{length};
-ghost use Rattle.sheet.specs.Line.{lineLength, numberColumn, lineOf, heading, asterisks, leading};
+ghost use Rattle.geometry.specs.Pick.{pick};
+ghost use Rattle.sheet.specs.Line.{lineLength, blank, digit, numberColumn, lineOf, heading, asterisks};
 use buffer_writing::copy_all;
 
 // A line, its line feed counted.
 pub const LINE_LENGTH: usize = 28;
 
+// Where the columns begin and end; a blank stands behind the first and the second, and the line feed behind the third.
+const JOB_END: usize = 5;
+
+const FIRST_START: usize = JOB_END + 1;
+
+const FIRST_END: usize = FIRST_START + 10;
+
+const BLOCKS_START: usize = FIRST_END + 1;
+
+const BLOCKS_END: usize = BLOCKS_START + 10;
+
 // The last digit of what is left of a number, or a blank where nothing is left.
 fn leading_digit(n: u64) -> u8
-    ensures { λ r. ⌜ r ≡ leading n ⌝ }
+    ensures { λ r. ⌜ r ≡ pick (eqb n 0) blank (digit (n % 10)) ⌝ }
 {
     if n == 0 {
         return b' ';
@@ -38,12 +51,12 @@ pub(crate) fn put_line(line: &mut [u8], job: u64, first: u64, blocks: u64)
     requires { ⌜ length (now line) ≡ lineLength ⌝ }
     ensures { λ _. ⌜ now (line .exit) ≡ lineOf job first blocks ⌝ }
 {
-    put_number(&mut line[0..5], job);
-    line[5] = b' ';
-    put_number(&mut line[6..16], first);
-    line[16] = b' ';
-    put_number(&mut line[17..27], blocks);
-    line[27] = b'\n';
+    put_number(&mut line[0..JOB_END], job);
+    line[JOB_END] = b' ';
+    put_number(&mut line[FIRST_START..FIRST_END], first);
+    line[FIRST_END] = b' ';
+    put_number(&mut line[BLOCKS_START..BLOCKS_END], blocks);
+    line[BLOCKS_END] = b'\n';
 }
 
 // Fills a line with the columns' names.

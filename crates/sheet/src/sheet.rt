@@ -3,9 +3,11 @@ ghost use mathlib.Core.Path.{_≡_};
 ghost use Prim.Native.Nat.{_≤_};
 ghost use lib.ListN.{length};
 ghost use Rattle.sheet.specs.Line.{lineLength};
-ghost use Rattle.sheet.specs.Answer.{enteredSaid, silentOf, refusedOf};
-ghost use Rattle.sheet.specs.Step.{highestNumber, entryOf, blocksOf, jobLine, endedOf, brokenOff, stepOf};
+ghost use Rattle.sheet.specs.Answer.{enteredSaid};
+ghost use Rattle.sheet.specs.Step.{highestNumber, entryOf, blocksOf, endedOf, brokenOff, closing, stepOf};
 ghost use Rattle.sheet.specs.Calls.{openOf, enterOf, finishOf};
+ghost use Rattle.geometry.specs.declared.refusal.Refusal.the-variants.{Length};
+ghost use Rattle.sheet.specs.declared.sheet.Answer.the-variants.{Nothing, Refused};
 ghost use Rattle.sheet.specs.declared.sheet.Entry.the-variants.{Filemark, End};
 ghost use Rattle.sheet.specs.Promises.{Promises};
 use crate::line::LINE_LENGTH;
@@ -100,7 +102,7 @@ impl Sheet {
 
     // Nothing is printed.
     fn silent(self) -> Entered
-        ensures { λ r. ⌜ r ≡ silentOf self ⌝ }
+        ensures { λ r. ⌜ (r .sheet ≡ self) × (r .answer ≡ Nothing) ⌝ }
     {
         Entered {
             sheet: self,
@@ -110,7 +112,7 @@ impl Sheet {
 
     // A lent buffer has the wrong length.
     fn refuse(self) -> Entered
-        ensures { λ r. ⌜ r ≡ refusedOf self ⌝ }
+        ensures { λ r. ⌜ (r .sheet ≡ self) × (r .answer ≡ Refused Length) ⌝ }
     {
         Entered {
             sheet: self,
@@ -130,52 +132,48 @@ impl Sheet {
         }
     }
 
-    // The open job's line.
-    fn put_job(self, line: &mut [u8])
+    // The open job is closed: its line, and the sheet as it then is.
+    fn close(self, after: Sheet, line: &mut [u8]) -> Entered
         requires { ⌜ length (now line) ≡ lineLength ⌝ }
-        ensures { λ _. ⌜ now (line .exit) ≡ jobLine self ⌝ }
+        ensures { λ r. ⌜ enteredSaid r (now (line .exit)) ≡ closing self after ⌝ }
     {
+        if LAST_JOB < self.job {
+            return self.break_off(line);
+        }
         put_line(line, self.job as u64, self.first, self.blocks());
+        Entered {
+            sheet: after,
+            answer: Answer::Line,
+        }
     }
 
-    // A filemark closes the open job.
+    // A filemark closes the open job. Behind a job above the last no other is opened, so its number may wrap.
     fn enter_filemark(self, line: &mut [u8]) -> Entered
         requires { ⌜ length (now line) ≡ lineLength ⌝ }
         requires { ⌜ self .next ≤ highestNumber ⌝ }
         ensures { λ r. ⌜ enteredSaid r (now (line .exit)) ≡ stepOf self Filemark (now (line .entry)) ⌝ }
     {
-        if LAST_JOB < self.job {
-            return self.break_off(line);
-        }
-        self.put_job(line);
         let next = self.next + 1;
-        Entered {
-            sheet: Sheet {
-                job: self.job + 1,
-                first: next,
-                next: next,
-                ended: self.ended,
-            },
-            answer: Answer::Line,
-        }
+        let after = Sheet {
+            job: std::num::wrapping_add_u32(self.job, 1),
+            first: next,
+            next: next,
+            ended: self.ended,
+        };
+        self.close(after, line)
     }
 
-    // EOD closes the open job if it has blocks.
+    // EOD ends the sheet, and closes the open job if it has blocks.
     fn enter_end(self, line: &mut [u8]) -> Entered
         requires { ⌜ length (now line) ≡ lineLength ⌝ }
         ensures { λ r. ⌜ enteredSaid r (now (line .exit)) ≡ stepOf self End (now (line .entry)) ⌝ }
     {
+        let mut after = self;
+        after.ended = true;
         if self.next <= self.first {
-            return self.end().silent();
+            return after.silent();
         }
-        if LAST_JOB < self.job {
-            return self.break_off(line);
-        }
-        self.put_job(line);
-        Entered {
-            sheet: self.end(),
-            answer: Answer::Line,
-        }
+        self.close(after, line)
     }
 
     // A field of this type and number, while the sheet is not ended.

@@ -1,10 +1,10 @@
 //! The program `shelf_sheet` beside the model: what it prints of dumps, how it
 //! takes its input, and what it does where nobody takes its output.
 
-use std::env;
+mod program;
+
 use std::fs::File;
 use std::io::{ErrorKind, Write};
-use std::path::{Path, PathBuf};
 use std::process::{Child, Command, Output, Stdio};
 use std::thread;
 use std::time::{Duration, Instant};
@@ -13,6 +13,7 @@ use adr_model::geometry::AUX_LENGTH;
 use adr_model::sheet::dumps::{dump_of, fields};
 use adr_model::sheet::random_dumps::dump_of_seed;
 use adr_model::sheet::{sheet_of, LAST_JOB};
+use program::shelf_sheet;
 
 const DUMPS: u64 = 600;
 /// The program has ended by then, or never does.
@@ -20,29 +21,12 @@ const PATIENCE: Duration = Duration::from_secs(20);
 /// The sheet of a dump without fields.
 const CUT_AT_ONCE: &str = "  JOB      FIRST     BLOCKS\n***************************\n";
 
-/// `ADR_BIN_DIR`, or where `rt check shelf_sheet` leaves the program.
-fn program() -> PathBuf {
-    let root = Path::new(env!("CARGO_MANIFEST_DIR")).join("../..");
-    let directory = match env::var_os("ADR_BIN_DIR") {
-        Some(given) => PathBuf::from(given),
-        None => root.join("target").join("bin"),
-    };
-    let program = directory.join("shelf_sheet");
-    assert!(
-        program.is_file(),
-        "shelf_sheet is not in {}.\nRun 'rt check shelf_sheet' in the repository's root, \
-         or set ADR_BIN_DIR to the directory that holds shelf_sheet, from '/' on.",
-        directory.display()
-    );
-    program
-}
-
 fn dump(kinds: &str) -> Vec<u8> {
     dump_of(&fields(0, kinds), 9)
 }
 
 fn start(input: impl Into<Stdio>, output: impl Into<Stdio>) -> Child {
-    let mut command = Command::new(program());
+    let mut command = Command::new(shelf_sheet());
     command.stdin(input).stdout(output).stderr(Stdio::piped());
     command.spawn().expect("shelf_sheet is a program")
 }
@@ -182,7 +166,7 @@ fn ended_while_open(mut child: Child, dump: &[u8]) -> Output {
 #[track_caller]
 fn shell(line: &str) -> Output {
     let mut command = Command::new("sh");
-    command.args(["-c", line]).env("SHELF_SHEET", program());
+    command.args(["-c", line]).env("SHELF_SHEET", shelf_sheet());
     command.stdin(Stdio::null()).stdout(Stdio::piped());
     ended(command.stderr(Stdio::piped()).spawn().expect("a shell"))
 }

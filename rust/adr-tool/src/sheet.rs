@@ -86,17 +86,8 @@ impl<P: FnMut(SheetLine) -> Result<(), Failure>> Printing<'_, P> {
 #[cfg(test)]
 mod tests {
     use super::*;
-    use adr_model::frame::Kind;
-
-    /// The most jobs that have a line.
-    const MOST: u32 = 99_999;
-
-    fn field(kind: Kind, number: u32) -> [u8; AUX_LENGTH] {
-        let mut aux = [0; AUX_LENGTH];
-        aux[16..18].copy_from_slice(&kind.type_bytes());
-        aux[44..48].copy_from_slice(&number.to_be_bytes());
-        aux
-    }
+    use adr_model::sheet::dumps::{dump_of, fields};
+    use adr_model::sheet::LAST_JOB;
 
     /// What is printed of so many filemarks and the end of data, and what the first
     /// entry to fail tells.
@@ -107,9 +98,10 @@ mod tests {
             Ok(())
         };
         let mut printing = Printing::begin(Path::new("a.adr"), print).expect("a line");
-        let marks = (0..filemarks).map(|number| field(Kind::Marker, number));
-        let mut fields = marks.chain([field(Kind::Eod, filemarks)]);
-        let failed = fields.find_map(|aux| printing.enter(&aux).err());
+        let kinds = "/".repeat(filemarks as usize) + "e";
+        let dump = dump_of(&fields(0, &kinds), 1);
+        let mut entered = dump.as_chunks().0.iter();
+        let failed = entered.find_map(|aux| printing.enter(aux).err());
         printing.finish().expect("a line");
         let told = failed.map(|failure| match failure {
             Failure::Failed(message) => message,
@@ -120,13 +112,13 @@ mod tests {
 
     #[test]
     fn more_jobs_than_lines() {
-        let (lines, told) = printed(MOST);
+        let (lines, told) = printed(LAST_JOB);
         assert_eq!(told, None);
-        assert_eq!(lines.len(), 1 + MOST as usize);
-        let last = format!("{MOST} {:>10} {:>10}\n", MOST - 1, 0);
+        assert_eq!(lines.len(), 1 + LAST_JOB as usize);
+        let last = format!("{LAST_JOB} {:>10} {:>10}\n", LAST_JOB - 1, 0);
         assert_eq!(lines.last(), Some(&last));
 
-        let (longer, told) = printed(MOST + 1);
+        let (longer, told) = printed(LAST_JOB + 1);
         let told = told.expect("a sheet that breaks off");
         assert!(told.starts_with("a.adr: "), "{told}");
         assert!(told.contains("more than the 99,999 jobs"), "{told}");

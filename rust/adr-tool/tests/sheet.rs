@@ -1,14 +1,16 @@
 //! The shelf sheet, and the dump that it is made from.
 
 mod place;
+#[path = "../../adr-tape/tests/program/mod.rs"]
+mod program;
 
 use std::ops::Range;
-use std::path::{Path, PathBuf};
 
 use place::image::{
     cells_with, end_of_data, frame_at, lose_frame, seal_frame, BEHIND_GROUP, FRAME,
 };
 use place::{bytes, Place};
+use program::shelf_sheet;
 
 const BLOCK: usize = 32_768;
 /// Bytes of an AUX field; type and number stand there.
@@ -55,21 +57,6 @@ fn record(place: &Place, words: &[&str], files: Range<usize>) {
     let names = names.iter().map(String::as_str);
     let words: Vec<&str> = words.iter().copied().chain(names).collect();
     place.adr(&words).succeeded();
-}
-
-/// The program that prints the sheet of a dump.
-fn shelf_sheet() -> PathBuf {
-    let root = Path::new(env!("CARGO_MANIFEST_DIR")).join("../..");
-    let directory = std::env::var_os("ADR_BIN_DIR");
-    let directory = directory.map_or(root.join("target/bin"), PathBuf::from);
-    let program = directory.join("shelf_sheet");
-    assert!(
-        program.is_file(),
-        "{} is missing: run 'rt check shelf_sheet' in the repository's root, \
-         or set ADR_BIN_DIR to the directory that holds shelf_sheet, from '/' on",
-        program.display()
-    );
-    program
 }
 
 /// The fields of the cartridge's dump; the program makes this sheet from them, and

@@ -15,21 +15,21 @@ returns : tie.Need-returns
 unfolding enterOf
 returns c =
     let aux = c .before .before .before .before .args .aux .now in
-    rw (c .refuse .ensures, ne-eqb (length aux) 512 (λ (h : length aux ≡ 512). omega (arith, c .before .if1 .taken)))
+    rw (c .refuse .ensures .0, c .refuse .ensures .1, ne-eqb (length aux) 512 (λ (h : length aux ≡ 512). omega (arith, c .before .if1 .taken)))
 
 refuse-requires-2 : tie.Need-refuse-requires-2
 refuse-requires-2 c κs = search needs
 
 returns-2 : tie.Need-returns-2
 unfolding enterOf
-returns-2 c = rw (c .refuse2 .ensures, eq-eqb (length (c .before .before .before .before .before .args .aux .now)) 512 (omega (arith, c .before .before .if1 .left)), ne-eqb _ 28 (c .before .if2 .taken))
+returns-2 c = rw (c .refuse2 .ensures .0, c .refuse2 .ensures .1, eq-eqb (length (c .before .before .before .before .before .args .aux .now)) 512 (omega (arith, c .before .before .if1 .left)), ne-eqb _ 28 (c .before .if2 .taken))
 
 silent-requires : tie.Need-silent-requires
 silent-requires c κs = search needs
 
 returns-3 : tie.Need-returns-3
 unfolding enterOf
-returns-3 c = rw (c .silent .ensures, eq-eqb (length (c .before .before .before .before .before .before .args .aux .now)) 512 (omega (arith, c .before .before .before .if1 .left)), eq-eqb _ 28 (c .before .before .if2 .left), c .before .if3 .taken)
+returns-3 c = rw (c .silent .ensures .0, c .silent .ensures .1, eq-eqb (length (c .before .before .before .before .before .before .args .aux .now)) 512 (omega (arith, c .before .before .before .if1 .left)), eq-eqb _ 28 (c .before .before .if2 .left), c .before .if3 .taken)
 
 be16-at-requires : tie.Need-be16-at-requires
 be16-at-requires c κs = search needs

@@ -16,7 +16,7 @@ refuse-requires c κs = search needs
 
 returns : tie.Need-returns
 unfolding openOf
-returns c = (rw (c .refuse .ensures, c .before .end .ensures) (sym (pick-f _ (ne-eqb _ 28 (c .before .before .if1 .taken)))), promises)
+returns c = (rw (c .refuse .ensures .0, c .refuse .ensures .1, c .before .end .ensures) (sym (pick-f _ (ne-eqb _ 28 (c .before .before .if1 .taken)))), promises)
 
 put-heading-requires : tie.Need-put-heading-requires
 put-heading-requires c κs = search needs

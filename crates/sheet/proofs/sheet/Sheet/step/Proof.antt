@@ -43,7 +43,7 @@ break-off-requires c κs = search needs
 
 returns : tie.Need-returns
 unfolding stepOf
-returns c = rw (c .silent .ensures, sym (c .before .before .before .before .entry-at .ensures), c .before .before .enum-told .given .1)
+returns c = rw (c .silent .ensures .0, c .silent .ensures .1, sym (c .before .before .before .before .entry-at .ensures), c .before .before .enum-told .given .1)
 
 same-length : tie.Need-same-length
 same-length c = search needs
