@@ -12,9 +12,7 @@ use sheet::Sheet;
 
 // 02's example, and calls behind its end.
 fn example() {
-    print(
-        b"sheet: a job of two blocks, one of none and EOD, then a block and the dump's end\n",
-    );
+    print(b"sheet: a job of two blocks, one of none and EOD, then a block and the dump's end\n");
     let mut s = enter(open(), Kind::Data, 0);
     s = enter(s, Kind::Data, 1);
     s = enter(s, Kind::Marker, 2);
