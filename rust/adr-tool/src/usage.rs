@@ -242,9 +242,9 @@ usage: adr sheet [OPTION...] IMAGE
 
 Prints a list of the jobs, for the cartridge's box: under JOB their numbers,
 under FIRST the number of the element that each begins with, under BLOCKS how
-many blocks it has. Elements are blocks and filemarks, counted from 0; a job ends
-with a filemark, whichever program recorded it. The two blocks around a file's
-bytes count.
+many blocks it has. Elements are blocks and filemarks, counted from 0; a job
+ends with a filemark, whichever program recorded it. The two blocks around a
+file's bytes count.
 
 A line of 27 asterisks ends a sheet that may lack jobs: the reading stopped
 before the end of data, there is no recording, or there are more than 99,999
