@@ -70,7 +70,7 @@ module _ (lines : ℕ → List ℕ) where
         pick-by (λ (r : EnteredSaid). go-on k r fs ≡ enterAll lines (k + 1) over fs) (eqb (length f) 512 && eqb (length (lines k)) 28) (λ _. refl) (λ _. refl)
         ∙ all-ended (k + 1) fs
 
-  pub ended-prints : (k : ℕ) (s : Sheet) (fs : List (List ℕ)) → s .ended ≡ true → enterAll lines k s fs ≡ []
+  ended-prints : (k : ℕ) (s : Sheet) (fs : List (List ℕ)) → s .ended ≡ true → enterAll lines k s fs ≡ []
   ended-prints k s fs e =
       subst (λ (b : Bool). enterAll lines k (sheet-at (s .job) (s .first) (s .next) b) fs ≡ []) (sym e) (all-ended (s .job) (s .first) (s .next) k fs)
 
@@ -156,7 +156,7 @@ module _ (lines : ℕ → List ℕ) where
     unfolding openOf
     open-sheet = rw (eq-eqb _ 28 (long 0))
 
-    pub dump-prints : (dump : List ℕ) → go-on 0 (openOf (lines 0)) (fieldsOf dump) ≡ sheetOf dump
+    dump-prints : (dump : List ℕ) → go-on 0 (openOf (lines 0)) (fieldsOf dump) ≡ sheetOf dump
     unfolding fieldsOf sheetOf heading isWhole asterisks jobsFrom
     dump-prints dump =
         ap (λ (r : EnteredSaid). go-on 0 r (fieldsOf dump)) open-sheet

@@ -1,5 +1,5 @@
 -- 02, Card 9: the calls.
-use mathlib.Core.Bool.{Bool, true, false, _&&_}
+use mathlib.Core.Bool.{Bool, false, _&&_}
 use mathlib.Core.List.{List}
 use Prim.Native.Nat.{ℕ}
 use lib.Dec.{eqb}
@@ -30,6 +30,6 @@ enterOf s aux l =
     (pick (s .ended) (silent s l) (stepOf s (fieldEntry (s .next) aux) l))
     (refusing s l)
 
--- the end of the dump: where EOD has not come, it is cut short
+-- the end of the dump: where the sheet has not ended by then, the dump is cut short
 unfoldable pub finishOf : Sheet → List ℕ → EnteredSaid
 finishOf s l = pick (fits l) (pick (s .ended) (silent s l) (brokenOff s)) (refusing s l)

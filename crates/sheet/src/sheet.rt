@@ -30,6 +30,7 @@ const TYPE_AT: u16 = 16;
 
 const NUMBER_AT: u16 = 44;
 
+// A sheet between two fields.
 pub struct Sheet {
     // The open job, from 1.
     pub job: u32,
