@@ -1,4 +1,6 @@
 // Bytes and big-endian numbers read from lent buffers. Every call has an answer for every slice.
+#![tactic(auto)]
+
 ghost use Rattle.std.specs.Prelude.{◌≡◌, length, take, get_or};
 ghost use Rattle.buffer.specs.Bytes.{get16, get32, agree};
 

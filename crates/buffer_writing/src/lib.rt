@@ -1,4 +1,6 @@
 // Bytes and big-endian numbers written to lent buffers. Every public call serves every slice.
+#![tactic(auto)]
+
 ghost use Rattle.std.specs.Prelude.{◌≡◌, eqb, length, set, replicate};
 ghost use Rattle.geometry.specs.Pick.{pick};
 ghost use Rattle.buffer.specs.Bytes.{put16, put32};

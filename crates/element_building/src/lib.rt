@@ -1,4 +1,6 @@
 // Frames of elements, and of EOD. The public call is `build_element`.
+#![tactic(auto)]
+
 ghost use Rattle.std.specs.Prelude.{◌≡◌, true, length};
 ghost use Rattle.geometry.specs.Pick.{pick};
 ghost use Rattle.geometry.specs.Refusal.{verdict_number};

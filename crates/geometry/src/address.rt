@@ -5,18 +5,18 @@ ghost use Rattle.geometry.specs.Place.{preceding};
 use crate::refusal::Refusal;
 
 // The address of a frame on the tape, from 0.
-#[derive(Drop)]
+#[derive(Clone, Copy)]
 pub struct Address(pub u32);
 
 // The highest number of 32 bits, which stands for an address that is higher. No cartridge has so many frames.
 pub const HIGHEST_ADDRESS: u32 = 0xFFFFFFFF;
 
 // The frame sequence number of an element, from 0 in a recording.
-#[derive(Drop)]
+#[derive(Clone, Copy)]
 pub struct Seq(pub u32);
 
 // An address, or the refusal that stands in its place.
-#[derive(Drop)]
+#[derive(Clone, Copy)]
 pub enum Place {
     At(Address),
     Refused(Refusal),

@@ -7,14 +7,14 @@ use crate::address::{Address, Place};
 use crate::refusal::Refusal;
 
 // Where the cartridge is loaded, which decides how much of a track can be used.
-#[derive(Drop)]
+#[derive(Clone, Copy)]
 pub enum LoadPoint {
     Beginning,
     Centre,
 }
 
 // A cartridge's size as the drive reports it: SEGTRK, the frames of a track, and TRKS, the tracks.
-#[derive(Drop)]
+#[derive(Clone, Copy)]
 pub struct Geometry {
     pub segtrk: u16,
     pub trks: u16,

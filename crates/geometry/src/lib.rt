@@ -1,4 +1,6 @@
 // Addresses and sequence numbers, the cartridge's geometry, and the refusals: what every other crate speaks of.
+#![tactic(auto)]
+
 mod address;
 mod arithmetic;
 mod cartridge;

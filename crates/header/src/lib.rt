@@ -1,4 +1,6 @@
 // Headers that were read: which are valid and what they tell.
+#![tactic(auto)]
+
 mod read;
 mod valid;
 

@@ -7,7 +7,7 @@ use frame::{FRAME_LENGTH, Header};
 use geometry::{Address, Geometry, Place, Refusal};
 
 // A header frame that was looked at: what it tells, or why it is refused.
-#[derive(Drop)]
+#[derive(Clone, Copy)]
 pub enum Checked {
     Valid(Header),
     Refused(Refusal),

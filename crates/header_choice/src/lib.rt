@@ -1,4 +1,6 @@
 // The choice of the newer of two header frames.
+#![tactic(auto)]
+
 ghost use Rattle.std.specs.Prelude.{◌≡◌, length};
 ghost use Rattle.frame.specs.Lengths.{frame_length};
 ghost use Rattle.geometry.specs.Refusal.{refusal_number, verdict_number};
@@ -10,7 +12,7 @@ use geometry::{Geometry, Refusal, Verdict, number};
 use header::{Checked, read_header};
 
 // Which of two headers is chosen, or why none is.
-#[derive(Drop)]
+#[derive(Clone, Copy)]
 pub enum Choice {
     First,
     Second,

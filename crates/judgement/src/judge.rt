@@ -11,7 +11,7 @@ use frame::{DATA_LENGTH, DATA_TYPE, EOD_TYPE, Element, FRAME_LENGTH, Kind, MARKE
 use geometry::{Address, Refusal, Seq};
 
 // What a frame is to a reading.
-#[derive(Drop)]
+#[derive(Clone, Copy)]
 pub enum Judgement {
     // Passed over.
     PassedOver,

@@ -1,4 +1,6 @@
 // The judgement on one frame that was read.
+#![tactic(auto)]
+
 mod judge;
 mod table;
 mod told;

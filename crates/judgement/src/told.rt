@@ -2,7 +2,7 @@
 use geometry::Address;
 
 // Told: what that header tells of the cartridge.
-#[derive(Drop)]
+#[derive(Clone, Copy)]
 pub struct Told {
     // LAST of the cartridge.
     pub last: Address,

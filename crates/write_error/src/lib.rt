@@ -1,4 +1,6 @@
 // The target of a write error: where writing goes on.
+#![tactic(auto)]
+
 ghost use Rattle.std.specs.Prelude.{◌≡◌};
 ghost use Rattle.geometry.specs.Place.{place_said};
 ghost use Rattle.write_error.specs.WriteError.{step_of, target_address, target_within, target_of};

@@ -1,0 +1,10 @@
+-- The bytes passed are 0, and the others as they were.
+use Rattle.std.proofs.Common.{length, drop, ◌++◌, ◌-◌, ◌≡◌, ◌≤◌}
+use lib.ListN.{replicate}
+use Rattle.buffer_writing.proofs.clear.Given as goal
+
+abbrev pub invariant-loop-i : goal.invariant-loop-i
+invariant-loop-i l = (l.i ≤ length l.initial.s) × (l.s ≡ replicate l.i 0 ++ drop l.i l.initial.s) × (length l.s ≡ length l.initial.s)
+
+abbrev pub decreases-loop-i : goal.decreases-loop-i
+decreases-loop-i l = length l.initial.s - l.i
