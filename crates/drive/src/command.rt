@@ -5,7 +5,7 @@ ghost use Rattle.drive.specs.Command.{command_code, command_address};
 use geometry::Address;
 
 // A command, with the address that it is about.
-#[derive(Drop)]
+#[derive(Clone, Copy)]
 pub enum Command {
     // Reads the frame at this address, where the drive stands.
     Read(Address),

@@ -5,7 +5,7 @@ ghost use Rattle.drive.specs.Exchange.{unsent, sent_of, replied_of, repeated_of}
 use crate::command::Command;
 
 // The last command, and what is to come of it.
-#[derive(Drop)]
+#[derive(Clone, Copy)]
 pub struct Exchange {
     // The last command; before the first one it means nothing.
     pub command: Command,

@@ -1,4 +1,6 @@
 // What goes to the drive and what comes back.
+#![tactic(auto)]
+
 mod cases;
 mod command;
 mod exchange;

@@ -2,7 +2,7 @@
 use geometry::Address;
 
 // An answer of the drive. Which of its numbers mean something goes by the command and the sense triple.
-#[derive(Drop)]
+#[derive(Clone, Copy)]
 pub struct Reply {
     // The sense triple: key, additional sense code and its qualifier.
     pub key: u8,

@@ -1,5 +1,7 @@
 // The most frames that the drive takes in one session, for whoever plans by frames sent. `archive` promises that it never takes more.
 // A WRITE that is answered otherwise than good is not taken, and is not counted.
+#![tactic(auto)]
+
 ghost use Rattle.std.specs.Prelude.{◌≡◌};
 ghost use Rattle.frame_bounds.specs.Bounds.{smaller, frames_at_most, header_frames_at_most};
 
