@@ -1,4 +1,6 @@
 // Which header the copies carry.
+#![tactic(auto)]
+
 ghost use Rattle.std.specs.Prelude.{◌≡◌};
 ghost use Rattle.geometry.specs.Place.{as_address};
 ghost use Rattle.carried_headers.specs.Carried.{opening_header, is_counted_out, is_exhausted, renewed, added_to, closing_of};

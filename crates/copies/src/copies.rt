@@ -8,7 +8,7 @@ use frame::Header;
 use geometry::{GROUP_COPIES, header_address};
 
 // The copies of one header, and how far the drive is with them.
-#[derive(Drop)]
+#[derive(Clone, Copy)]
 pub struct Copies {
     // What every copy carries.
     pub header: Header,

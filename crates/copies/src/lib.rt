@@ -1,4 +1,6 @@
 // The header copies of a recording: ten, in two groups of five.
+#![tactic(auto)]
+
 mod copies;
 mod progress;
 

@@ -3,7 +3,7 @@ use crate::copies::Copies;
 use geometry::Refusal;
 
 // How far the copies are.
-#[derive(Drop)]
+#[derive(Clone, Copy)]
 pub enum Progress {
     More(Copies),
     // No copy is left to be written, and some are on tape.

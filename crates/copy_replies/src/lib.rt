@@ -1,4 +1,6 @@
 // What a reply to a command for the header copies changes, one function for each reply.
+#![tactic(auto)]
+
 ghost use Rattle.std.specs.Prelude.{◌≡◌, ◌<◌, ◌≤◌};
 ghost use Rattle.copies.specs.Copies.{progress_said, located_of, taken_of, confirmed_of, failed_at, next_group, onward_of, counted_of, failed_copy, failed_of};
 

@@ -5,7 +5,7 @@ ghost use Rattle.elements.specs.Course.{start_of};
 use geometry::Address;
 
 // The next frame's address, and what changes it.
-#[derive(Drop)]
+#[derive(Clone, Copy)]
 pub struct Course {
     // The address of the next frame.
     pub next: Address,

@@ -3,7 +3,7 @@ use drive::Command;
 use geometry::Refusal;
 
 // What the rules come to.
-#[derive(Drop)]
+#[derive(Clone, Copy)]
 pub enum Due {
     // This command goes out.
     Send(Command),

@@ -9,7 +9,7 @@ use geometry::Seq;
 pub const MARKS: usize = MOST_BLOCKS as usize;
 
 // They are in order, the oldest first; EOD is the last of them once it is due.
-#[derive(Drop)]
+#[derive(Clone, Copy)]
 pub struct Queue {
     // The number of the oldest, or of the next to be accepted if there is none.
     pub first: Seq,

@@ -6,7 +6,7 @@ use crate::elements::Elements;
 use geometry::Verdict;
 
 // The elements after a reply. A reply refused with 8 leaves them as they were; one refused with 9 has noted its write error.
-#[derive(Drop)]
+#[derive(Clone, Copy)]
 pub struct Stepped {
     pub elements: Elements,
     pub verdict: Verdict,

@@ -1,4 +1,6 @@
 // A recording session: it takes blocks and filemarks, says which command goes to the drive next, and takes in the drive's replies.
+#![tactic(auto)]
+
 mod recording;
 
 pub use recording::{Fetched, Outcome, Recording};

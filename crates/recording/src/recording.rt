@@ -13,20 +13,20 @@ use geometry::{Geometry, Verdict};
 use recording_state::{Answer, State};
 
 // A recording session. Each call takes it whole and gives it back.
-#[derive(Drop)]
+#[derive(Clone, Copy)]
 pub struct Recording {
     pub state: State,
 }
 
 // What every call but a fetch returns.
-#[derive(Drop)]
+#[derive(Clone, Copy)]
 pub struct Outcome {
     pub session: Recording,
     pub verdict: Verdict,
 }
 
 // What a fetch returns: the session and the command, idle, done or a refusal.
-#[derive(Drop)]
+#[derive(Clone, Copy)]
 pub struct Fetched {
     pub session: Recording,
     pub answer: Answer,

@@ -1,4 +1,6 @@
 // Accepting blocks and filemarks, and close. The public calls are the methods of `recording`.
+#![tactic(auto)]
+
 mod window;
 
 ghost use Rattle.std.specs.Prelude.{◌≡◌};

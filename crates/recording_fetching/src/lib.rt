@@ -1,4 +1,6 @@
 // Fetching the next command. The public calls are the methods of `recording`.
+#![tactic(auto)]
+
 mod due;
 
 ghost use Rattle.std.specs.Prelude.{◌≡◌, ℕ, List, length};

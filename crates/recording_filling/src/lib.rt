@@ -1,4 +1,6 @@
 // The frame that a WRITE of a recording writes. The public calls are the methods of `recording`.
+#![tactic(auto)]
+
 mod window;
 
 ghost use Rattle.std.specs.Prelude.{◌≡◌, length};

@@ -1,4 +1,6 @@
 // Opening a recording session. The public calls are the methods of `recording`.
+#![tactic(auto)]
+
 ghost use Rattle.std.specs.Prelude.{◌≡◌};
 ghost use Rattle.geometry.specs.Refusal.{refusal_number};
 ghost use Rattle.recording_state.specs.State.{outcome_said};

@@ -39,8 +39,8 @@ header_tags s = go s.stage refl
     go S.Done e h = absurd (miss (0 ∷ (2 ∷ [])) 3 tt h)
 
 -- all but the elements'
-pub outside : (P : Stage → Type 0) (k : Stage) → OneOf (0 ∷ (2 ∷ (3 ∷ []))) (tag_of the_type k) → P S.OpeningHeaders → P S.ClosingHeaders → P S.Done → P k
-outside P S.OpeningHeaders h o c d = o
-outside P S.Elements h o c d = absurd (miss (0 ∷ (2 ∷ (3 ∷ []))) 1 tt h)
-outside P S.ClosingHeaders h o c d = c
-outside P S.Done h o c d = d
+pub outside : (P : Stage → Type 0) (k : Stage) → (k ≡ S.Elements → ⊥) → P S.OpeningHeaders → P S.ClosingHeaders → P S.Done → P k
+outside P S.OpeningHeaders n o c d = o
+outside P S.Elements n o c d = absurd (n refl)
+outside P S.ClosingHeaders n o c d = c
+outside P S.Done n o c d = d

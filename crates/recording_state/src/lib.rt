@@ -1,5 +1,7 @@
 // The state of a recording session and the steps that several of its calls take. The definitions of every call stand here, and the laws over them;
 // the public calls are the methods of `recording`.
+#![tactic(auto)]
+
 mod report;
 mod state;
 

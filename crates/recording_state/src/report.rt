@@ -2,7 +2,7 @@
 use geometry::Address;
 
 // A reply other than busy, by what it reports. Which machine takes it goes by the session's stage.
-#[derive(Drop)]
+#[derive(Clone, Copy)]
 pub enum Report {
     // The drive has gone to this address, as a LOCATE asked.
     Located(Address),

@@ -12,7 +12,7 @@ use elements::Elements;
 use geometry::{Refusal, Verdict, number};
 
 // What the session writes at present.
-#[derive(Drop)]
+#[derive(Clone, Copy)]
 pub enum Stage {
     OpeningHeaders,
     // The LOCATE of the first element's address, the elements and EOD.
@@ -33,7 +33,7 @@ fn following(stage: Stage) -> Stage
 }
 
 // The sizes that a session was opened with.
-#[derive(Drop)]
+#[derive(Clone, Copy)]
 pub struct Setup {
     // D, the frames that the drive buffers.
     pub depth: u8,
@@ -44,7 +44,7 @@ pub struct Setup {
 }
 
 // All that a session holds between two calls.
-#[derive(Drop)]
+#[derive(Clone, Copy)]
 pub struct State {
     pub setup: Setup,
     pub stage: Stage,
@@ -60,14 +60,14 @@ pub struct State {
 }
 
 // What every call but a fetch returns.
-#[derive(Drop)]
+#[derive(Clone, Copy)]
 pub struct Outcome {
     pub session: State,
     pub verdict: Verdict,
 }
 
 // The answer to a fetch. The host sends a command once, a WRITE with the frame that the fetch filled, and brings its reply.
-#[derive(Drop)]
+#[derive(Clone, Copy)]
 pub enum Answer {
     Command(Command),
     Idle,
@@ -76,7 +76,7 @@ pub enum Answer {
 }
 
 // What a fetch returns.
-#[derive(Drop)]
+#[derive(Clone, Copy)]
 pub struct Fetched {
     pub session: State,
     pub answer: Answer,
