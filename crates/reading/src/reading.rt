@@ -13,27 +13,27 @@ use geometry::{Geometry, Verdict};
 use reading_state::{Answer, Delivery, State};
 
 // A reading session. Each call takes it whole and gives it back.
-#[derive(Drop)]
+#[derive(Clone, Copy)]
 pub struct Reading {
     pub state: State,
 }
 
 // What opening returns.
-#[derive(Drop)]
+#[derive(Clone, Copy)]
 pub struct Opened {
     pub session: Reading,
     pub verdict: Verdict,
 }
 
 // What a fetch returns: the session and the command, the end or a refusal.
-#[derive(Drop)]
+#[derive(Clone, Copy)]
 pub struct Fetched {
     pub session: Reading,
     pub answer: Answer,
 }
 
 // What a reply returns: the session and what the reply delivers.
-#[derive(Drop)]
+#[derive(Clone, Copy)]
 pub struct Replied {
     pub session: Reading,
     pub delivery: Delivery,

@@ -1,4 +1,6 @@
 // Fetching the next command. The public calls are the methods of `reading`.
+#![tactic(auto)]
+
 ghost use Rattle.std.specs.Prelude.{◌≡◌};
 ghost use Rattle.drive.specs.Command.{command_said};
 ghost use Rattle.reading_state.specs.Fetch.{command_of, fetched_said, sending, fetch_of};
@@ -8,6 +10,7 @@ use geometry::{Address, Refusal, SECOND_GROUP, SECOND_USER};
 use reading_state::{Answer, Fetched, State};
 
 // The command that is due where the next address is not above LAST.
+#[tactic(auto, unfolding(reading_state::specs::Fetch::command_of))]
 fn due(s: State) -> Command
     ensures { command_said result ≡ command_of s }
 {
@@ -33,6 +36,7 @@ fn send(mut s: State, c: Command) -> Fetched
 }
 
 // The command that was answered busy, once more; else the next command, or the end once EOD was read.
+#[tactic(auto, unfolding(reading_state::specs::Fetch::fetch_of))]
 pub fn fetch(mut s: State) -> Fetched
     ensures { fetched_said result ≡ fetch_of s }
 {

@@ -1,4 +1,6 @@
 // Opening a reading session. The public calls are the methods of `reading`.
+#![tactic(auto)]
+
 ghost use Rattle.std.specs.Prelude.{◌≡◌};
 ghost use Rattle.geometry.specs.Refusal.{refusal_number};
 ghost use Rattle.reading_state.specs.Open.{opened_said, told_of, fresh, open_refused, open_of};
@@ -63,6 +65,7 @@ fn told_by(header: Header) -> Told
 }
 
 // Opens a reading on the newest header of the cartridge.
+#[tactic(auto, unfolding(reading_state::specs::Open::open_of))]
 pub fn open(g: Geometry, header: &[u8]) -> Opened
     ensures { opened_said result ≡ open_of g header.now }
 {

@@ -5,14 +5,14 @@ use geometry::{Address, Refusal, Seq, Verdict};
 use judgement::Told;
 
 // The next address, and whether a LOCATE of it comes before the READ.
-#[derive(Drop)]
+#[derive(Clone, Copy)]
 pub struct Position {
     pub next: Address,
     pub locate: bool,
 }
 
 // A reading as it stands between two calls.
-#[derive(Drop)]
+#[derive(Clone, Copy)]
 pub struct State {
     // What the newest header tells.
     pub told: Told,
@@ -31,14 +31,14 @@ pub struct State {
 }
 
 // What opening a reading returns: the session, ended if the opening was refused.
-#[derive(Drop)]
+#[derive(Clone, Copy)]
 pub struct Opened {
     pub session: State,
     pub verdict: Verdict,
 }
 
 // The answer to a fetch. The host sends a command once and brings its reply.
-#[derive(Drop)]
+#[derive(Clone, Copy)]
 pub enum Answer {
     Command(Command),
     // EOD was read.
@@ -47,14 +47,14 @@ pub enum Answer {
 }
 
 // What a fetch returns.
-#[derive(Drop)]
+#[derive(Clone, Copy)]
 pub struct Fetched {
     pub session: State,
     pub answer: Answer,
 }
 
 // The answer to a reply.
-#[derive(Drop)]
+#[derive(Clone, Copy)]
 pub enum Delivery {
     // The reply is taken in and delivers nothing.
     Nothing,
@@ -68,7 +68,7 @@ pub enum Delivery {
 }
 
 // What a reply returns.
-#[derive(Drop)]
+#[derive(Clone, Copy)]
 pub struct Replied {
     pub session: State,
     pub delivery: Delivery,
