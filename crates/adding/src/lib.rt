@@ -1,4 +1,6 @@
 // The public call that opens a recording behind what a reading has delivered.
+#![tactic(auto)]
+
 ghost use Rattle.std.specs.Prelude.{◌≡◌};
 ghost use Rattle.recording.specs.Recording.{outcome_said};
 ghost use Rattle.recording_state.specs.Open.{open_refused};

@@ -1,4 +1,6 @@
 // Opening a recording behind what a reading has delivered, on the states of both sessions.
+#![tactic(auto)]
+
 ghost use Rattle.std.specs.Prelude.{◌≡◌};
 ghost use Rattle.recording_state.specs.State.{outcome_said};
 ghost use Rattle.adding_opening.specs.AtEnd.{ends_elsewhere, added_session, open_at_end_of};
@@ -39,6 +41,7 @@ fn added_session(setup: Setup, reading: reading_state::State) -> State
 
 // Opens a recording at the end of a reading, for a drive that buffers `depth` frames, with a window of `blocks` blocks and the last `tail`
 // frames kept for EOD. The reading is not used up.
+#[tactic(auto, unfolding(crate::specs::AtEnd::open_at_end_of))]
 pub fn open_at_end(reading: reading_state::State, depth: u8, blocks: u8, tail: u8) -> Outcome
     ensures { outcome_said result ≡ open_at_end_of reading depth blocks tail }
 {
