@@ -1,4 +1,6 @@
 // The shelf sheet of 02, Card 9: from the AUX fields of a reading's deliveries and of EOD, a line for each job.
+#![tactic(auto)]
+
 mod line;
 mod sheet;
 

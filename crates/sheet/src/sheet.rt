@@ -23,7 +23,7 @@ const TYPE_AT: u16 = 16;
 const NUMBER_AT: u16 = 44;
 
 // A sheet between two fields.
-#[derive(Drop)]
+#[derive(Clone, Copy)]
 pub struct Sheet {
     // The open job, from 1.
     pub job: u32,
@@ -34,7 +34,7 @@ pub struct Sheet {
 }
 
 // Nothing is to be printed, or the lent line is, or the call is refused.
-#[derive(Drop)]
+#[derive(Clone, Copy)]
 pub enum Answer {
     Nothing,
     Line,
@@ -42,14 +42,14 @@ pub enum Answer {
 }
 
 // The sheet after a call, and the call's answer.
-#[derive(Drop)]
+#[derive(Clone, Copy)]
 pub struct Entered {
     pub sheet: Sheet,
     pub answer: Answer,
 }
 
 // What a field is to the sheet.
-#[derive(Drop)]
+#[derive(Clone, Copy)]
 pub enum Entry {
     Block,
     Filemark,
