@@ -5,31 +5,37 @@ use edge_recorder::{
 };
 use reading::Reading;
 use recording::Recording;
+use std::io;
 
 // Opens an addition at the end of a reading, with a window of four blocks.
-pub fn add(reading: Reading) -> Recording {
-    session_of(open_at_end(reading, 16, 4, 0))
+pub fn add(rt: &impl Print, reading: Reading) -> io::Result<Recording> {
+    session_of(rt, open_at_end(reading, 16, 4, 0))
 }
 
 // A refused opening, and that the session it gives is ended.
-pub fn add_refused(reading: Reading, depth: u8, blocks: u8) {
-    look(session_of(open_at_end(reading, depth, blocks, 0)), b"");
+pub fn add_refused(rt: &impl Print, reading: Reading, depth: u8, blocks: u8) -> io::Result<()> {
+    look(
+        rt,
+        session_of(rt, open_at_end(reading, depth, blocks, 0))?,
+        b"",
+    )?;
+    Ok(())
 }
 
 // The headers, LOCATE, the one element that was accepted, and the close.
-fn play_one(session: Recording, window: &[u8]) {
-    let mut s = play_headers(session, window);
-    s = play_good(s, window, 2);
-    finish(s, window, 3);
+fn play_one(rt: &impl Print, session: Recording, window: &[u8]) -> io::Result<()> {
+    let mut s = play_headers(rt, session, window)?;
+    s = play_good(rt, s, window, 2)?;
+    finish(rt, s, window, 3)
 }
 
 // An addition of one block.
-pub fn add_block(reading: Reading, window: &mut [u8]) {
-    let s = accept_block(add(reading), window);
-    play_one(s, window);
+pub fn add_block(rt: &impl Print, reading: Reading, window: &mut [u8]) -> io::Result<()> {
+    let s = accept_block(rt, add(rt, reading)?, window)?;
+    play_one(rt, s, window)
 }
 
 // An addition of one filemark.
-pub fn add_filemark(reading: Reading, window: &[u8]) {
-    play_one(accept_filemark(add(reading)), window);
+pub fn add_filemark(rt: &impl Print, reading: Reading, window: &[u8]) -> io::Result<()> {
+    play_one(rt, accept_filemark(rt, add(rt, reading)?)?, window)
 }

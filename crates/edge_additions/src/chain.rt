@@ -5,41 +5,49 @@ use edge_output::print;
 use edge_reader::play_element;
 use frame::{Header, Kind};
 use reading::Reading;
+use std::io;
 
 // Up to the block that was added first.
-fn read_first(h: Header) -> Reading {
-    play_element(begun(h), Kind::Data, 2, 90)
+fn read_first(rt: &impl Print, h: Header) -> io::Result<Reading> {
+    play_element(rt, begun(rt, h)?, Kind::Data, 2, 90)
 }
 
 // Up to the filemark that was added next.
-fn read_second(h: Header) -> Reading {
-    play_element(read_first(h), Kind::Marker, 3, 0)
+fn read_second(rt: &impl Print, h: Header) -> io::Result<Reading> {
+    play_element(rt, read_first(rt, h)?, Kind::Marker, 3, 0)
 }
 
-fn add_first(window: &mut [u8]) {
-    add_block(read_two(newest_header(2, 12, 3)), window);
+fn add_first(rt: &impl Print, window: &mut [u8]) -> io::Result<()> {
+    add_block(rt, read_two(rt, newest_header(2, 12, 3))?, window)
 }
 
-fn add_second(window: &[u8]) {
-    let s = read_first(newest_header(2, 13, 5));
-    add_filemark(play_element(s, Kind::Eod, 3, 0), window);
+fn add_second(rt: &impl Print, window: &[u8]) -> io::Result<()> {
+    let s = read_first(rt, newest_header(2, 13, 5))?;
+    add_filemark(rt, play_element(rt, s, Kind::Eod, 3, 0)?, window)
 }
 
-fn add_third(window: &mut [u8]) {
-    let s = read_second(newest_header(2, 14, 7));
-    add_block(play_element(s, Kind::Eod, 4, 0), window);
+fn add_third(rt: &impl Print, window: &mut [u8]) -> io::Result<()> {
+    let s = read_second(rt, newest_header(2, 14, 7))?;
+    add_block(rt, play_element(rt, s, Kind::Eod, 4, 0)?, window)
 }
 
-fn read_all() {
-    let s = play_element(read_second(newest_header(2, 15, 9)), Kind::Data, 4, 90);
-    play_element(s, Kind::Eod, 5, 0);
+fn read_all(rt: &impl Print) -> io::Result<()> {
+    let s = play_element(
+        rt,
+        read_second(rt, newest_header(2, 15, 9))?,
+        Kind::Data,
+        4,
+        90,
+    )?;
+    play_element(rt, s, Kind::Eod, 5, 0)?;
+    Ok(())
 }
 
 // All of it.
-pub fn three_times(window: &mut [u8]) {
-    print(b"adding three times: block, filemark, block\n");
-    add_first(window);
-    add_second(window);
-    add_third(window);
-    read_all();
+pub fn three_times(rt: &impl Print, window: &mut [u8]) -> io::Result<()> {
+    print(rt, b"adding three times: block, filemark, block\n")?;
+    add_first(rt, window)?;
+    add_second(rt, window)?;
+    add_third(rt, window)?;
+    read_all(rt)
 }

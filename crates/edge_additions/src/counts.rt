@@ -2,15 +2,23 @@
 use crate::calls::{add_block, add_refused};
 use crate::readings::{newest_header, read_none, read_two};
 use edge_output::print;
+use std::io;
 
 // One more addition has room in both counts.
-pub fn highest(window: &mut [u8]) {
-    print(b"adding with pass 65,534 and update count 4,294,967,293\n");
-    add_block(read_two(newest_header(65534, 12, 4294967293)), window);
+pub fn highest(rt: &impl Print, window: &mut [u8]) -> io::Result<()> {
+    print(
+        rt,
+        b"adding with pass 65,534 and update count 4,294,967,293\n",
+    )?;
+    add_block(
+        rt,
+        read_two(rt, newest_header(65534, 12, 4294967293))?,
+        window,
+    )
 }
 
 // The update count can go no higher.
-pub fn exhausted() {
-    print(b"adding with update count 4,294,967,294\n");
-    add_refused(read_none(newest_header(3, 10, 4294967294)), 16, 4);
+pub fn exhausted(rt: &impl Print) -> io::Result<()> {
+    print(rt, b"adding with update count 4,294,967,294\n")?;
+    add_refused(rt, read_none(rt, newest_header(3, 10, 4294967294))?, 16, 4)
 }

@@ -7,30 +7,35 @@ use edge_recorder::{accept_block, finish, play, play_good, play_headers};
 use frame::{Header, Kind};
 use geometry::Address;
 use recording::Recording;
+use std::io;
 
 // An error at 12 with skip 2.
-fn play_failing(session: Recording, window: &[u8]) {
-    let mut s = play_headers(session, window);
-    s = play_good(s, window, 2);
-    s = play(s, window, write_error(12, 2));
-    s = play_good(s, window, 2);
-    finish(s, window, 3);
+fn play_failing(rt: &impl Print, session: Recording, window: &[u8]) -> io::Result<()> {
+    let mut s = play_headers(rt, session, window)?;
+    s = play_good(rt, s, window, 2)?;
+    s = play(rt, s, window, write_error(12, 2))?;
+    s = play_good(rt, s, window, 2)?;
+    finish(rt, s, window, 3)
 }
 
 // 12 reads as the old EOD, 13 as nothing.
-fn read_past() {
-    let mut s = play_element(begun(newest_header(3, 15, 6)), Kind::Eod, 2, 0);
-    s = play_unreadable(s);
-    s = play_element(s, Kind::Data, 2, 90);
-    play_element(s, Kind::Eod, 3, 0);
+fn read_past(rt: &impl Print) -> io::Result<()> {
+    let mut s = play_element(rt, begun(rt, newest_header(3, 15, 6))?, Kind::Eod, 2, 0)?;
+    s = play_unreadable(rt, s)?;
+    s = play_element(rt, s, Kind::Data, 2, 90)?;
+    play_element(rt, s, Kind::Eod, 3, 0)?;
+    Ok(())
 }
 
 // One block, which goes to 14, and the reading of the cartridge.
-pub fn still_reads(window: &mut [u8]) {
-    print(b"adding at 12: the write there fails, and the old EOD still reads\n");
-    let s = accept_block(add(read_two(newest_header(3, 12, 4))), window);
-    play_failing(s, window);
-    read_past();
+pub fn still_reads(rt: &impl Print, window: &mut [u8]) -> io::Result<()> {
+    print(
+        rt,
+        b"adding at 12: the write there fails, and the old EOD still reads\n",
+    )?;
+    let s = accept_block(rt, add(rt, read_two(rt, newest_header(3, 12, 4))?)?, window)?;
+    play_failing(rt, s, window)?;
+    read_past(rt)
 }
 
 // The opening header of an addition at 11.
@@ -43,11 +48,16 @@ fn opening_header() -> Header {
 }
 
 // EODs are judged by the old end where the header names no EOD.
-pub fn named_by_opening_header() {
+pub fn named_by_opening_header(rt: &impl Print) -> io::Result<()> {
     print(
+        rt,
         b"reading: an EOD below the old end that an opening header names, one with a number above\n",
-    );
-    let s = play_element(located(opening_header()), Kind::Eod, 0, 0);
-    play_element(s, Kind::Eod, 0, 0);
-    look(play_element(located(opening_header()), Kind::Eod, 1, 0));
+    )?;
+    let s = play_element(rt, located(rt, opening_header())?, Kind::Eod, 0, 0)?;
+    play_element(rt, s, Kind::Eod, 0, 0)?;
+    look(
+        rt,
+        play_element(rt, located(rt, opening_header())?, Kind::Eod, 1, 0)?,
+    )?;
+    Ok(())
 }

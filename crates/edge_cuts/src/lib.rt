@@ -1,18 +1,21 @@
 // What sessions leave that were cut short: readings on the headers that are left, and additions at the ends found, played and printed.
+#![tactic(auto)]
+
 mod additions;
 mod passed_over;
 
 use frame::DATA_LENGTH;
+use std::io;
 
 // The addition that is accepted has a window of four blocks.
-pub fn play_all() {
+pub fn play_all(rt: &impl Print) -> io::Result<()> {
     let window = [0u8; 4 * DATA_LENGTH];
-    additions::behind_opening_headers();
-    additions::behind_element();
-    additions::at_last();
-    additions::behind_failed_write();
-    additions::behind_eod();
-    additions::behind_closing_copy(&window);
-    passed_over::fresh();
-    passed_over::given_up();
+    additions::behind_opening_headers(rt)?;
+    additions::behind_element(rt)?;
+    additions::at_last(rt)?;
+    additions::behind_failed_write(rt)?;
+    additions::behind_eod(rt)?;
+    additions::behind_closing_copy(rt, &window)?;
+    passed_over::fresh(rt)?;
+    passed_over::given_up(rt)
 }

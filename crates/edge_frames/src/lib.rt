@@ -1,4 +1,6 @@
 // Recordings whose frames are counted and set beside the most that the drive can take, played and printed.
+#![tactic(auto)]
+
 mod element_errors;
 mod header_errors;
 mod most;
@@ -6,39 +8,40 @@ mod runs;
 mod tally;
 
 use frame::DATA_LENGTH;
+use std::io;
 
-fn play_three_blocks(window: &[u8]) {
-    element_errors::both_outstanding(window);
-    element_errors::told_at_write(window);
-    element_errors::eod_alone(window);
+fn play_three_blocks(rt: &impl Print, window: &[u8]) -> io::Result<()> {
+    element_errors::both_outstanding(rt, window)?;
+    element_errors::told_at_write(rt, window)?;
+    element_errors::eod_alone(rt, window)
 }
 
-fn three_blocks() {
+fn three_blocks(rt: &impl Print) -> io::Result<()> {
     let window = [0u8; 3 * DATA_LENGTH];
-    play_three_blocks(&window);
+    play_three_blocks(rt, &window)
 }
 
-fn two_blocks() {
+fn two_blocks(rt: &impl Print) -> io::Result<()> {
     let window = [0u8; 2 * DATA_LENGTH];
-    element_errors::two_blocks(&window);
+    element_errors::two_blocks(rt, &window)
 }
 
-fn play_widest(window: &[u8]) {
-    element_errors::one_outstanding(window);
-    element_errors::all_outstanding(window);
-    header_errors::first_of_five(window);
-    header_errors::first_of_one(window);
+fn play_widest(rt: &impl Print, window: &[u8]) -> io::Result<()> {
+    element_errors::one_outstanding(rt, window)?;
+    element_errors::all_outstanding(rt, window)?;
+    header_errors::first_of_five(rt, window)?;
+    header_errors::first_of_one(rt, window)
 }
 
-fn widest() {
+fn widest(rt: &impl Print) -> io::Result<()> {
     let window = [0u8; 64 * DATA_LENGTH];
-    play_widest(&window);
+    play_widest(rt, &window)
 }
 
 // Each part with windows of one width.
-pub fn play_all() {
-    three_blocks();
-    two_blocks();
-    widest();
-    most::print_all();
+pub fn play_all(rt: &impl Print) -> io::Result<()> {
+    three_blocks(rt)?;
+    two_blocks(rt)?;
+    widest(rt)?;
+    most::print_all(rt)
 }

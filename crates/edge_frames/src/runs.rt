@@ -5,9 +5,10 @@ use edge_output::{cartridge, good, print, print_long, print_number, write_error}
 use edge_recorder::{accept_filemark, close, fetch, look, session_of};
 use frame_bounds::{frames_sent_at_most, header_frames_sent_at_most};
 use recording::{Recording, Stage};
+use std::io;
 
 // A recording, and what its replies have told so far.
-#[derive(Drop)]
+#[derive(Clone, Copy)]
 pub struct Run {
     pub session: Recording,
     // Of elements and EOD.
@@ -15,32 +16,35 @@ pub struct Run {
     pub headers: Tally,
 }
 
-fn accept_filemarks(session: Recording, n: u8) -> Recording {
+fn accept_filemarks(rt: &impl Print, session: Recording, n: u8) -> io::Result<Recording> {
     let mut s = session;
     for _ in 0..n {
-        s = accept_filemark(s);
+        s = accept_filemark(rt, s)?;
     }
-    s
+    Ok(s)
 }
 
 // Prints a title, opens a recording for a drive that buffers so many frames, with a window of so many blocks, and brings it n filemarks.
-pub fn open(title: &[u8], depth: u8, blocks: u8, n: u8) -> Run {
-    print(title);
-    let opened = session_of(Recording::open_blank(cartridge(1000, 12), depth, blocks, 0));
-    Run {
-        session: accept_filemarks(opened, n),
+pub fn open(rt: &impl Print, title: &[u8], depth: u8, blocks: u8, n: u8) -> io::Result<Run> {
+    print(rt, title)?;
+    let opened = session_of(
+        rt,
+        Recording::open_blank(cartridge(1000, 12), depth, blocks, 0),
+    )?;
+    Ok(Run {
+        session: accept_filemarks(rt, opened, n)?,
         elements: Tally::none(),
         headers: Tally::none(),
-    }
+    })
 }
 
 // Another n filemarks, and close.
-pub fn closed_behind(run: Run, n: u8) -> Run {
+pub fn closed_behind(rt: &impl Print, run: Run, n: u8) -> io::Result<Run> {
     let session = run.session;
-    Run {
-        session: close(accept_filemarks(session, n)),
+    Ok(Run {
+        session: close(rt, accept_filemarks(rt, session, n)?)?,
         ..run
-    }
+    })
 }
 
 // The run goes on with this session; the reply that led to it came in a stage, and is given by its command and its meaning.
@@ -73,31 +77,43 @@ fn command_of(session: Recording) -> Command {
 }
 
 // Fetches a command, prints it if it is to be shown, and brings a reply to it.
-pub fn exchange(run: Run, window: &[u8], reply: Reply, shown: bool) -> Run {
+pub fn exchange(
+    rt: &impl Print,
+    run: Run,
+    window: &[u8],
+    reply: Reply,
+    shown: bool,
+) -> io::Result<Run> {
     let before = run.session;
-    let sent = fetch(before, window, shown);
+    let sent = fetch(rt, before, window, shown)?;
     let case = case_of(command_of(sent), reply);
-    counted(run, session_of(sent.reply(reply)), stage_of(before), case)
+    Ok(counted(
+        run,
+        session_of(rt, sent.reply(reply))?,
+        stage_of(before),
+        case,
+    ))
 }
 
 // n commands, each answered good with nothing buffered.
-pub fn play_good(run: Run, window: &[u8], n: u8, shown: bool) -> Run {
+pub fn play_good(rt: &impl Print, run: Run, window: &[u8], n: u8, shown: bool) -> io::Result<Run> {
     let mut r = run;
     for _ in 0..n {
-        r = exchange(r, window, good(0), shown);
+        r = exchange(rt, r, window, good(0), shown)?;
     }
-    r
+    Ok(r)
 }
 
 // n commands answered good, a write error at p, and the LOCATE behind it.
-pub fn play_error(run: Run, window: &[u8], n: u8, p: u32) -> Run {
+pub fn play_error(rt: &impl Print, run: Run, window: &[u8], n: u8, p: u32) -> io::Result<Run> {
     let r = exchange(
-        play_good(run, window, n, true),
+        rt,
+        play_good(rt, run, window, n, true)?,
         window,
         write_error(p, 1),
         true,
-    );
-    play_good(r, window, 1, true)
+    )?;
+    play_good(rt, r, window, 1, true)
 }
 
 // The commands of ten header copies but the first LOCATE and WRITE: a READ POSITION follows each D copies of a group and its last.
@@ -111,9 +127,10 @@ fn behind_first_copy(depth: u8) -> u8 {
 }
 
 // The ten header copies, of which the first is printed.
-fn play_headers(run: Run, window: &[u8]) -> Run {
-    let r = play_good(run, window, 2, true);
+fn play_headers(rt: &impl Print, run: Run, window: &[u8]) -> io::Result<Run> {
+    let r = play_good(rt, run, window, 2, true)?;
     play_good(
+        rt,
         r,
         window,
         behind_first_copy(run.session.state.setup.depth),
@@ -122,30 +139,30 @@ fn play_headers(run: Run, window: &[u8]) -> Run {
 }
 
 // The opening headers and LOCATE 10.
-pub fn play_opening(run: Run, window: &[u8]) -> Run {
-    play_good(play_headers(run, window), window, 1, true)
+pub fn play_opening(rt: &impl Print, run: Run, window: &[u8]) -> io::Result<Run> {
+    play_good(rt, play_headers(rt, run, window)?, window, 1, true)
 }
 
-fn print_of_most(text: &[u8], frames: u32, most: u64) {
-    print_number(text, frames);
-    print_long(b" of at most ", most);
-    print(b"\n");
+fn print_of_most(rt: &impl Print, text: &[u8], frames: u32, most: u64) -> io::Result<()> {
+    print_number(rt, text, frames)?;
+    print_long(rt, b" of at most ", most)?;
+    print(rt, b"\n")
 }
 
-fn print_counts(run: Run, n: u32) {
+fn print_counts(rt: &impl Print, run: Run, n: u32) -> io::Result<()> {
     let setup = run.session.state.setup;
     let depth = setup.depth as u32;
     let elements = run.elements;
     let headers = run.headers;
     let most = frames_sent_at_most(n, elements.errors, depth, (setup.highest as u32) + 1);
-    print_of_most(b"frames ", elements.frames, most);
+    print_of_most(rt, b"frames ", elements.frames, most)?;
     let most_headers = header_frames_sent_at_most(headers.errors, depth);
-    print_of_most(b"header frames ", headers.frames, most_headers);
+    print_of_most(rt, b"header frames ", headers.frames, most_headers)
 }
 
 // n commands up to the closing headers, these, done, and what was counted, for so many elements.
-pub fn finish(run: Run, window: &[u8], n: u8, elements: u32) {
-    let r = play_headers(play_good(run, window, n, true), window);
-    look(r.session, window);
-    print_counts(r, elements);
+pub fn finish(rt: &impl Print, run: Run, window: &[u8], n: u8, elements: u32) -> io::Result<()> {
+    let r = play_headers(rt, play_good(rt, run, window, n, true)?, window)?;
+    look(rt, r.session, window)?;
+    print_counts(rt, r, elements)
 }

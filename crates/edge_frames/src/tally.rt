@@ -3,7 +3,7 @@ use drive::{POSITION_FAILED, WRITE_FAILED, WRITE_GOOD};
 use std::num::wrapping_add_u32;
 
 // Frames and errors of one kind, of elements or of headers.
-#[derive(Drop)]
+#[derive(Clone, Copy)]
 pub struct Tally {
     // WRITEs that the drive took: those answered good.
     pub frames: u32,

@@ -5,6 +5,7 @@ use drive::Command;
 use frame::{
     AUX_START, DATA_TYPE, EOD_TYPE, HEADER_TYPE, KIND_AT, MARKER_TYPE, NO_MARKER, OLD_AT, UPDATE_AT,
 };
+use std::io;
 
 // Where fields stand in the frame: a header's pass and EOD address in its data, the others in the AUX.
 const HEADER_PASS_AT: u16 = 22;
@@ -20,54 +21,58 @@ const FILEMARKS_AT: u16 = AUX_START + 192;
 const MARKER_AT: u16 = AUX_START + 200;
 
 // A pass other than 1.
-fn print_pass(pass: u16) {
+fn print_pass(rt: &impl Print, pass: u16) -> io::Result<()> {
     if pass != 1 {
-        print_number(b", pass ", pass as u32);
+        print_number(rt, b", pass ", pass as u32)?;
     }
+    Ok(())
 }
 
 // The number and pass of an element or EOD, the filemarks before it and the latest marker's address.
-fn print_element(name: &[u8], frame: &[u8]) {
-    print_number(name, be32_at(frame, SEQ_AT));
-    print_pass(be16_at(frame, PASS_AT));
-    print_number(b", filemarks ", be32_at(frame, FILEMARKS_AT));
+fn print_element(rt: &impl Print, name: &[u8], frame: &[u8]) -> io::Result<()> {
+    print_number(rt, name, be32_at(frame, SEQ_AT))?;
+    print_pass(rt, be16_at(frame, PASS_AT))?;
+    print_number(rt, b", filemarks ", be32_at(frame, FILEMARKS_AT))?;
     let marker = be32_at(frame, MARKER_AT);
     if marker != NO_MARKER {
-        print_number(b", latest at ", marker);
+        print_number(rt, b", latest at ", marker)?;
     }
+    Ok(())
 }
 
-fn print_header(frame: &[u8]) {
-    print(b" header");
-    print_pass(be16_at(frame, HEADER_PASS_AT));
-    print_number(b", count ", be32_at(frame, UPDATE_AT));
-    print_number(b", EOD ", be32_at(frame, EOD_AT));
+fn print_header(rt: &impl Print, frame: &[u8]) -> io::Result<()> {
+    print(rt, b" header")?;
+    print_pass(rt, be16_at(frame, HEADER_PASS_AT))?;
+    print_number(rt, b", count ", be32_at(frame, UPDATE_AT))?;
+    print_number(rt, b", EOD ", be32_at(frame, EOD_AT))
 }
 
 // An old end other than 0, in a frame of any kind.
-fn print_old(frame: &[u8]) {
+fn print_old(rt: &impl Print, frame: &[u8]) -> io::Result<()> {
     let old = be32_at(frame, OLD_AT);
     if old != 0 {
-        print_number(b", old end ", old);
+        print_number(rt, b", old end ", old)?;
     }
+    Ok(())
 }
 
 // The kind of a frame and what it holds.
-fn print_frame(frame: &[u8]) {
+fn print_frame(rt: &impl Print, frame: &[u8]) -> io::Result<()> {
     match be16_at(frame, KIND_AT) {
-        HEADER_TYPE => print_header(frame),
-        DATA_TYPE => print_element(b" block ", frame),
-        MARKER_TYPE => print_element(b" filemark ", frame),
-        EOD_TYPE => print_element(b" EOD ", frame),
-        _ => print_element(b" ", frame),
+        HEADER_TYPE => print_header(rt, frame)?,
+        DATA_TYPE => print_element(rt, b" block ", frame)?,
+        MARKER_TYPE => print_element(rt, b" filemark ", frame)?,
+        EOD_TYPE => print_element(rt, b" EOD ", frame)?,
+        _ => print_element(rt, b" ", frame)?,
     }
-    print_old(frame);
+    print_old(rt, frame)
 }
 
 // A command, with what a WRITE's frame holds.
-pub fn print_sent(c: Command, frame: &[u8]) {
-    print_command(c);
+pub fn print_sent(rt: &impl Print, c: Command, frame: &[u8]) -> io::Result<()> {
+    print_command(rt, c)?;
     if let Command::Write(_) = c {
-        print_frame(frame);
+        print_frame(rt, frame)?;
     }
+    Ok(())
 }

@@ -1,4 +1,6 @@
 // What the played recordings and readings print with, the replies that they bring and the cartridges that they are opened on.
+#![tactic(auto)]
+
 mod frames;
 mod printing;
 mod replies;

@@ -1,4 +1,6 @@
 // The calls of a reading, each with what it prints: a command with the sense triple of its reply and what that delivers.
+#![tactic(auto)]
+
 mod opening;
 mod plays;
 

@@ -6,51 +6,53 @@ use frame::{FRAME_LENGTH, Header, UPDATE_AT};
 use geometry::Verdict;
 use header_building::build_header;
 use header_choice::{choice_verdict, choose};
+use std::io;
 
 // Openings that are refused.
-pub fn openings() {
-    print(b"headers: another name, 3,000 frames, a short one\n");
+pub fn openings(rt: &impl Print) -> io::Result<()> {
+    print(rt, b"headers: another name, 3,000 frames, a short one\n")?;
     let g = cartridge(1000, 12);
-    look(open_named(g, header(11999, 1, 16, 1), b'X'));
-    look(open_on(cartridge(3000, 1), header(2999, 1, 16, 1)));
-    look(open_short(g));
+    look(rt, open_named(rt, g, header(11999, 1, 16, 1), b'X')?)?;
+    look(rt, open_on(rt, cartridge(3000, 1), header(2999, 1, 16, 1))?)?;
+    look(rt, open_short(rt, g)?)?;
+    Ok(())
 }
 
-fn print_choice<'a>(first: &'a [u8], second: &'a [u8]) {
+fn print_choice<'a>(rt: &impl Print, first: &'a [u8], second: &'a [u8]) -> io::Result<()> {
     let g = cartridge(1000, 12);
     let verdict = choice_verdict(g, first, second);
     match verdict {
-        Verdict::Accepted => print(b"accepted"),
-        Verdict::Refused(r) => print_refusal(r),
+        Verdict::Accepted => print(rt, b"accepted")?,
+        Verdict::Refused(r) => print_refusal(rt, r)?,
     }
     let chosen = choose(g, first, second);
     if chosen.len() == 0 {
-        print(b", empty part\n");
-        return;
+        return print(rt, b", empty part\n");
     }
-    print_number(b", update count ", be32_at(chosen, UPDATE_AT));
-    print(b"\n");
+    print_number(rt, b", update count ", be32_at(chosen, UPDATE_AT))?;
+    print(rt, b"\n")
 }
 
 // The choice of two headers, the second with this byte in its name.
-fn compare(first: Header, second: Header, byte: u8) {
+fn compare(rt: &impl Print, first: Header, second: Header, byte: u8) -> io::Result<()> {
     let mut one = [0u8; FRAME_LENGTH];
     let mut other = [0u8; FRAME_LENGTH];
     build_header(&mut one, first);
     build_header(&mut other, second);
     other[6] = byte;
-    print_choice(&one, &other);
+    print_choice(rt, &one, &other)
 }
 
 // Choices between two headers.
-pub fn choices() {
+pub fn choices(rt: &impl Print) -> io::Result<()> {
     print(
+        rt,
         b"headers: the higher update count, in both orders; one invalid; one count, unlike data\n",
-    );
+    )?;
     let older = header(11999, 1, 16, 1);
     let newer = header(11999, 2, 16, 2);
-    compare(older, newer, b'Q');
-    compare(newer, older, b'Q');
-    compare(older, newer, b'X');
-    compare(older, header(11999, 2, 16, 1), b'Q');
+    compare(rt, older, newer, b'Q')?;
+    compare(rt, newer, older, b'Q')?;
+    compare(rt, older, newer, b'X')?;
+    compare(rt, older, header(11999, 2, 16, 1), b'Q')
 }

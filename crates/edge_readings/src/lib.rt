@@ -1,4 +1,6 @@
 // Readings, refused openings and choices of headers, played and printed.
+#![tactic(auto)]
+
 mod headers;
 mod readings;
 

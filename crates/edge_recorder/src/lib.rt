@@ -1,4 +1,6 @@
 // The calls of a recording, each with what it prints: a command, and of a WRITE the AUX fields of its frame.
+#![tactic(auto)]
+
 mod plays;
 
 pub use plays::{

@@ -4,144 +4,212 @@ use edge_output::{good, print, print_refusal, print_refused, print_sent, write_e
 use frame::{DATA_LENGTH, FRAME_LENGTH};
 use geometry::Geometry;
 use recording::{Answer, Outcome, Recording};
+use std::io;
 
 // The session of an outcome.
-pub fn session_of(o: Outcome) -> Recording {
+pub fn session_of(rt: &impl Print, o: Outcome) -> io::Result<Recording> {
     let verdict = o.verdict;
-    print_refused(verdict);
+    print_refused(rt, verdict)?;
     let session = o.session;
-    session
+    Ok(session)
 }
 
 // Prints a title and opens a recording with a window of so many blocks and a tail of so many frames.
-pub fn open_tailed(title: &[u8], g: Geometry, blocks: u8, tail: u8) -> Recording {
-    print(title);
-    session_of(Recording::open_blank(g, 16, blocks, tail))
+pub fn open_tailed(
+    rt: &impl Print,
+    title: &[u8],
+    g: Geometry,
+    blocks: u8,
+    tail: u8,
+) -> io::Result<Recording> {
+    print(rt, title)?;
+    session_of(rt, Recording::open_blank(g, 16, blocks, tail))
 }
 
 // The same with no tail.
-pub fn open(title: &[u8], g: Geometry, blocks: u8) -> Recording {
-    open_tailed(title, g, blocks, 0)
+pub fn open(rt: &impl Print, title: &[u8], g: Geometry, blocks: u8) -> io::Result<Recording> {
+    open_tailed(rt, title, g, blocks, 0)
 }
 
 // Accepts a filemark.
-pub fn accept_filemark(session: Recording) -> Recording {
-    session_of(session.accept_filemark())
+pub fn accept_filemark(rt: &impl Print, session: Recording) -> io::Result<Recording> {
+    session_of(rt, session.accept_filemark())
 }
 
 // Closes.
-pub fn close(session: Recording) -> Recording {
-    session_of(session.close())
+pub fn close(rt: &impl Print, session: Recording) -> io::Result<Recording> {
+    session_of(rt, session.close())
 }
 
 // Accepts a block.
-pub fn accept_block(session: Recording, window: &mut [u8]) -> Recording {
+pub fn accept_block(
+    rt: &impl Print,
+    session: Recording,
+    window: &mut [u8],
+) -> io::Result<Recording> {
     let block = [0x5Au8; DATA_LENGTH];
-    session_of(session.accept_block(&block, window))
+    session_of(rt, session.accept_block(&block, window))
 }
 
 // Accepts n blocks.
-pub fn accept_blocks(session: Recording, window: &mut [u8], n: u8) -> Recording {
+pub fn accept_blocks(
+    rt: &impl Print,
+    session: Recording,
+    window: &mut [u8],
+    n: u8,
+) -> io::Result<Recording> {
     let mut s = session;
     for _ in 0..n {
-        s = accept_block(s, window);
+        s = accept_block(rt, s, window)?;
     }
-    s
+    Ok(s)
 }
 
-fn print_answer(answer: Answer, frame: &[u8]) {
+fn print_answer(rt: &impl Print, answer: Answer, frame: &[u8]) -> io::Result<()> {
     match answer {
-        Answer::Command(c) => print_sent(c, frame),
-        Answer::Idle => print(b"idle"),
-        Answer::Done => print(b"done"),
-        Answer::Refused(r) => print_refusal(r),
+        Answer::Command(c) => print_sent(rt, c, frame)?,
+        Answer::Idle => print(rt, b"idle")?,
+        Answer::Done => print(rt, b"done")?,
+        Answer::Refused(r) => print_refusal(rt, r)?,
     }
-    print(b"\n");
+    print(rt, b"\n")
 }
 
 // Fetches, and prints what is to be shown.
-pub fn fetch(session: Recording, window: &[u8], shown: bool) -> Recording {
+pub fn fetch(
+    rt: &impl Print,
+    session: Recording,
+    window: &[u8],
+    shown: bool,
+) -> io::Result<Recording> {
     let mut frame = [0u8; FRAME_LENGTH];
     let fetched = session.fetch(window, &mut frame);
     let answer = fetched.answer;
     if shown {
-        print_answer(answer, &frame);
+        print_answer(rt, answer, &frame)?;
     }
     let next = fetched.session;
-    next
+    Ok(next)
 }
 
 // Fetches and prints.
-pub fn look(session: Recording, window: &[u8]) -> Recording {
-    fetch(session, window, true)
+pub fn look(rt: &impl Print, session: Recording, window: &[u8]) -> io::Result<Recording> {
+    fetch(rt, session, window, true)
 }
 
 // Fetches a command and brings a reply to it.
-fn exchange(session: Recording, window: &[u8], reply: Reply, shown: bool) -> Recording {
-    let sent = fetch(session, window, shown);
-    session_of(sent.reply(reply))
+fn exchange(
+    rt: &impl Print,
+    session: Recording,
+    window: &[u8],
+    reply: Reply,
+    shown: bool,
+) -> io::Result<Recording> {
+    let sent = fetch(rt, session, window, shown)?;
+    session_of(rt, sent.reply(reply))
 }
 
 // Fetches and prints a command, and brings a reply to it.
-pub fn play(session: Recording, window: &[u8], reply: Reply) -> Recording {
-    exchange(session, window, reply, true)
+pub fn play(
+    rt: &impl Print,
+    session: Recording,
+    window: &[u8],
+    reply: Reply,
+) -> io::Result<Recording> {
+    exchange(rt, session, window, reply, true)
 }
 
 // n commands, each answered good with nothing buffered.
-fn run_good(session: Recording, window: &[u8], n: u8, shown: bool) -> Recording {
+fn run_good(
+    rt: &impl Print,
+    session: Recording,
+    window: &[u8],
+    n: u8,
+    shown: bool,
+) -> io::Result<Recording> {
     let mut s = session;
     for _ in 0..n {
-        s = exchange(s, window, good(0), shown);
+        s = exchange(rt, s, window, good(0), shown)?;
     }
-    s
+    Ok(s)
 }
 
 // Plays n commands, each answered good with nothing buffered.
-pub fn play_good(session: Recording, window: &[u8], n: u8) -> Recording {
-    run_good(session, window, n, true)
+pub fn play_good(
+    rt: &impl Print,
+    session: Recording,
+    window: &[u8],
+    n: u8,
+) -> io::Result<Recording> {
+    run_good(rt, session, window, n, true)
 }
 
 // The same, not printed.
-fn skip_good(session: Recording, window: &[u8], n: u8) -> Recording {
-    run_good(session, window, n, false)
+fn skip_good(rt: &impl Print, session: Recording, window: &[u8], n: u8) -> io::Result<Recording> {
+    run_good(rt, session, window, n, false)
 }
 
 // LOCATE and WRITE, then a write error at that address.
-fn fail(session: Recording, window: &[u8], p: u32, skip: u8, shown: bool) -> Recording {
-    let s = run_good(session, window, 2, shown);
-    exchange(s, window, write_error(p, skip), shown)
+fn fail(
+    rt: &impl Print,
+    session: Recording,
+    window: &[u8],
+    p: u32,
+    skip: u8,
+    shown: bool,
+) -> io::Result<Recording> {
+    let s = run_good(rt, session, window, 2, shown)?;
+    exchange(rt, s, window, write_error(p, skip), shown)
 }
 
 // The same n times with skip 255, from address 10 on.
-fn run_errors(session: Recording, window: &[u8], n: u8, shown: bool) -> Recording {
+fn run_errors(
+    rt: &impl Print,
+    session: Recording,
+    window: &[u8],
+    n: u8,
+    shown: bool,
+) -> io::Result<Recording> {
     let mut s = session;
     for k in 0..n {
-        s = fail(s, window, 10 + 255 * (k as u32), 255, shown);
+        s = fail(rt, s, window, 10 + 255 * (k as u32), 255, shown)?;
     }
-    s
+    Ok(s)
 }
 
 // n write errors with skip 255, from address 10 on, printed.
-pub fn play_errors(session: Recording, window: &[u8], n: u8) -> Recording {
-    run_errors(session, window, n, true)
+pub fn play_errors(
+    rt: &impl Print,
+    session: Recording,
+    window: &[u8],
+    n: u8,
+) -> io::Result<Recording> {
+    run_errors(rt, session, window, n, true)
 }
 
 // The same, and one more with another skip, not printed.
-pub fn skip_errors(session: Recording, window: &[u8], n: u8, skip: u8) -> Recording {
-    let s = run_errors(session, window, n, false);
-    fail(s, window, 10 + 255 * (n as u32), skip, false)
+pub fn skip_errors(
+    rt: &impl Print,
+    session: Recording,
+    window: &[u8],
+    n: u8,
+    skip: u8,
+) -> io::Result<Recording> {
+    let s = run_errors(rt, session, window, n, false)?;
+    fail(rt, s, window, 10 + 255 * (n as u32), skip, false)
 }
 
 // The ten header copies, of which the first is printed.
-pub fn play_headers(session: Recording, window: &[u8]) -> Recording {
-    let s = play_good(session, window, 2);
-    skip_good(s, window, 12)
+pub fn play_headers(rt: &impl Print, session: Recording, window: &[u8]) -> io::Result<Recording> {
+    let s = play_good(rt, session, window, 2)?;
+    skip_good(rt, s, window, 12)
 }
 
 // Close, n commands up to the closing headers, these, and done.
-pub fn finish(session: Recording, window: &[u8], n: u8) {
-    let mut s = close(session);
-    s = play_good(s, window, n);
-    s = play_headers(s, window);
-    look(s, window);
+pub fn finish(rt: &impl Print, session: Recording, window: &[u8], n: u8) -> io::Result<()> {
+    let mut s = close(rt, session)?;
+    s = play_good(rt, s, window, n)?;
+    s = play_headers(rt, s, window)?;
+    look(rt, s, window)?;
+    Ok(())
 }

@@ -4,43 +4,44 @@ use element_building::build_element;
 use frame::{AUX_LENGTH, DATA_LENGTH, Element, FRAME_LENGTH, Kind, NO_MARKER};
 use geometry::{Address, Seq};
 use sheet::{Answer, Entered, LINE_LENGTH, Sheet};
+use std::io;
 
 // The line that is to be printed, or that none is.
-fn print_entered(r: Entered, line: &[u8]) -> Sheet {
+fn print_entered(rt: &impl Print, r: Entered, line: &[u8]) -> io::Result<Sheet> {
     let answer = r.answer;
     match answer {
-        Answer::Nothing => print(b"nothing\n"),
-        Answer::Line => print(line),
+        Answer::Nothing => print(rt, b"nothing\n")?,
+        Answer::Line => print(rt, line)?,
         Answer::Refused(refusal) => {
-            print_refusal(refusal);
-            print(b"\n");
+            print_refusal(rt, refusal)?;
+            print(rt, b"\n")?;
         }
     }
-    r.sheet
+    Ok(r.sheet)
 }
 
-pub(crate) fn open() -> Sheet {
+pub(crate) fn open(rt: &impl Print) -> io::Result<Sheet> {
     let mut line = [0u8; LINE_LENGTH];
     let r = Sheet::open(&mut line);
-    print_entered(r, &line)
+    print_entered(rt, r, &line)
 }
 
 // An opening with a line that is one byte short.
-pub(crate) fn open_short() -> Sheet {
+pub(crate) fn open_short(rt: &impl Print) -> io::Result<Sheet> {
     let mut line = [0u8; LINE_LENGTH - 1];
     let r = Sheet::open(&mut line);
-    print_entered(r, &line)
+    print_entered(rt, r, &line)
 }
 
 // A field, with a line of its own.
-fn enter_field(s: Sheet, aux: &[u8]) -> Sheet {
+fn enter_field(rt: &impl Print, s: Sheet, aux: &[u8]) -> io::Result<Sheet> {
     let mut line = [0u8; LINE_LENGTH];
     let r = s.enter(aux, &mut line);
-    print_entered(r, &line)
+    print_entered(rt, r, &line)
 }
 
 // The AUX field of a frame of this kind and number.
-pub(crate) fn enter(s: Sheet, kind: Kind, number: u32) -> Sheet {
+pub(crate) fn enter(rt: &impl Print, s: Sheet, kind: Kind, number: u32) -> io::Result<Sheet> {
     let element = Element {
         kind: kind,
         pass: 1,
@@ -52,17 +53,17 @@ pub(crate) fn enter(s: Sheet, kind: Kind, number: u32) -> Sheet {
     let block = [0u8; DATA_LENGTH];
     let mut frame = [0u8; FRAME_LENGTH];
     build_element(&mut frame, element, &block);
-    enter_field(s, &frame[DATA_LENGTH..])
+    enter_field(rt, s, &frame[DATA_LENGTH..])
 }
 
 // A field that is one byte short.
-pub(crate) fn enter_short(s: Sheet) -> Sheet {
+pub(crate) fn enter_short(rt: &impl Print, s: Sheet) -> io::Result<Sheet> {
     let aux = [0u8; AUX_LENGTH - 1];
-    enter_field(s, &aux)
+    enter_field(rt, s, &aux)
 }
 
-pub(crate) fn finish(s: Sheet) -> Sheet {
+pub(crate) fn finish(rt: &impl Print, s: Sheet) -> io::Result<Sheet> {
     let mut line = [0u8; LINE_LENGTH];
     let r = s.finish(&mut line);
-    print_entered(r, &line)
+    print_entered(rt, r, &line)
 }

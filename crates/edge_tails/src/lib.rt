@@ -1,29 +1,32 @@
 // Recordings that keep a tail for EOD, played and printed.
+#![tactic(auto)]
+
 mod finals;
 mod limits;
 mod start;
 
 use frame::DATA_LENGTH;
+use std::io;
 
-fn play_limits(window: &mut [u8]) {
-    limits::behind_gap(window);
-    limits::before_gap(window);
-    limits::closed_before(window);
-    limits::target_refused(window);
-    limits::target_at_limit(window);
-    limits::stale_target(window);
+fn play_limits(rt: &impl Print, window: &mut [u8]) -> io::Result<()> {
+    limits::behind_gap(rt, window)?;
+    limits::before_gap(rt, window)?;
+    limits::closed_before(rt, window)?;
+    limits::target_refused(rt, window)?;
+    limits::target_at_limit(rt, window)?;
+    limits::stale_target(rt, window)
 }
 
-fn play_finals(window: &mut [u8]) {
-    finals::target_above_end(window);
-    finals::eod_fails(window);
-    finals::tape_ends(window);
-    finals::no_tail(window);
+fn play_finals(rt: &impl Print, window: &mut [u8]) -> io::Result<()> {
+    finals::target_above_end(rt, window)?;
+    finals::eod_fails(rt, window)?;
+    finals::tape_ends(rt, window)?;
+    finals::no_tail(rt, window)
 }
 
 // Every one with a window of four blocks.
-pub fn play_all() {
+pub fn play_all(rt: &impl Print) -> io::Result<()> {
     let mut window = [0u8; 4 * DATA_LENGTH];
-    play_limits(&mut window);
-    play_finals(&mut window);
+    play_limits(rt, &mut window)?;
+    play_finals(rt, &mut window)
 }
