@@ -11,6 +11,7 @@ use recording_answers::AdrRecordOutcome;
 
 // Opens a recording at the end of a reading, which is not used up.
 #[unsafe(no_mangle)]
+#[tactic(auto, unfolding(crate::specs::Add::at_end_through))]
 pub extern "C" fn adr_record_open_at_end(
     reading: AdrReading,
     depth: u32,

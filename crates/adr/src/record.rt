@@ -52,6 +52,7 @@ pub extern "C" fn adr_record_open_blank(
 
 // Accepts a filemark.
 #[unsafe(no_mangle)]
+#[tactic(auto, unfolding(crate::specs::Record::through))]
 pub extern "C" fn adr_record_filemark(s: AdrRecording) -> AdrRecordOutcome
     ensures { result ≡ through filemark_of s }
 {
@@ -63,6 +64,7 @@ pub extern "C" fn adr_record_filemark(s: AdrRecording) -> AdrRecordOutcome
 
 // Accepts a block and copies it into the window.
 #[unsafe(no_mangle)]
+#[tactic(auto, unfolding(crate::specs::Record::block_through))]
 pub extern "C" fn adr_record_block(
     s: AdrRecording,
     block: &[u8],
@@ -78,6 +80,7 @@ pub extern "C" fn adr_record_block(
 
 // Ends the accepts; after a full tape gives up what is not on it.
 #[unsafe(no_mangle)]
+#[tactic(auto, unfolding(crate::specs::Record::through))]
 pub extern "C" fn adr_record_close(s: AdrRecording) -> AdrRecordOutcome
     ensures { result ≡ through close_of s }
 {
@@ -89,6 +92,7 @@ pub extern "C" fn adr_record_close(s: AdrRecording) -> AdrRecordOutcome
 
 // Brings the drive's reply.
 #[unsafe(no_mangle)]
+#[tactic(auto, unfolding(crate::specs::Record::through))]
 pub extern "C" fn adr_record_reply(s: AdrRecording, reply: AdrReply) -> AdrRecordOutcome
     ensures { result ≡ through (λ t. reply_of t (as_reply reply)) s }
 {
@@ -100,6 +104,7 @@ pub extern "C" fn adr_record_reply(s: AdrRecording, reply: AdrReply) -> AdrRecor
 
 // The next command of a recording, with the frame of a WRITE, or idle, or done.
 #[unsafe(no_mangle)]
+#[tactic(auto, unfolding(crate::specs::Record::fetch_through))]
 pub extern "C" fn adr_record_fetch(
     s: AdrRecording,
     window: &[u8],

@@ -16,6 +16,7 @@ pub extern "C" fn adr_sheet_open(line: &mut [u8]) -> AdrSheetEntered
 
 // The AUX field of the next delivery, or of EOD.
 #[unsafe(no_mangle)]
+#[tactic(auto, unfolding(crate::specs::Sheet::through))]
 pub extern "C" fn adr_sheet_enter(s: AdrSheet, aux: &[u8], line: &mut [u8]) -> AdrSheetEntered
     ensures { entered result line.new ≡ through (λ t. enter_of t aux.now) s line.old }
 {
@@ -27,6 +28,7 @@ pub extern "C" fn adr_sheet_enter(s: AdrSheet, aux: &[u8], line: &mut [u8]) -> A
 
 // No further field comes.
 #[unsafe(no_mangle)]
+#[tactic(auto, unfolding(crate::specs::Sheet::through))]
 pub extern "C" fn adr_sheet_finish(s: AdrSheet, line: &mut [u8]) -> AdrSheetEntered
     ensures { entered result line.new ≡ through finish_of s line.old }
 {

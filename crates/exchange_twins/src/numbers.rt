@@ -8,7 +8,7 @@ use geometry::Address;
 
 // A command: its operation code and its address, 0 for READ POSITION.
 #[repr(C)]
-#[derive(Drop)]
+#[derive(Clone, Copy)]
 pub struct AdrCommand {
     pub code: u8,
     pub address: u32,
@@ -16,7 +16,7 @@ pub struct AdrCommand {
 
 // An exchange: its command, and whether the reply is awaited and whether it is given once more, as flags.
 #[repr(C)]
-#[derive(Drop)]
+#[derive(Clone, Copy)]
 pub struct AdrExchange {
     pub command: AdrCommand,
     pub awaiting: u8,

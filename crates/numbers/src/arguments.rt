@@ -7,7 +7,7 @@ use geometry::{Address, Geometry, LoadPoint};
 
 // SEGTRK, TRKS, and the load point: 0 the beginning, 1 the centre.
 #[repr(C)]
-#[derive(Drop)]
+#[derive(Clone, Copy)]
 pub struct AdrGeometry {
     pub segtrk: u32,
     pub trks: u32,
@@ -15,7 +15,7 @@ pub struct AdrGeometry {
 }
 
 // D, W and T as an opening takes them.
-#[derive(Drop)]
+#[derive(Clone, Copy)]
 pub struct Sizes {
     pub depth: u8,
     pub blocks: u8,
@@ -24,7 +24,7 @@ pub struct Sizes {
 
 // What the host brings back of a command.
 #[repr(C)]
-#[derive(Drop)]
+#[derive(Clone, Copy)]
 pub struct AdrReply {
     pub buffered: u32,
     pub position: u32,
@@ -56,6 +56,7 @@ fn without_frames() -> Geometry
 
 impl AdrGeometry {
     // The geometry of these numbers.
+    #[tactic(auto, unfolding(crate::specs::Arguments::geometry_of))]
     pub fn geometry(self) -> Geometry
         ensures { result ≡ geometry_of self }
     {
@@ -121,6 +122,7 @@ impl AdrReply {
     }
 
     // The reply of these numbers. One with a skip that does not fit has a triple that means nothing: refusal 8.
+    #[tactic(auto, unfolding(crate::specs::Arguments::as_reply))]
     pub fn reply(self) -> Reply
         ensures { result ≡ as_reply self }
     {

@@ -1,4 +1,6 @@
 // What crosses to and from C beside the sessions, as numbers: geometries, sizes and replies as C gives them, places and choices, and the table of answers.
+#![tactic(auto)]
+
 mod answers;
 mod arguments;
 mod places;

@@ -9,7 +9,7 @@ use header_choice::Choice;
 
 // An address, or 0 and the number of the refusal.
 #[repr(C)]
-#[derive(Drop)]
+#[derive(Clone, Copy)]
 pub struct AdrPlace {
     pub address: u32,
     pub number: u8,
@@ -17,7 +17,7 @@ pub struct AdrPlace {
 
 // Which of two is the newer: 1 the first, 2 the second, or 0 and the number of the refusal.
 #[repr(C)]
-#[derive(Drop)]
+#[derive(Clone, Copy)]
 pub struct AdrChoice {
     pub which: u8,
     pub number: u8,

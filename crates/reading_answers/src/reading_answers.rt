@@ -11,7 +11,7 @@ use reading_twins::{AdrReading, reading_state_twin};
 
 // The session and the number of the refusal, 0 for none.
 #[repr(C)]
-#[derive(Drop)]
+#[derive(Clone, Copy)]
 pub struct AdrReadOpened {
     pub session: AdrReading,
     pub number: u8,
@@ -19,7 +19,7 @@ pub struct AdrReadOpened {
 
 // What a fetch answers: a command, the end, or refused with a number.
 #[repr(C)]
-#[derive(Drop)]
+#[derive(Clone, Copy)]
 pub struct AdrReadFetched {
     pub session: AdrReading,
     pub command: AdrCommand,
@@ -29,7 +29,7 @@ pub struct AdrReadFetched {
 
 // What a reply is answered: nothing, a block, a filemark, the end, or refused with a number.
 #[repr(C)]
-#[derive(Drop)]
+#[derive(Clone, Copy)]
 pub struct AdrReadReplied {
     pub session: AdrReading,
     pub answer: u8,

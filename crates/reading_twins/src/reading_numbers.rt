@@ -13,7 +13,7 @@ use reading_state::{Position, State};
 
 // What the header tells.
 #[repr(C)]
-#[derive(Drop)]
+#[derive(Clone, Copy)]
 pub struct AdrTold {
     pub last: u32,
     pub eod: u32,
@@ -24,7 +24,7 @@ pub struct AdrTold {
 
 // The next address, and whether a LOCATE of it comes first, as a flag.
 #[repr(C)]
-#[derive(Drop)]
+#[derive(Clone, Copy)]
 pub struct AdrPosition {
     pub next: u32,
     pub locate: u8,
@@ -32,7 +32,7 @@ pub struct AdrPosition {
 
 // A reading session's numbers. A host keeps them between calls and looks into none.
 #[repr(C)]
-#[derive(Drop)]
+#[derive(Clone, Copy)]
 pub struct AdrReading {
     pub told: AdrTold,
     pub position: AdrPosition,
@@ -44,6 +44,7 @@ pub struct AdrReading {
 }
 
 // Whether the numbers are a session's.
+#[tactic(auto, unfolding(crate::specs::Reading::is_reading))]
 pub fn is_reading(s: AdrReading) -> bool
     ensures { result ≡ is_reading s }
 {
@@ -80,6 +81,7 @@ pub fn reading_state_of(s: AdrReading) -> State
 }
 
 // A session's numbers.
+#[tactic(auto, unfolding(crate::specs::Reading::reading_state_twin))]
 pub fn reading_state_twin(s: State) -> AdrReading
     ensures { result ≡ reading_state_twin s }
 {

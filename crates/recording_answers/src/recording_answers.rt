@@ -13,7 +13,7 @@ use recording_twins::{AdrRecording, recording_state_twin};
 
 // The session and the number of the refusal, 0 for none.
 #[repr(C)]
-#[derive(Drop)]
+#[derive(Clone, Copy)]
 pub struct AdrRecordOutcome {
     pub session: AdrRecording,
     pub number: u8,
@@ -21,7 +21,7 @@ pub struct AdrRecordOutcome {
 
 // What a fetch answers: a command, idle, done, or refused with a number.
 #[repr(C)]
-#[derive(Drop)]
+#[derive(Clone, Copy)]
 pub struct AdrRecordFetched {
     pub session: AdrRecording,
     pub command: AdrCommand,

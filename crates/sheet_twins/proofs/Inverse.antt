@@ -13,7 +13,7 @@ sheet_back s = rw (flag_back s.ended)
 
 -- and its numbers are a sheet's
 sheet_known : (s : Sheet) → is_sheet (sheet_twin s) ≡ true
-sheet_known s = flag_known s.ended
+sheet_known s = cc (flag_known s.ended)
 
 -- numbers that are a sheet's come back from their sheet
 sheet_numbers_lem : (t : AdrSheet) → is_sheet t ≡ true → sheet_twin (sheet_of t) ≡ t

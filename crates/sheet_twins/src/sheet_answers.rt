@@ -11,7 +11,7 @@ use sheet::{Answer, Entered};
 
 // What a call answers: the lent line, nothing, or refused with a number.
 #[repr(C)]
-#[derive(Drop)]
+#[derive(Clone, Copy)]
 pub struct AdrSheetEntered {
     pub sheet: AdrSheet,
     pub answer: u8,

@@ -8,7 +8,7 @@ use sheet::Sheet;
 
 // A sheet's numbers. A host keeps them between calls and looks into none.
 #[repr(C)]
-#[derive(Drop)]
+#[derive(Clone, Copy)]
 pub struct AdrSheet {
     pub first: u64,
     pub next: u64,
