@@ -40,7 +40,7 @@ use Rattle.adding_opening.specs.AtEnd.{ends_elsewhere, added_session, open_at_en
 use Rattle.archive_lists.specs.Tape.{Tape, Cartridge, SameFrames}
 use Rattle.archive_lists.specs.Headers.{Newest}
 use Rattle.archive_lists.specs.Recordings.{Element}
-use Rattle.archive_lists.specs.Fold.{going, finished, fold_of}
+use Rattle.archive_lists.specs.Fold.{going, fold_of}
 use Rattle.archive.specs.Chain.{NoneAbove}
 use Rattle.archive_lists.proofs.tape.Basics.{some_same}
 use Rattle.archive_lists.proofs.tape.Seen.{has, Seen, Quiet, Clean}

@@ -29,7 +29,6 @@ use Rattle.recording_state.proofs.Stages.{ElementStage}
 use Rattle.archive_lists.specs.Tape.{Tape}
 use Rattle.archive_lists.specs.Recordings as recordings
 use Rattle.archive_lists.specs.Recordings.{World, Element, promised}
-use Rattle.archive.specs.Chain.{first}
 use Rattle.archive_lists.specs.Filemarks.{item_at, kind_for, filemarks_among, latest_among, NamesLatest, sequence_number, marker_named}
 use Rattle.archive.specs.Trails.{IsFrame, FrameOn, StandsAt, on_tape, held, StandsSomewhere, HeaderGoesOut, ElementGoesOut, InFlight}
 use Rattle.archive_lists.proofs.tape.Marks.{is_filemark, kind_marker, latest_map}

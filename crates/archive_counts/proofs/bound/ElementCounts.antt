@@ -109,9 +109,12 @@ unfolding reply.confirmed_of
 confirmed_eod e i = refl
 
 pub counted_stepped : {D W n taken x f : ℕ} {y : reply.SteppedSaid} (e : Elements) → Counts D W n taken x e → steps.CountedView e f y → Stepped D W n taken x e y.elements
-counted_stepped e c (steps.too_many _) = stepped c
-counted_stepped {f = f} e c (steps.counted l) =
-    record { counts = counts_confirmed e c (e.queue.outstanding - f) (omega arith); eod_is = confirmed_eod e (e.queue.outstanding - f) }
+counted_stepped {D} {W} {n} {taken} {x} {f} e c = go
+  where
+    go : {y : reply.SteppedSaid} → steps.CountedView e f y → Stepped D W n taken x e y.elements
+    go (steps.too_many _) = stepped c
+    go (steps.counted l) =
+        record { counts = counts_confirmed e c (e.queue.outstanding - f) (omega arith); eod_is = confirmed_eod e (e.queue.outstanding - f) }
 
 -- p lies between the oldest outstanding frame and the next address, and so at most the outstanding frames are confirmed
 pub failed_stepped : {D W n taken fewer x y tail skip : ℕ} {p : Address} {z : reply.SteppedSaid} (e : Elements) → Counts D W n taken x e → fewer ≤ taken → x + smaller D W ≤ y

@@ -52,10 +52,10 @@ runs_tallied : {D W : ℕ} {u : Tally} {w v : World} {cs : List Call} → Tallie
 unfolding count_in
 runs_tallied {D} {W} {u} {w} y stop =
     subst (λ (t : Tally). Under D W (length w.notes.accepted) t w.session w.flight) (tally_same (omega arith) (omega arith) (omega arith) (omega arith)) y
-runs_tallied y (call c rest) = runs_tallied (call_tallied y c) rest
+runs_tallied {u = u} y (call c rest) = runs_tallied {u = u} (call_tallied y c) rest
 runs_tallied {D} {W} {u} {w} {v} y (drive m rest) =
     subst (λ (t : Tally). Under D W (length v.notes.accepted) t v.session v.flight) (tally_same (omega arith) (omega arith) (omega arith) (omega arith))
-    (runs_tallied (move_tallied y m) rest)
+    (runs_tallied {u = moved m u} (move_tallied y m) rest)
 
 -- ---- from the opening on
 
