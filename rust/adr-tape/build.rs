@@ -13,7 +13,7 @@ fn main() -> ExitCode {
     println!("cargo:rerun-if-changed={}", library.display());
     if !library.is_file() {
         eprintln!(
-            "libadr.a is not in {}.\nRun 'rt staticlib adr' in the repository's root, \
+            "libadr.a is not in {}.\nRun 'sh scripts/build adr' in the repository's root, \
              or set ADR_LIB_DIR to the directory that holds libadr.a, from '/' on.",
             directory.display()
         );
@@ -24,7 +24,7 @@ fn main() -> ExitCode {
     ExitCode::SUCCESS
 }
 
-/// `ADR_LIB_DIR`, or where `rt staticlib adr` leaves the library.
+/// `ADR_LIB_DIR`, or where `sh scripts/build adr` leaves the library.
 fn library_directory() -> PathBuf {
     if let Some(given) = env::var_os("ADR_LIB_DIR") {
         return PathBuf::from(given);
