@@ -1,5 +1,5 @@
--- Flags, commands and exchanges as numbers. A struct's twin is the struct of numbers that stands for it at C's side: `..Twin` gives it, `..Of` what it
--- stands for, and `is..` tells whether it stands for anything. Numbers that stand for nothing have some value all the same; the tests keep it from use.
+-- Flags, commands and exchanges as numbers. A struct's twin is the struct of numbers that stands for it at C's side: `.._twin` gives it, `.._of` what it
+-- stands for, and `is_..` tells whether it stands for anything. Numbers that stand for nothing have some value all the same; the tests keep it from use.
 use Rattle.std.specs.Prelude.{ℕ, Bool, ◌&&◌, ◌||◌, eqb, leb}
 use Rattle.geometry.specs.Pick.{pick}
 use Rattle.drive.specs.Command.{read_code, write_code, locate_code, read_position_code, command_code, command_address, command_by}
