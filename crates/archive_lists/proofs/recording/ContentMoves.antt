@@ -167,9 +167,9 @@ module _ {last pass k : ℕ} (ps : List Element) (w : World) (f : List ℕ) (res
 
     -- tape and window
 
-    module _ {edge : ℕ} (large : 3000 ≤ last) (c : Content last pass ps w k edge) (x : Outgoing last pass ps w k) (Edge_here : edge ≡ w.drive.at) where
+    module _ {edge : ℕ} (large : 3000 ≤ last) (c : Content last pass ps w k edge) (x : Outgoing last pass ps w k) (edge_here : edge ≡ w.drive.at) where
       seen_here : Seen last pass ps w.notes.accepted k w.drive.at w.drive.tape
-      seen_here = subst (λ (a : ℕ). Seen last pass ps w.notes.accepted k a w.drive.tape) Edge_here c.seen
+      seen_here = subst (λ (a : ℕ). Seen last pass ps w.notes.accepted k a w.drive.tape) edge_here c.seen
 
       -- at most EOD is to come
       within : k ≤ length ps

@@ -96,7 +96,7 @@ module _ (c : Copies) (d : Drive) (n : CountsOf c) where
       let known = l.known in
       let left : c.copy < 5 = omega arith in
       let exact = taken_exact c n left in
-      let Copy_is = exact.0 in
+      let copy_is = exact.0 in
       let out_is = exact.1 in
       at_place (taken_of c) refl (taken_counts c n left) (unlocated l.placed) (record {
         placed = l.placed;

@@ -151,9 +151,9 @@ trailing_taken {last} {pass} {prior} {xs} {ys} {st} {e} {d} {k} {edge} a f r is 
 -- ---- the drive tries an address
 
 module _ {last pass : ℕ} {prior : Prior} {xs ys : List Element} {st : Stage} {e : Elements} {d : Drive} {g : Flight} {k edge : ℕ} (f : List ℕ) (rest : List (List ℕ)) (b : d.buffer ≡ f ∷ rest) (free : d.failed ≡ false) (is : st ≡ S.Elements)
-    (large : 3000 ≤ last) (here : is_user last d.at ≡ true) (Edge_here : edge ≡ d.at) (low : k ≤ length xs) (before : Trailing last pass prior xs ys st e d g k edge) where
+    (large : 3000 ≤ last) (here : is_user last d.at ≡ true) (edge_here : edge ≡ d.at) (low : k ≤ length xs) (before : Trailing last pass prior xs ys st e d g k edge) where
   x : Trailing last pass prior xs ys st e d g k d.at
-  x = subst (λ (n : ℕ). Trailing last pass prior xs ys st e d g k n) Edge_here before
+  x = subst (λ (n : ℕ). Trailing last pass prior xs ys st e d g k n) edge_here before
 
   held : (k + length d.buffer ≤ e.queue.first.0 + e.queue.pending) × Frames last pass xs (Place prior last pass k d.at d.at d.tape) k d.buffer
   held = go (x.queue is)
