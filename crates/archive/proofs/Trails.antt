@@ -4,7 +4,7 @@ use mathlib.Core.Path.{◌≡◌, refl, sym, ap, subst, ◌∙◌}
 use mathlib.Core.Bool.{true, true≢false}
 use mathlib.Core.List.{List, [], ◌++◌}
 use mathlib.Core.Logic.{◌⊎◌, inl, inr, ⊎_elim}
-use mathlib.Core.Option.{Option, some}
+use mathlib.Core.Option.{some}
 use native.Mathlib.Decide.{ℕ_discrete, dec_le}
 use native.Mathlib.Omega.{arith}
 use lib.ListN.{length, take}
@@ -34,8 +34,8 @@ use Rattle.archive_lists.specs.Headers.{Newest}
 use Rattle.archive_lists.specs.Recordings as recordings
 use Rattle.archive_lists.specs.Recordings.{World, Element, promised}
 use Rattle.archive.specs.Recorded.{HasRecorded}
-use Rattle.archive.specs.Chain.{Start, fresh, added, earlier_of, pass_of, OnItsNewest, AsItStands, Closed, afresh, adding, way_of, Chain, first, more, none}
-use Rattle.archive_lists.specs.Filemarks.{item_at, kind_for, NamesLatest, sequence_number, marker_named}
+use Rattle.archive.specs.Chain.{Start, fresh, added, earlier_of, pass_of, OnItsNewest, AsItStands, Closed, Way, afresh, adding, way_of, Chain, first, more, none}
+use Rattle.archive_lists.specs.Filemarks.{item_at, kind_for, sequence_number, marker_named}
 use Rattle.archive.specs.Trails.{FrameOn, InFlight, WritesNameMarkers, Trails, ChainsNameMarkers}
 use Rattle.archive_lists.proofs.tape.Marks.{filemarks_alike, latest_alike, latest_map}
 use Rattle.archive_lists.proofs.tape.Stands.{telling}
@@ -53,7 +53,7 @@ use Rattle.archive_lists.proofs.recording.Trailing.{Prior, MarkerBelow, TapeTrai
 use Rattle.archive.specs.WorstCase.{start_of}
 use Rattle.archive.proofs.Continued.{kept_after, pass_kept, markers_low, start_kept, headers, left_whole, promised_behind, read_behind}
 use Rattle.archive.proofs.Chain.{nothing_whole, Left, Held, held_behind, closed_leaves, closed_count, closed_left, earlier_is, as_left}
-use Rattle.archive.proofs.recording.InFlight.{marker_on, goes_out}
+use Rattle.archive.proofs.recording.InFlight.{names_alike, marker_on, goes_out}
 
 -- ---- the tape
 
@@ -118,8 +118,8 @@ module _ {last pass base : ℕ} {none_bears : Type 0} {t : Tape} {ps xs : List E
         among = omega (arith, size);
         is = ⊎_elim (λ z. ⊎_elim (λ v. inl (q ∙ ap found_said v)) (λ v. inr (q ∙ ap found_said v)) (is_read a i f u r found z)) (λ z. inr (q ∙ ap found_said z)) y.is;
         counts = y.counts ∙ sym (filemarks_alike xs (take count xs) i (λ j h. alike j (omega arith)));
-        names = subst (λ (o : Option ℕ). NamesLatest o (FrameOn last pass t Marker) (marker_named f)) (sym (latest_alike xs (take count xs) i (λ j h. alike j (omega arith))))
-            (latest_map xs i (MarkerBelow last pass edge t) (FrameOn last pass t Marker) (marker_named f) (λ j _ _ m. marker_on m) y.names);
+        names = names_alike _ (marker_named f) (sym (latest_alike xs (take count xs) i (λ j h. alike j (omega arith))))
+            (latest_map xs i (MarkerBelow last pass edge t) _ (marker_named f) (λ j _ _ m. marker_on m) y.names);
       }
 
 -- of any judgement, since comparing that of a frame with itself takes seconds
@@ -133,7 +133,7 @@ so_trails {last} {pass} {xs} {t} edge low x a i f kind u r q =
     subst (λ (n : ℕ). trailing.TapeSays last pass xs xs (length xs) edge t n kind f) q.number
     (let y = x a f kind u r (judged_so q) in
     let said = judged_so q in
-    record { among = y.among; upto = y.among; is = kind_said _ kind said y.is; counts = y.counts; names = latest_map xs (sequence_number f) (FrameOn last pass t Marker) (MarkerBelow last pass edge t) (marker_named f) (λ j _ _ m. below j (marker_named f) m) y.names })
+    record { among = y.among; upto = y.among; is = kind_said _ kind said y.is; counts = y.counts; names = latest_map xs (sequence_number f) _ (MarkerBelow last pass edge t) (marker_named f) (λ j _ _ m. below j (marker_named f) m) y.names })
   where
     below : (j b : ℕ) → FrameOn last pass t Marker j b → MarkerBelow last pass edge t j b
     below j b m =
@@ -199,7 +199,7 @@ module _ (g : Geometry) (last : ℕ) (seg : g.segtrk < 2 ^ 16) (trk : g.trks < 2
             among = y.among;
             is = y.is;
             counts = y.counts;
-            names = latest_map xs (sequence_number f) (FrameOn last (header_of h).pass t Marker) (FrameOn last (header_of h).pass d.tape Marker) (marker_named f)
+            names = latest_map xs (sequence_number f) _ _ (marker_named f)
                 (λ j _ _ m. record { frame = m.frame; user = m.user; reads = sym (same (marker_named f) m.user) ∙ m.reads; is = m.is }) y.names;
           }
 
@@ -208,13 +208,13 @@ module _ (g : Geometry) (last : ℕ) (seg : g.segtrk < 2 ^ 16) (trk : g.trks < 2
     held : Held g last t xs ns
     trails : TrailsOn t held.reads.elements
 
-  chain_trails : {t : Tape} {xs : List Element} {ns : List recordings.Notes} → Chain g last afresh t xs ns → Trailing t xs ns
-  chain_trails (first d s b w cart is c) = record {
+  chain_trails : {way : Way} {t : Tape} {xs : List Element} {ns : List recordings.Notes} → Chain g last way t xs ns → way ≡ afresh → Trailing t xs ns
+  chain_trails (first d s b w cart is c) began = record {
     held = held_behind g last w.drive.tape (earlier_of b) [] (earlier_of b) w.notes _ none (nothing_whole (earlier_of b)) (closed_left g last seg trk e d s b w cart c);
-    trails = closed_trails d s b w cart c (fresh_trailed d s b w is c);
+    trails = closed_trails d s b w cart c (fresh_trailed d s b w (is ∙ began) c);
   }
-  chain_trails (more t xs ns before d s b w cart is same on c) =
-      let x = chain_trails before in
+  chain_trails (more t xs ns before d s b w cart is same on c) began =
+      let x = chain_trails before began in
       let h = x.held in
       let got = earlier_is g last seg trk e t xs ns h s b is on (as_left g last seg trk e t d.tape s b same c.as_it_stands) in
       record {
@@ -230,4 +230,4 @@ writes_name_markers g last d s b w recorded = writes g last recorded.sized.segtr
 
 pub chains_name_markers : ChainsNameMarkers
 unfolding ChainsNameMarkers
-chains_name_markers g last t xs ns sized c = let x = chain_trails g last sized.segtrk sized.trks sized.is_last c in record { reads = x.held.reads; trails = x.trails }
+chains_name_markers g last t xs ns sized c = let x = chain_trails g last sized.segtrk sized.trks sized.is_last c refl in record { reads = x.held.reads; trails = x.trails }

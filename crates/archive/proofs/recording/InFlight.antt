@@ -4,6 +4,7 @@ use mathlib.Core.Path.{◌≡◌, sym, ap, subst, ◌∙◌}
 use mathlib.Core.Bool.{true}
 use mathlib.Core.List.{List, []}
 use mathlib.Core.Logic.{inl, inr, ⊎_elim}
+use mathlib.Core.Option.{Option}
 use native.Mathlib.Decide.{dec_le}
 use native.Mathlib.Omega.{arith}
 use lib.Dec.{lit<}
@@ -55,6 +56,10 @@ is_frame x = record { number = x.number; current = judged_so x }
 
 pub marker_on : {last pass edge : ℕ} {t : Tape} {j a : ℕ} → MarkerBelow last pass edge t j a → FrameOn last pass t Marker j a
 marker_on m = record { frame = m.frame; user = m.user; reads = m.reads; is = is_frame m.found }
+
+-- a name of the latest filemark by another reckoning of which that is
+pub names_alike : (IsAt : ℕ → ℕ → Type 0) (name : ℕ) {o p : Option ℕ} → o ≡ p → NamesLatest o IsAt name → NamesLatest p IsAt name
+names_alike IsAt name e x = subst (λ (q : Option ℕ). NamesLatest q IsAt name) e x
 
 -- ---- a WRITE in flight
 
@@ -160,8 +165,8 @@ module _ {last pass : ℕ} {on_newest none_bears : Type 0} {prior : Prior} (w : 
         is = judged_so says.found ∙ ap (λ (m : ℕ). found_said (kind_for (item_at xs m))) number;
         counts = says.counts ∙ ap (filemarks_among xs) number;
         names =
-            subst (λ (m : ℕ). NamesLatest (latest_among xs m) (λ j name. (j < prior.base → prior.same) → StandsAt last pass w.drive Marker j name) (marker_named f)) number
-            (latest_map xs n _ (λ j name. (j < prior.base → prior.same) → StandsAt last pass w.drive Marker j name) (marker_named f) (λ j h m y. stands_at st x j (marker_named f) (omega arith) m y) says.names);
+            names_alike _ (marker_named f) (ap (latest_among xs) number)
+            (latest_map xs n _ _ (marker_named f) (λ j h m y s. stands_at st x j (marker_named f) (omega arith) m y s) says.names);
       }
 
   abbrev Out : Type 0
