@@ -4,8 +4,8 @@
    and takes in the drive's replies. It talks to no drive itself: cables,
    packets and sense data stay with the host. It is a static library for
    x86-64 (System V calling convention), libadr.a, which the command
-   'sh scripts/build adr' writes to target/staticlib. Programs in C11 or C++11 use
-   it by this header:
+   'sh scripts/build adr' writes to target/staticlib. Programs in C11 or C++11
+   use it by this header:
 
        cc -Iinclude program.c target/staticlib/libadr.a
 
