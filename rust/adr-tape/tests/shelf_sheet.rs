@@ -171,15 +171,18 @@ fn shell(line: &str) -> Output {
     ended(command.stderr(Stdio::piped()).spawn().expect("a shell"))
 }
 
+/// An empty dump is read, though cut short; one that can't be read is a failure.
 #[test]
 fn no_input() {
-    for line in [
-        "\"$SHELF_SHEET\" </dev/null",
-        "\"$SHELF_SHEET\" <&-",
-        "\"$SHELF_SHEET\" </",
-        "\"$SHELF_SHEET\" 0>/dev/null",
+    for (line, status) in [
+        ("\"$SHELF_SHEET\" </dev/null", 0),
+        ("\"$SHELF_SHEET\" <&-", 1),
+        ("\"$SHELF_SHEET\" </", 1),
+        ("\"$SHELF_SHEET\" 0>/dev/null", 1),
     ] {
-        is_sheet(&shell(line), CUT_AT_ONCE, line);
+        let output = shell(line);
+        is_sheet(&output, CUT_AT_ONCE, line);
+        assert_eq!(output.status.code(), Some(status), "{line}");
     }
 }
 
@@ -195,12 +198,13 @@ fn an_input_that_stays_open() {
     }
 }
 
-/// It tells on standard error that it could not print.
+/// It tells on standard error that it could not print, and fails.
 #[track_caller]
 fn tells(output: &Output, of: &str) {
     let error = String::from_utf8_lossy(&output.stderr);
     let told = error.starts_with("shelf_sheet: ") && error.ends_with('\n');
     assert!(told, "{of}: {error:?}");
+    assert_eq!(output.status.code(), Some(1), "{of}");
 }
 
 #[test]
