@@ -101,7 +101,7 @@ fn plain_lines_where_there_is_no_terminal() {
     assert!(ran.output_text().starts_with("cargo run "));
     assert!(ran.output_text().ends_with(" -- demo --faults 3\n"));
     let (start, rest) = ran.error.split_once('\n').expect("lines");
-    assert!(start.contains("long the first time"), "{start}");
+    assert!(start.contains("about 11 minutes"), "{start}");
     let proved = |at| format!("fn crate_{at}::it: judged\nrt: crate_{at} proved (1 s)\n");
     let end = "fn adr::it: judged\nrt: target/staticlib/libadr.a has the functions of adr\n";
     let expected = [1, 2, 3].map(proved).concat() + end;
@@ -119,7 +119,7 @@ fn one_line_on_a_terminal() {
     let place = repository("one-line", all, &[]);
     let ran = demo(&place, "CHATTY=1", true).succeeded();
     let text = ran.output_text();
-    assert!(text.contains("long the first time"), "{text:?}");
+    assert!(text.contains("about 11 minutes"), "{text:?}");
     for number in 1..=all {
         let shown = format!("\r{number} of {all} proved\x1b[K");
         assert!(text.contains(&shown), "{text:?}");
