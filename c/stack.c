@@ -1,7 +1,6 @@
 /* Makes every call on a stack that is filled with a pattern and tells whether
-   they left all but 4 KiB of it alone. The library's source copies a block by
-   way of a local array, which the compiler drops: with it, accepting a block
-   and fetching its WRITE would take 32 KiB. */
+   they left all but 4 KiB of it alone: no block and no frame is held there, as
+   it was when a block was copied by way of a local array. */
 #define _XOPEN_SOURCE 600 /* for ucontext.h */
 #include "adr.h"
 

@@ -3,10 +3,11 @@ ghost use Rattle.std.specs.Prelude.{◌≡◌};
 ghost use Rattle.numbers.specs.Arguments.{fitting_of, fitting_depth};
 ghost use Rattle.adr.specs.Add.{at_end_through};
 
-use crate::read::session_of;
 use adding::{open_at_end, open_at_none};
-use numbers::Sizes;
-use reading_twins::{AdrReading, is_reading};
+use numbers::sizes_of;
+use reading::Reading;
+use reading_state::State;
+use reading_twins::AdrReading;
 use recording_answers::AdrRecordOutcome;
 
 // Opens a recording at the end of a reading, which is not used up.
@@ -20,9 +21,8 @@ pub extern "C" fn adr_record_open_at_end(
 ) -> AdrRecordOutcome
     ensures { result ≡ at_end_through reading (fitting_depth depth tail) (fitting_of blocks) (fitting_of tail) }
 {
-    if is_reading(reading) {
-        let s = Sizes::of(depth, blocks, tail);
-        return AdrRecordOutcome::of(open_at_end(session_of(reading), s.depth, s.blocks, s.tail));
+    match State::try_from(reading) {
+        Ok(state) => open_at_end(Reading { state }, sizes_of(depth, blocks, tail)).into(),
+        Err(_) => open_at_none().into(),
     }
-    AdrRecordOutcome::of(open_at_none())
 }

@@ -6,8 +6,7 @@ ghost use Rattle.exchange_twins.specs.Numbers.{flag_number};
 ghost use Rattle.numbers.specs.Arguments.{geometry_of};
 ghost use Rattle.numbers.specs.Places.{place_twin, choice_twin};
 
-use exchange_twins::flag_number;
-use geometry::{Address, GROUP_COPIES, HEADER_GROUPS, header_address, is_user};
+use geometry::{Address, GROUP_COPIES, Geometry, HEADER_GROUPS, header_address, is_user};
 use header_choice::decide;
 use numbers::{AdrChoice, AdrGeometry, AdrPlace};
 
@@ -16,7 +15,7 @@ use numbers::{AdrChoice, AdrGeometry, AdrPlace};
 pub extern "C" fn adr_frames(g: AdrGeometry) -> u32
     ensures { result ≡ frames_of (geometry_of g) }
 {
-    g.geometry().frames()
+    Geometry::from(g).frames()
 }
 
 // LAST, the highest address.
@@ -24,7 +23,7 @@ pub extern "C" fn adr_frames(g: AdrGeometry) -> u32
 pub extern "C" fn adr_last(g: AdrGeometry) -> AdrPlace
     ensures { result ≡ place_twin (last_of (geometry_of g)) }
 {
-    AdrPlace::of(g.geometry().last())
+    Geometry::from(g).last().into()
 }
 
 // 1 where an address is a user frame's, on a cartridge with this LAST; else 0.
@@ -32,7 +31,7 @@ pub extern "C" fn adr_last(g: AdrGeometry) -> AdrPlace
 pub extern "C" fn adr_is_user(last: u32, address: u32) -> u8
     ensures { result ≡ flag_number (is_user last address) }
 {
-    flag_number(is_user(Address(last), Address(address)))
+    is_user(Address(last), Address(address)).into()
 }
 
 // The address of a header copy, 0 to 4, of a group, 0 or 1. Copies count modulo 5 and groups modulo 2.
@@ -52,5 +51,5 @@ pub extern "C" fn adr_header_address(group: u32, copy: u32) -> u32
 pub extern "C" fn adr_choose(g: AdrGeometry, first: &[u8], second: &[u8]) -> AdrChoice
     ensures { result ≡ choice_twin (choice_of (geometry_of g) first.now second.now) }
 {
-    AdrChoice::of(decide(g.geometry(), first, second))
+    decide(g.into(), first, second).into()
 }

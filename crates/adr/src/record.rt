@@ -3,23 +3,15 @@ ghost use Rattle.std.specs.Prelude.{◌≡◌};
 ghost use Rattle.recording_state.specs.Open.{open_of, open_blank_of};
 ghost use Rattle.recording_state.specs.Accept.{filemark_of, close_of};
 ghost use Rattle.recording_state.specs.Reply.{reply_of};
-ghost use Rattle.recording_twins.specs.Recording.{recording_state_of};
 ghost use Rattle.numbers.specs.Arguments.{geometry_of, fitting_of, fitting_depth, as_reply};
 ghost use Rattle.recording_answers.specs.Recording.{outcome_twin};
 ghost use Rattle.adr.specs.Record.{through, stored, block_through, fetched, fetch_through};
 
-use numbers::{AdrGeometry, AdrReply, Sizes};
+use numbers::{AdrGeometry, AdrReply, sizes_of};
 use recording::Recording;
 use recording_answers::{AdrRecordFetched, AdrRecordOutcome};
-use recording_twins::{AdrRecording, is_recording, recording_state_of};
-
-// The session of these numbers.
-fn session_of(s: AdrRecording) -> Recording
-    ensures { result.state ≡ recording_state_of s }
-{
-    let state = recording_state_of(s);
-    Recording { state: state }
-}
+use recording_state::State;
+use recording_twins::AdrRecording;
 
 // Opens a recording on the newest header of the cartridge.
 #[unsafe(no_mangle)]
@@ -32,8 +24,7 @@ pub extern "C" fn adr_record_open(
 ) -> AdrRecordOutcome
     ensures { result ≡ outcome_twin (open_of (geometry_of g) (fitting_depth depth tail) (fitting_of blocks) (fitting_of tail) header.now) }
 {
-    let s = Sizes::of(depth, blocks, tail);
-    AdrRecordOutcome::of(Recording::open(g.geometry(), s.depth, s.blocks, s.tail, header))
+    Recording::open(g.into(), sizes_of(depth, blocks, tail), header).into()
 }
 
 // Opens one on a cartridge that holds no valid header.
@@ -46,8 +37,7 @@ pub extern "C" fn adr_record_open_blank(
 ) -> AdrRecordOutcome
     ensures { result ≡ outcome_twin (open_blank_of (geometry_of g) (fitting_depth depth tail) (fitting_of blocks) (fitting_of tail)) }
 {
-    let s = Sizes::of(depth, blocks, tail);
-    AdrRecordOutcome::of(Recording::open_blank(g.geometry(), s.depth, s.blocks, s.tail))
+    Recording::open_blank(g.into(), sizes_of(depth, blocks, tail)).into()
 }
 
 // Accepts a filemark.
@@ -56,10 +46,10 @@ pub extern "C" fn adr_record_open_blank(
 pub extern "C" fn adr_record_filemark(s: AdrRecording) -> AdrRecordOutcome
     ensures { result ≡ through filemark_of s }
 {
-    if is_recording(s) {
-        return AdrRecordOutcome::of(session_of(s).accept_filemark());
-    }
-    AdrRecordOutcome::unknown(s)
+    let Ok(state) = State::try_from(s) else {
+        return AdrRecordOutcome::unknown(s);
+    };
+    Recording { state }.accept_filemark().into()
 }
 
 // Accepts a block and copies it into the window.
@@ -72,10 +62,10 @@ pub extern "C" fn adr_record_block(
 ) -> AdrRecordOutcome
     ensures { stored result window.new ≡ block_through s block.now window.old }
 {
-    if is_recording(s) {
-        return AdrRecordOutcome::of(session_of(s).accept_block(block, window));
-    }
-    AdrRecordOutcome::unknown(s)
+    let Ok(state) = State::try_from(s) else {
+        return AdrRecordOutcome::unknown(s);
+    };
+    Recording { state }.accept_block(block, window).into()
 }
 
 // Ends the accepts; after a full tape gives up what is not on it.
@@ -84,10 +74,10 @@ pub extern "C" fn adr_record_block(
 pub extern "C" fn adr_record_close(s: AdrRecording) -> AdrRecordOutcome
     ensures { result ≡ through close_of s }
 {
-    if is_recording(s) {
-        return AdrRecordOutcome::of(session_of(s).close());
-    }
-    AdrRecordOutcome::unknown(s)
+    let Ok(state) = State::try_from(s) else {
+        return AdrRecordOutcome::unknown(s);
+    };
+    Recording { state }.close().into()
 }
 
 // Brings the drive's reply.
@@ -96,10 +86,10 @@ pub extern "C" fn adr_record_close(s: AdrRecording) -> AdrRecordOutcome
 pub extern "C" fn adr_record_reply(s: AdrRecording, reply: AdrReply) -> AdrRecordOutcome
     ensures { result ≡ through (λ t. reply_of t (as_reply reply)) s }
 {
-    if is_recording(s) {
-        return AdrRecordOutcome::of(session_of(s).reply(reply.reply()));
-    }
-    AdrRecordOutcome::unknown(s)
+    let Ok(state) = State::try_from(s) else {
+        return AdrRecordOutcome::unknown(s);
+    };
+    Recording { state }.reply(reply.into()).into()
 }
 
 // The next command of a recording, with the frame of a WRITE, or idle, or done.
@@ -112,8 +102,8 @@ pub extern "C" fn adr_record_fetch(
 ) -> AdrRecordFetched
     ensures { fetched result frame.new ≡ fetch_through s window.now frame.old }
 {
-    if is_recording(s) {
-        return AdrRecordFetched::of(session_of(s).fetch(window, frame));
-    }
-    AdrRecordFetched::unknown(s)
+    let Ok(state) = State::try_from(s) else {
+        return AdrRecordFetched::unknown(s);
+    };
+    Recording { state }.fetch(window, frame).into()
 }

@@ -4,14 +4,14 @@ ghost use Rattle.sheet.specs.Calls.{open_of, enter_of, finish_of};
 ghost use Rattle.adr.specs.Sheet.{entered, lent_twin, through};
 
 use sheet::Sheet;
-use sheet_twins::{AdrSheet, AdrSheetEntered, is_sheet, sheet_of};
+use sheet_twins::{AdrSheet, AdrSheetEntered};
 
 // A new sheet, and its header line.
 #[unsafe(no_mangle)]
 pub extern "C" fn adr_sheet_open(line: &mut [u8]) -> AdrSheetEntered
     ensures { entered result line.new ≡ lent_twin (open_of line.old) }
 {
-    AdrSheetEntered::of(Sheet::open(line))
+    Sheet::open(line).into()
 }
 
 // The AUX field of the next delivery, or of EOD.
@@ -20,10 +20,10 @@ pub extern "C" fn adr_sheet_open(line: &mut [u8]) -> AdrSheetEntered
 pub extern "C" fn adr_sheet_enter(s: AdrSheet, aux: &[u8], line: &mut [u8]) -> AdrSheetEntered
     ensures { entered result line.new ≡ through (λ t. enter_of t aux.now) s line.old }
 {
-    if is_sheet(s) {
-        return AdrSheetEntered::of(sheet_of(s).enter(aux, line));
-    }
-    AdrSheetEntered::unknown(s)
+    let Ok(sheet) = Sheet::try_from(s) else {
+        return AdrSheetEntered::unknown(s);
+    };
+    sheet.enter(aux, line).into()
 }
 
 // No further field comes.
@@ -32,8 +32,8 @@ pub extern "C" fn adr_sheet_enter(s: AdrSheet, aux: &[u8], line: &mut [u8]) -> A
 pub extern "C" fn adr_sheet_finish(s: AdrSheet, line: &mut [u8]) -> AdrSheetEntered
     ensures { entered result line.new ≡ through finish_of s line.old }
 {
-    if is_sheet(s) {
-        return AdrSheetEntered::of(sheet_of(s).finish(line));
-    }
-    AdrSheetEntered::unknown(s)
+    let Ok(sheet) = Sheet::try_from(s) else {
+        return AdrSheetEntered::unknown(s);
+    };
+    sheet.finish(line).into()
 }

@@ -11,10 +11,9 @@ use Rattle.geometry.specs.Cartridge.{last_of}
 use Rattle.geometry.specs.declared.cartridge.Geometry.{Geometry}
 use Rattle.header.specs.Valid.{header_of, update_of}
 use Rattle.header.proofs.Facts.{valid_last}
-use Rattle.judgement.specs.declared.told.Told.{Told}
+use Rattle.frame.specs.declared.header.Header.{Header}
 use Rattle.recording_state.specs.declared.state.State.{State}
 use Rattle.reading_state.specs.Open as reading
-use Rattle.reading_state.specs.Open.{told_of}
 use Rattle.archive_lists.specs.Tape.{Tape, SameFrames}
 use Rattle.archive_lists.specs.Headers.{HeaderAt}
 use Rattle.archive_lists.specs.Readings as readings
@@ -35,7 +34,7 @@ use Rattle.archive.proofs.Continued.{added_counts, start_begins}
 
 -- ---- what reads alike
 
-module _ (told : Told) (t u : Tape) (alike : (a : ℕ) → fold_of told t a ≡ fold_of told u a) where
+module _ (told : Header) (t u : Tape) (alike : (a : ℕ) → fold_of told t a ≡ fold_of told u a) where
   standing_alike : {w : readings.World} → Standing told t w → Standing told u w
   standing_alike {w} (goes_on n m d) = goes_on n m (sym (alike w.session.position.next.0) ∙ d)
   standing_alike (at_end n m d all) = at_end n m (sym (alike _) ∙ d) (sym (alike (told.last.0 + 1)) ∙ all)
@@ -71,7 +70,7 @@ before_first_copy g last d s b w recorded none = record {
   opens = opens;
   reads = λ a h at from read r runs2.
       let users = subst (λ (n : ℕ). SameFrames n d.tape w.drive.tape) (sym (valid_last last h at.valid)) y.users in
-      is_fold_alike (told_of (header_of h)) w.drive.tape d.tape (λ n. sym (fold_users (told_of (header_of h)) d.tape w.drive.tape users n))
+      is_fold_alike (header_of h) w.drive.tape d.tape (λ n. sym (fold_users (header_of h) d.tape w.drive.tape users n))
       (reading_is_fold g last w.drive.tape h from read r recorded.sized y.cartridge (opens a h at) runs2);
 }
   where

@@ -13,7 +13,6 @@ use Rattle.geometry.proofs.Impossible.{never}
 use Rattle.header.specs.Valid.{header_of}
 use Rattle.header.proofs.Facts.{valid_last}
 use Rattle.recording_state.specs.declared.state.State.{State}
-use Rattle.reading_state.specs.Open.{told_of}
 use Rattle.archive_lists.specs.Tape.{Tape, Cartridge, SameFrames}
 use Rattle.archive_lists.specs.Conduct.{Drive}
 use Rattle.archive_lists.specs.Headers.{Newest}
@@ -80,13 +79,13 @@ pub record Left (g : Geometry) (last : ℕ) (t : Tape) (earlier : List Element) 
   pub read : Read n m
   pub readable : Readable g last t (earlier ++ take m n.accepted)
   pub end_at : ℕ
-  pub whole : (h : List ℕ) → Newest last t h → whole_of (told_of (header_of h)) t ≡ finished (earlier ++ take m n.accepted) end_at
+  pub whole : (h : List ℕ) → Newest last t h → whole_of (header_of h) t ≡ finished (earlier ++ take m n.accepted) end_at
 
 -- what the next session that adds needs of the tape: that it reads as all that came before
 pub record Held (g : Geometry) (last : ℕ) (t : Tape) (xs : List Element) (ns : List recordings.Notes) : Type 0 where
   pub reads : ReadTogether g last t xs ns
   pub end_at : ℕ
-  pub whole : (h : List ℕ) → Newest last t h → whole_of (told_of (header_of h)) t ≡ finished reads.elements end_at
+  pub whole : (h : List ℕ) → Newest last t h → whole_of (header_of h) t ≡ finished reads.elements end_at
 
 -- one session behind others
 abbrev pub held_behind : (g : Geometry) (last : ℕ) (t : Tape) (xs : List Element) (ns : List recordings.Notes) (ys : List Element) (n : recordings.Notes) (m : ℕ) → Together xs ns ys → (NoneGiven ns → ys ≡ xs ++ accepted_in ns) → Left g last t ys n m → Held g last t xs (ns ++ n ∷ [])
@@ -120,7 +119,7 @@ module _ (g : Geometry) (last : ℕ) (seg : g.segtrk < 2 ^ 16) (trk : g.trks < 2
   pub earlier_is : (t : Tape) (xs : List Element) (ns : List recordings.Notes) (held : Held g last t xs ns) (s : State) (b : Start g last s) → way_of b ≡ adding → OnItsNewest b t → AsItStands b t → earlier_of b ≡ held.reads.elements
   earlier_is t xs ns held s (fresh depth blocks tail o op) is on same = never (cc)
   earlier_is t xs ns held s (added depth blocks tail u h r read op) is on same =
-      let told = told_of (header_of h) in
+      let told = (header_of h) in
       let x = added_ended g last seg trk e s depth blocks tail u h r read op in
       finished_list (sym x.ended.whole ∙ fold_users told u t (subst (λ (n : ℕ). SameFrames n u t) (sym (valid_last last h on.here.valid)) same) ((header_of h).last.0 + 1) ∙ held.whole h on)
 

@@ -21,7 +21,6 @@ use Rattle.frame.specs.declared.header.Header.{Header}
 use Rattle.header.specs.Valid.{header_of, update_of}
 use Rattle.header.proofs.Facts.{valid_last, valid_pass}
 use Rattle.judgement.specs.Judgement.{ends_from}
-use Rattle.judgement.specs.declared.told.Told.{Told}
 use Rattle.judgement.proofs.Facts.{FoundAs}
 use Rattle.elements.specs.Due.{due_of}
 use Rattle.elements.proofs.FormerLaws.{as_formerly}
@@ -33,7 +32,6 @@ use Rattle.recording_state.specs.declared.state.Stage.TheVariants as S
 use Rattle.recording_state.specs.declared.state.State.{State}
 use Rattle.reading_state.specs.State.{is_at_end, end_of}
 use Rattle.reading_state.specs.Open as reading
-use Rattle.reading_state.specs.Open.{told_of}
 use Rattle.adding_opening.specs.AtEnd.{ends_elsewhere, open_at_end_of}
 use Rattle.archive_lists.specs.Tape.{Tape, Cartridge, SameFrames}
 use Rattle.archive_lists.specs.Conduct.{Drive, AtRest, Within}
@@ -90,11 +88,11 @@ within (over h _) = h
 -- ---- what a recording left that reported done
 
 -- every newest header names the EOD, so that a reading on it ends there
-names_end : {last pass n : ℕ} {none_bears : Type 0} {t : Tape} (l : HeadersLeft last pass none_bears n t) (h : List ℕ) → Newest last t h → ends_from (told_of (header_of h)) ≡ l.end_at
+names_end : {last pass n : ℕ} {none_bears : Type 0} {t : Tape} (l : HeadersLeft last pass none_bears n t) (h : List ℕ) → Newest last t h → ends_from (header_of h) ≡ l.end_at
 names_end {last} l h n = ends_named (header_of h) (λ z. user_some last l.end_at l.ends.user (sym (l.names h n) ∙ z)) ∙ l.names h n
 
-pub left_whole : {last pass base : ℕ} {none_bears : Type 0} {t : Tape} {ps xs : List Element} (l : Leaves last pass base none_bears t ps xs) (h : List ℕ) → Newest last t h → whole_of (told_of (header_of h)) t ≡ finished (take l.reads.count xs) l.headers.end_at
-left_whole {last} l h n = l.reads.recorded (told_of (header_of h)) (valid_last last h n.here.valid) (l.headers.passes h n) (l.headers.names h n)
+pub left_whole : {last pass base : ℕ} {none_bears : Type 0} {t : Tape} {ps xs : List Element} (l : Leaves last pass base none_bears t ps xs) (h : List ℕ) → Newest last t h → whole_of (header_of h) t ≡ finished (take l.reads.count xs) l.headers.end_at
+left_whole {last} l h n = l.reads.recorded (header_of h) (valid_last last h n.here.valid) (l.headers.passes h n) (l.headers.names h n)
 
 -- so a reading of it is an instance of what every reading gives
 pub readable : {none_bears : Type 0} (g : Geometry) (last pass base : ℕ) (t : Tape) (ps xs : List Element) → g.segtrk < 2 ^ 16 → g.trks < 2 ^ 16 → last_of g ≡ address last → (l : Leaves last pass base none_bears t ps xs) → Readable g last t (take l.reads.count xs)
@@ -178,7 +176,7 @@ left_clear none l h n a f u above there bears = l.ends.above none a f (omega (ar
 -- ---- a reading that has come to its end
 
 module _ (g : Geometry) (last : ℕ) (seg : g.segtrk < 2 ^ 16) (trk : g.trks < 2 ^ 16) (e : last_of g ≡ address last) where
-  pub read_ended : {t : Tape} {h : List ℕ} {r : readings.World} → HasRead g last t h r → r.session.finished ≡ true → r.session.ended ≡ false → AtEnd (told_of (header_of h)) t r
+  pub read_ended : {t : Tape} {h : List ℕ} {r : readings.World} → HasRead g last t h r → r.session.finished ≡ true → r.session.ended ≡ false → AtEnd (header_of h) t r
   read_ended {t} {h} {r} x = at_end_so r (reading_kept g last t h x.at x.calls r seg trk e x.cartridge x.opens x.runs)
 
   -- it ended at an EOD from the named one on, above which nothing bears the pass: so there
@@ -186,7 +184,7 @@ module _ (g : Geometry) (last : ℕ) (seg : g.segtrk < 2 ^ 16) (trk : g.trks < 2
       → is_at_end r.session ≡ true → ends_elsewhere r.session ≡ false
   ends_there {t = t} none l h r n x end =
       let s = r.session in
-      let told = told_of (header_of h) in
+      let told = (header_of h) in
       let facts = at_end_facts s end in
       let a = read_ended x facts.0 facts.1 in
       let here : EndsHere told t r.notes.deliveries (end_of s).0 = fold_ended told t r.notes.deliveries (end_of s).0 (told.last.0 + 1) a.ended.whole in
@@ -195,7 +193,7 @@ module _ (g : Geometry) (last : ℕ) (seg : g.segtrk < 2 ^ 16) (trk : g.trks < 2
       let low : l.end_at ≤ (end_of s).0 = omega (arith, names_end l h n, known.2) in
       let there : l.end_at ≡ (end_of s).0 =
       ⊎_elim (λ same. same) (λ above. absurd (l.ends.above none (end_of s).0 here.frame (omega arith) user here.reads (known.0.written ∙ l.passes h n))) (eq-or-lt_of_le low) in
-      let named : s.told.eod.0 ≡ l.end_at = ap (λ (y : Told). y.eod.0) a.ended.told_is ∙ l.names h n in
+      let named : s.told.eod.0 ≡ l.end_at = ap (λ (y : Header). y.eod.0) a.ended.told_is ∙ l.names h n in
       neither (eqb s.told.eod.0 0) (not (eqb s.told.eod.0 (end_of s).0))
       (ne_eqb _ _ (λ z. user_some last l.end_at l.ends.user (sym named ∙ z))) (ap not (eq-eqb _ _ (named ∙ there)))
 
@@ -243,7 +241,7 @@ module _ (g : Geometry) (last : ℕ) (seg : g.segtrk < 2 ^ 16) (trk : g.trks < 2
   view : AddedView r.session depth blocks tail s
   view = added_view r.session depth blocks tail s op
 
-  pub added_ended : AtEnd (told_of (header_of h)) u r
+  pub added_ended : AtEnd (header_of h) u r
   added_ended = read_ended g last seg trk e read view.finished_is view.going_on
 
   opened_is : Opens last h (reading.open_of g h)
@@ -253,45 +251,45 @@ module _ (g : Geometry) (last : ℕ) (seg : g.segtrk < 2 ^ 16) (trk : g.trks < 2
   large = (frames_of_lem g last e).large
 
   -- the reading ended so on a cartridge with the same user frames
-  ended_now : (t : Tape) → SameFrames last u t → Ended (told_of (header_of h)) t r.session r.notes.deliveries
+  ended_now : (t : Tape) → SameFrames last u t → Ended (header_of h) t r.session r.notes.deliveries
   ended_now t same =
       let x = added_ended.ended in
       let users = subst (λ (n : ℕ). SameFrames n u t) (sym opened_is.last_is) same in
       record {
         told_is = x.told_is;
-        so_far = sym (fold_users (told_of (header_of h)) u t users (end_of r.session).0) ∙ x.so_far;
-        whole = sym (fold_users (told_of (header_of h)) u t users ((header_of h).last.0 + 1)) ∙ x.whole;
+        so_far = sym (fold_users (header_of h) u t users (end_of r.session).0) ∙ x.so_far;
+        whole = sym (fold_users (header_of h) u t users ((header_of h).last.0 + 1)) ∙ x.whole;
       }
 
   pub added_so : Started last r.notes.deliveries (end_of r.session).0 s
-  added_so = added_started (told_of (header_of h)) last u r.session r.notes.deliveries large opened_is.last_is added_ended.ended depth blocks tail s view (valid_pass last h opened_is.valid)
+  added_so = added_started (header_of h) last u r.session r.notes.deliveries large opened_is.last_is added_ended.ended depth blocks tail s view (valid_pass last h opened_is.valid)
 
   pub pass_kept : (header_of h).pass ≡ s.copies.header.pass
-  pass_kept = sym (added_pass (told_of (header_of h)) last u r.session r.notes.deliveries large opened_is.last_is added_ended.ended depth blocks tail s view)
+  pass_kept = sym (added_pass (header_of h) last u r.session r.notes.deliveries large opened_is.last_is added_ended.ended depth blocks tail s view)
 
   -- so the current markers of such a cartridge are below the old end, if none above bears the pass
   pub markers_low : (t : Tape) → SameFrames last u t → NoneAbove last t (end_of r.session).0 (header_of h).pass
       → (j b : ℕ) (f : List ℕ) → is_user last b ≡ true → t b ≡ some f → FoundAs (telling last (header_of h).pass 0) (record { 0 = j }) Marker f → b < (end_of r.session).0
-  markers_low t same = marker_low (told_of (header_of h)) last t r.session r.notes.deliveries large opened_is.last_is (ended_now t same) depth blocks tail s view
+  markers_low t same = marker_low (header_of h) last t r.session r.notes.deliveries large opened_is.last_is (ended_now t same) depth blocks tail s view
 
   -- it sees what the reading delivered, and from the old end on each frame is of another pass, or as the table has it
   added_sees : (t : Tape) → Cartridge last t → SameFrames last u t → NoneAbove last t (end_of r.session).0 (header_of h).pass
       → Seen last s.copies.header.pass r.notes.deliveries r.notes.deliveries (length r.notes.deliveries) (end_of r.session).0 t
   added_sees t cart same none =
       subst (λ (n : ℕ). Seen last n r.notes.deliveries r.notes.deliveries (length r.notes.deliveries) (end_of r.session).0 t) pass_kept
-      (added_seen (told_of (header_of h)) last t r.session r.notes.deliveries large opened_is.last_is (ended_now t same) depth blocks tail s view cart none)
+      (added_seen (header_of h) last t r.session r.notes.deliveries large opened_is.last_is (ended_now t same) depth blocks tail s view cart none)
 
   pub added_fairly : (t : Tape) → Cartridge last t → SameFrames last u t → NoneAbove last t (end_of r.session).0 (header_of h).pass → Fair last s.copies.header.pass (end_of r.session).0 t
   added_fairly t cart same none =
       subst (λ (n : ℕ). Fair last n (end_of r.session).0 t) pass_kept
-      (added_fair (told_of (header_of h)) last t r.session r.notes.deliveries large opened_is.last_is (ended_now t same) depth blocks tail s view cart none)
+      (added_fair (header_of h) last t r.session r.notes.deliveries large opened_is.last_is (ended_now t same) depth blocks tail s view cart none)
 
   pub added_counts : update_of h < s.copies.header.update
-  added_counts = added_count (told_of (header_of h)) last u r.session r.notes.deliveries large opened_is.last_is added_ended.ended depth blocks tail s view h refl
+  added_counts = added_count (header_of h) last u r.session r.notes.deliveries large opened_is.last_is added_ended.ended depth blocks tail s view h refl
 
   -- the header that it was opened on names the old end
   pub names_old : ((header_of h).eod.0 ≡ 0 → ⊥) × ((header_of h).eod.0 ≡ (end_of r.session).0)
-  names_old = let same = ap (λ (x : Told). x.eod.0) added_ended.ended.told_is in (λ z. view.some_end (same ∙ z), sym same ∙ view.named)
+  names_old = let same = ap (λ (x : Header). x.eod.0) added_ended.ended.told_is in (λ z. view.some_end (same ∙ z), sym same ∙ view.named)
 
   added_kept : (d : Drive) (window : List ℕ) → Cartridge last d.tape → d.written ≡ [] → AtRest d
       → Kept last s.copies.header.pass (Newest last d.tape h) (SameFrames last u d.tape) (NoneAbove last d.tape (end_of r.session).0 (header_of h).pass)
@@ -299,10 +297,10 @@ module _ (g : Geometry) (last : ℕ) (seg : g.segtrk < 2 ^ 16) (trk : g.trks < 2
   added_kept d window cart unwritten rest =
       begun_kept g last seg trk e d window cart unwritten rest s r.notes.deliveries (end_of r.session).0 added_so
       (Newest last d.tape h) (SameFrames last u d.tape) (NoneAbove last d.tape (end_of r.session).0 (header_of h).pass)
-      (added_below (told_of (header_of h)) last u r.session r.notes.deliveries large opened_is.last_is added_ended.ended depth blocks tail s view h refl d.tape)
+      (added_below (header_of h) last u r.session r.notes.deliveries large opened_is.last_is added_ended.ended depth blocks tail s view h refl d.tape)
       (added_sees d.tape cart)
       (λ none. subst (λ (n : ℕ). Clean last n (end_of r.session).0 d.tape) pass_kept (added_clean none))
-      (added_traced (told_of (header_of h)) last u r.session r.notes.deliveries large opened_is.last_is added_ended.ended depth blocks tail s view (last_small g last seg trk (frames_of_lem g last e)) d.tape)
+      (added_traced (header_of h) last u r.session r.notes.deliveries large opened_is.last_is added_ended.ended depth blocks tail s view (last_small g last seg trk (frames_of_lem g last e)) d.tape)
 
 -- ---- however it was opened
 

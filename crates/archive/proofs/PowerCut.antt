@@ -18,11 +18,9 @@ use Rattle.frame.specs.declared.header.Header.{Header}
 use Rattle.header.specs.Valid.{header_of}
 use Rattle.header.proofs.Facts.{valid_last}
 use Rattle.judgement.specs.Judgement.{ends_from}
-use Rattle.judgement.specs.declared.told.Told.{Told}
 use Rattle.recording_state.specs.declared.state.State.{State}
 use Rattle.reading_state.specs.State.{end_of}
 use Rattle.reading_state.specs.Open as reading
-use Rattle.reading_state.specs.Open.{told_of}
 use Rattle.archive_lists.specs.Tape.{Tape, Cartridge, Bears}
 use Rattle.archive_lists.specs.Conduct.{Drive}
 use Rattle.archive_lists.specs.Headers.{HeaderAt}
@@ -73,7 +71,7 @@ module _ {last pass : ℕ} {prior : Prior} {old : Tape} (large : 3000 ≤ last) 
       go (yes l) = seen_moves (last + 1) l b.in_drive.seen
       go (no l) = seen_top large (omega arith) b.in_drive.seen
 
-  module _ (told : Told) (last_is : told.last.0 ≡ last) (pass_is : told.pass ≡ pass) (late : (prior.start ≤ 10) ⊎ (prior.start ≤ ends_from told)) where
+  module _ (told : Header) (last_is : told.last.0 ≡ last) (pass_is : told.pass ≡ pass) (late : (prior.start ≤ 10) ⊎ (prior.start ≤ ends_from told)) where
     -- below the start it goes with the open view
     agrees : (prior.start ≤ 10) ⊎ (prior.start ≤ ends_from told) → fold_of told d.tape prior.start ≡ fold_of (unending last pass) d.tape prior.start
     agrees (inl low) = fold_low told d.tape prior.start low ∙ sym (fold_low (unending last pass) d.tape prior.start low)
@@ -96,13 +94,13 @@ module _ {last pass : ℕ} {prior : Prior} {old : Tape} (large : 3000 ≤ last) 
         go (view.ended j e f low size l u r own q) = record { count = j; least = omega (arith, base_is); size = size; whole = with_end e (may e f l u r own) (whole_is (finished (take j xs) e) q) }
 
     -- every list of a reading's calls
-    reads_part : (g : Geometry) (h : List ℕ) (at : ℕ) (calls : List readings.Call) (r : readings.World) → g.segtrk < 2 ^ 16 → g.trks < 2 ^ 16 → last_of g ≡ address last → told_of (header_of h) ≡ told → (reading.open_of g h).number ≡ 0
+    reads_part : (g : Geometry) (h : List ℕ) (at : ℕ) (calls : List readings.Call) (r : readings.World) → g.segtrk < 2 ^ 16 → g.trks < 2 ^ 16 → last_of g ≡ address last → (header_of h) ≡ told → (reading.open_of g h).number ≡ 0
         → readings.Runs d.tape (readings.started (reading.open_of g h).session at) calls r → FaithfulInPart last earlier accepted may_end r
     reads_part g h at calls r seg trk e is op runs =
         let cart = b.on_tape.cartridge in
-        subst (λ (n : ℕ). FaithfulInPart n earlier accepted may_end r) (ap (λ (x : Told). x.last.0) is ∙ last_is)
+        subst (λ (n : ℕ). FaithfulInPart n earlier accepted may_end r) (ap (λ (x : Header). x.last.0) is ∙ last_is)
         (in_part (tape_read g last d.tape h at calls r seg trk e cart op runs) earlier accepted may_end found.count found.least found.size
-        (subst (λ (x : Told). Whole x d.tape xs may_end found.count) (sym is) found.whole) r (reading_few g last d.tape h at calls r seg trk e cart op runs) (reading_kept g last d.tape h at calls r seg trk e cart op runs))
+        (subst (λ (x : Header). Whole x d.tape xs may_end found.count) (sym is) found.whole) r (reading_few g last d.tape h at calls r seg trk e cart op runs) (reading_kept g last d.tape h at calls r seg trk e cart op runs))
 
 -- ---- the header that is read on
 
@@ -131,7 +129,7 @@ module _ (g : Geometry) (last : ℕ) (seg : g.segtrk < 2 ^ 16) (trk : g.trks < 2
   old_told (added depth blocks tail u h0 r read q) newest a h at (inr newer) = absurd (omega (arith, newest.highest a h at))
   old_told (added depth blocks tail u h0 r read q) newest a h at (inl c) =
       let named = names_old g last seg trk e s depth blocks tail u h0 r read q in
-      (copy_pass c ∙ pass_kept g last seg trk e s depth blocks tail u h0 r read q, inr (omega (arith, from_named (told_of (header_of h)) (λ z. named.0 (sym (copy_eod c) ∙ z)), copy_eod c, named.1)))
+      (copy_pass c ∙ pass_kept g last seg trk e s depth blocks tail u h0 r read q, inr (omega (arith, from_named (header_of h) (λ z. named.0 (sym (copy_eod c) ∙ z)), copy_eod c, named.1)))
 
   -- frames from the start on
   start_fair : (b : Start g last s) → Cartridge last t → AsItStands b t → NoneInTheWay b t → Fair last s.copies.header.pass (start_of b) t
@@ -207,7 +205,7 @@ module _ (g : Geometry) (last : ℕ) (d : Drive) (s : State) (b : Start g last s
       let told = ⊎_elim (λ q. old_told g last seg trk e s d.tape b newest a h (record { group = at.group; reads = q; valid = at.valid }) is) (λ c. own_told begun.set c) (intact.on_tape.traced a h at) in
       let roof = (start_started g last seg trk e s b).roof in
       reads_part begun.set.large (earlier_of b) w.notes.accepted refl (omega arith) w.drive intact (MayEnd b d.tape w.drive.tape) (start_ends g last seg trk e s d.tape b w.drive.tape none)
-      (told_of (header_of h)) (valid_last last h at.valid) told.0 told.1 g h from read r seg trk e refl (opens a h at) runs2
+      (header_of h) (valid_last last h at.valid) told.0 told.1 g h from read r seg trk e refl (opens a h at) runs2
 
 pub power_cut : PowerCut
 unfolding PowerCut

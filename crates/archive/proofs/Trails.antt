@@ -19,8 +19,7 @@ use Rattle.frame.specs.declared.element.Kind.TheVariants.{Data, Marker, Eod}
 use Rattle.frame.specs.declared.element.Kind.{Kind}
 use Rattle.header.specs.Valid.{header_of}
 use Rattle.header.proofs.Facts.{valid_last}
-use Rattle.reading_state.specs.Open.{told_of}
-use Rattle.judgement.specs.declared.told.Told.{Told}
+use Rattle.frame.specs.declared.header.Header.{Header}
 use Rattle.judgement.proofs.JudgeLaws.{found_told}
 use Rattle.judgement.specs.Judgement as judgement
 use Rattle.judgement.specs.Judgement.{JudgementSaid, found_said}
@@ -62,8 +61,8 @@ module _ {last pass base : ℕ} {none_bears : Type 0} {t : Tape} {ps xs : List E
   abbrev count : ℕ
   count = l.reads.count
 
-  abbrev told : Told
-  told = told_of (header_of l.headers.header)
+  abbrev told : Header
+  told = (header_of l.headers.header)
 
   last_is : told.last.0 ≡ last
   last_is = valid_last last l.headers.header l.headers.newest.here.valid

@@ -9,7 +9,6 @@ use Rattle.header.specs.Valid.{header_of, update_of}
 use Rattle.recording_state.specs.declared.state.State.{State}
 use Rattle.reading_state.specs.State.{end_of}
 use Rattle.reading_state.specs.Open as reading
-use Rattle.reading_state.specs.Open.{told_of}
 use Rattle.archive_lists.specs.Tape.{Tape, HasLast, Cartridge, SameFrames}
 use Rattle.archive_lists.specs.Conduct.{Drive}
 use Rattle.archive_lists.specs.Headers.{HeaderAt, Newest}
@@ -131,7 +130,7 @@ pub record AsBefore (g : Geometry) (last : ℕ) (old t : Tape) : Type 0 where
   pub opens : (a : ℕ) (h : List ℕ) → HeaderAt last t a h → (reading.open_of g h).number ≡ 0
   pub reads : (a : ℕ) (h : List ℕ) → HeaderAt last t a h
       → (at : ℕ) (calls : List readings.Call) (r : readings.World) → readings.Runs t (readings.started (reading.open_of g h).session at) calls r
-      → IsFold (told_of (header_of h)) old r
+      → IsFold (header_of h) old r
 
 -- as long as no tape from the opening on held a newer header. The last tape alone would not tell: closing headers may spoil the only new copy when user
 -- frames are long written. That none counted higher than the header opened on is part of this, for the tape at the opening is one of them; opened on none,

@@ -11,7 +11,7 @@ use lib.ListN.{length, take}
 use lib.Seq.{take_all}
 use Rattle.geometry.proofs.Impossible.{never, clash}
 use Rattle.frame.specs.declared.trail.Trail.{Trail}
-use Rattle.judgement.specs.declared.told.Told.{Told}
+use Rattle.frame.specs.declared.header.Header.{Header}
 use Rattle.reading_state.specs.State.{end_of}
 use Rattle.archive_lists.specs.Tape.{Tape}
 use Rattle.archive_lists.specs.Recordings.{Element}
@@ -26,14 +26,14 @@ use Rattle.archive_lists.proofs.reading.Promises.{standing}
 use Rattle.archive_cuts.specs.Cuts.{FaithfulInPart}
 
 -- what the whole tape gives, the first j of xs: it has no end, or one at an address
-pub data Whole (told : Told) (t : Tape) (xs : List Element) (may_end : ℕ → Type 0) (j : ℕ) : Type 0 where
+pub data Whole (told : Header) (t : Tape) (xs : List Element) (may_end : ℕ → Type 0) (j : ℕ) : Type 0 where
   without_end : (trail : Trail) → whole_of told t ≡ going j (take j xs) trail → Whole told t xs may_end j
   with_end : (e : ℕ) → may_end e → whole_of told t ≡ finished (take j xs) e → Whole told t xs may_end j
 
 going_list : {u v : List Element} {c d : ℕ} {p q : Trail} → going c u p ≡ going d v q → u ≡ v
 going_list e = cc
 
-module _ {told : Told} {t : Tape} (k : ReadTape told t) (earlier accepted : List Element) (may_end : ℕ → Type 0) (j : ℕ) (low : length earlier ≤ j) (size : length (take j (earlier ++ accepted)) ≡ j) where
+module _ {told : Header} {t : Tape} (k : ReadTape told t) (earlier accepted : List Element) (may_end : ℕ → Type 0) (j : ℕ) (low : length earlier ≤ j) (size : length (take j (earlier ++ accepted)) ≡ j) where
   abbrev ys : List Element
   ys = take j (earlier ++ accepted)
 

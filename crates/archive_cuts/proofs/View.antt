@@ -22,7 +22,7 @@ use Rattle.frame.specs.declared.element.Kind.TheVariants.{Data, Marker, Eod}
 use Rattle.frame.specs.declared.trail.Trail.{Trail}
 use Rattle.judgement.specs.Judgement as judgement
 use Rattle.judgement.specs.Judgement.{JudgementSaid, ends_from, is_named_end, judge_frame}
-use Rattle.judgement.specs.declared.told.Told.{Told}
+use Rattle.frame.specs.declared.header.Header.{Header}
 use Rattle.judgement.proofs.Facts.{FoundAs}
 use Rattle.judgement.proofs.JudgeView as view
 use Rattle.judgement.proofs.JudgeView.{JudgeView, judge_view}
@@ -50,7 +50,7 @@ Fair last pass start t = (a : ℕ) (f : List ℕ) → start ≤ a → is_user la
 
 -- ---- one frame
 
-module _ {last pass : ℕ} (told : Told) (last_is : told.last.0 ≡ last) (pass_is : told.pass ≡ pass) (a n : ℕ) (early : a < ends_from (unending last pass)) (f : List ℕ) where
+module _ {last pass : ℕ} (told : Header) (last_is : told.last.0 ≡ last) (pass_is : told.pass ≡ pass) (a n : ℕ) (early : a < ends_from (unending last pass)) (f : List ℕ) where
   -- judged as in the open view, or as the end
   data Judged : Type 0 where
     alike : judge_frame told (record { 0 = a }) (record { 0 = n }) f ≡ judge_frame (unending last pass) (record { 0 = a }) (record { 0 = n }) f → Judged
@@ -129,16 +129,16 @@ module _ {last pass : ℕ} (told : Told) (last_is : told.last.0 ≡ last) (pass_
 
 -- ---- the whole tape
 
-fold_other : (told : Told) (t : Tape) (a : ℕ) → is_user told.last.0 a ≡ false → fold_of told t (a + 1) ≡ fold_of told t a
+fold_other : (told : Header) (t : Tape) (a : ℕ) → is_user told.last.0 a ≡ false → fold_of told t (a + 1) ≡ fold_of told t a
 unfolding fold_of
 fold_other told t a u = ap (fold_of told t) (add-one a) ∙ pick_f _ u
 
-look_finished : (told : Told) (a : ℕ) (v : Option (List ℕ)) (got : List Element) (e : ℕ) → look told a v (finished got e) ≡ finished got e
+look_finished : (told : Header) (a : ℕ) (v : Option (List ℕ)) (got : List Element) (e : ℕ) → look told a v (finished got e) ≡ finished got e
 unfolding look
 look_finished told a none got e = refl
 look_finished told a (some f) got e = refl
 
-look_is : (told : Told) (a : ℕ) (f : List ℕ) (n : ℕ) (got : List Element) (trail : Trail) → look told a (some f) (going n got trail) ≡ advance (judge_frame told (record { 0 = a }) (record { 0 = n }) f) f a n got trail
+look_is : (told : Header) (a : ℕ) (f : List ℕ) (n : ℕ) (got : List Element) (trail : Trail) → look told a (some f) (going n got trail) ≡ advance (judge_frame told (record { 0 = a }) (record { 0 = n }) f) f a n got trail
 unfolding look
 look_is told a f n got trail = refl
 
@@ -150,7 +150,7 @@ advance_up judgement.block f a n m got more trail other e = let q : n + 1 ≡ m 
 advance_up judgement.filemark f a n m got more trail other e = let q : n + 1 ≡ m = cc in omega arith
 advance_up judgement.end f a n m got more trail other e = never (cc)
 
-module _ {last pass base m start : ℕ} {xs : List Element} (t : Tape) (told : Told) (last_is : told.last.0 ≡ last) (pass_is : told.pass ≡ pass) (large : 3000 ≤ last) (begin_low : start ≤ last + 1)
+module _ {last pass base m start : ℕ} {xs : List Element} (t : Tape) (told : Header) (last_is : told.last.0 ≡ last) (pass_is : told.pass ≡ pass) (large : 3000 ≤ last) (begin_low : start ≤ last + 1)
     (top : m ≤ length xs) (all : Has xs m (fold_of (unending last pass) t (last + 1))) (begun : Has xs base (fold_of (unending last pass) t start))
     (agrees : fold_of told t start ≡ fold_of (unending last pass) t start) (fair : Fair last pass start t) where
   abbrev ys : List Element
@@ -204,7 +204,7 @@ module _ {last pass base m start : ℕ} {xs : List Element} (t : Tape) (told : T
     at_user u v tv (ended j e f low size begin user reads is_own q) =
         ended j e f low size begin user reads is_own (fold_user told t a (user_told a u) ∙ ap (look told a (t a)) q ∙ look_finished told a (t a) (take j xs) e)
     at_user u none tv (goes j trail low size o q) =
-        let nothing : (told2 : Told) (r : Reader) → look told2 a (t a) r ≡ r = λ told2 r. look_none told2 a (t a) r (λ f e. none_some (sym tv ∙ e)) in
+        let nothing : (told2 : Header) (r : Reader) → look told2 a (t a) r ≡ r = λ told2 r. look_none told2 a (t a) r (λ f e. none_some (sym tv ∙ e)) in
         goes j trail low size (fold_user (unending last pass) t a u ∙ nothing (unending last pass) _ ∙ o) (fold_user told t a (user_told a u) ∙ nothing told _ ∙ q)
     at_user u (some f) tv (goes j trail low size o q) = go (judged told last_is pass_is a j (omega (arith, ends_telling last pass (last + 1))) f (fair a f from u tv))
       where

@@ -14,8 +14,7 @@ use Rattle.header.specs.Read.{CheckedSaid, read_header}
 use Rattle.header.specs.Valid.{valid_header, header_of}
 use Rattle.header.proofs.Facts.{valid_last}
 use Rattle.header.proofs.ReadLaws.{taken_valid, refused_number}
-use Rattle.judgement.specs.declared.told.Told.{Told}
-use Rattle.reading_state.specs.Open.{OpenedSaid, told_of, fresh, open_for, open_of}
+use Rattle.reading_state.specs.Open.{OpenedSaid, fresh, open_for, open_of}
 use Rattle.archive_lists.specs.Tape.{Tape, Cartridge}
 use Rattle.archive_lists.specs.Readings.{World, Call, Runs, started}
 use Rattle.archive_lists.specs.Faithful.{reply_bound}
@@ -29,7 +28,7 @@ use Rattle.archive_lists.proofs.reading.BoundedLists.{runs_few}
 use Rattle.archive_lists.proofs.reading.Promises.{is_fold}
 
 -- the cartridge that is read
-read_tape : (g : Geometry) (told : Told) (t : Tape) → g.segtrk < 2 ^ 16 → g.trks < 2 ^ 16 → last_of g ≡ address told.last.0 → Cartridge told.last.0 t → ReadTape told t
+read_tape : (g : Geometry) (told : Header) (t : Tape) → g.segtrk < 2 ^ 16 → g.trks < 2 ^ 16 → last_of g ≡ address told.last.0 → Cartridge told.last.0 t → ReadTape told t
 read_tape g told t seg trk e cart =
     let f = frames_of_lem g told.last.0 e in
     let small : told.last.0 + 65 < 2 ^ 32 = last_small g told.last.0 seg trk f in
@@ -37,7 +36,7 @@ read_tape g told t seg trk e cart =
 
 -- a header that the opening accepts was taken for valid
 pub record Opens (last : ℕ) (h : List ℕ) (r : OpenedSaid) : Type 0 where
-  pub opened : r ≡ record { session = fresh (told_of (header_of h)); number = 0 }
+  pub opened : r ≡ record { session = fresh (header_of h); number = 0 }
   pub valid : valid_header (as_address last) h ≡ true
   pub last_is : (header_of h).last.0 ≡ last
 
@@ -48,7 +47,7 @@ opened_as g last h e = go (read_header g h) refl
     go : (c : CheckedSaid) → read_header g h ≡ c → (open_for c).number ≡ 0 → Opens last h (open_for c)
     go (checked.valid fields) r z =
         let taken = taken_valid g h e r in
-        record { opened = ap (λ (x : Header). record { session = fresh (told_of x); number = 0 }) taken.told; valid = taken.is_valid; last_is = valid_last last h taken.is_valid }
+        record { opened = ap (λ (x : Header). record { session = fresh x; number = 0 }) taken.told; valid = taken.is_valid; last_is = valid_last last h taken.is_valid }
     go (checked.refused n) r z = let some = refused_number g h e r in absurd (omega arith)
 
 -- the invariant of a reading after every list of its calls
@@ -57,10 +56,10 @@ module _ (g : Geometry) (last : ℕ) (t : Tape) (h : List ℕ) (at : ℕ) (calls
   pub reading_opened : Opens last h (open_of g h)
   reading_opened = opened_as g last h e opens
 
-  pub tape_read : ReadTape (told_of (header_of h)) t
-  tape_read = let o = reading_opened in read_tape g (told_of (header_of h)) t seg trk (e ∙ ap address (sym o.last_is)) (subst (λ (n : ℕ). Cartridge n t) (sym o.last_is) cart)
+  pub tape_read : ReadTape (header_of h) t
+  tape_read = let o = reading_opened in read_tape g (header_of h) t seg trk (e ∙ ap address (sym o.last_is)) (subst (λ (n : ℕ). Cartridge n t) (sym o.last_is) cart)
 
-  pub reading_kept : ReadInv (told_of (header_of h)) t w
+  pub reading_kept : ReadInv (header_of h) t w
   reading_kept = reads_keep tape_read (read_begins tape_read at) (subst (λ (x : OpenedSaid). Runs t (started x.session at) calls w) reading_opened.opened runs)
 
   pub reading_few : w.notes.replies ≤ reply_bound (header_of h).last.0

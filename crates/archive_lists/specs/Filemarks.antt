@@ -9,7 +9,7 @@ use Rattle.frame.specs.Aux.{no_marker}
 use Rattle.frame.specs.declared.element.Kind.{Kind}
 use Rattle.frame.specs.declared.element.Kind.TheVariants.{Data, Marker, Eod}
 use Rattle.judgement.specs.Judgement.{JudgementSaid, judge_frame}
-use Rattle.judgement.specs.declared.told.Told.{Told}
+use Rattle.frame.specs.declared.header.Header.{Header}
 use Rattle.archive_lists.specs.Recordings.{Element, block, filemark}
 
 -- ---- elements, which are numbered from 0
@@ -67,7 +67,7 @@ abbrev pub marker_named : List ℕ → ℕ
 marker_named frame = get32 (drop data_length frame) 200
 
 -- what a header tells that has this LAST and pass and names no end, as those that open a fresh recording: under it every EOD ends reading
-abbrev pub naming_no_end : ℕ → ℕ → Told
+abbrev pub naming_no_end : ℕ → ℕ → Header
 naming_no_end last pass = record { last = as_address last; pass = pass; eod = as_address 0; old = as_address 0; update = 0 }
 
 -- 02, Card 5: what a frame is to a reading on such a header that expects the frame's own number. It is current if that is a block, a filemark or the end.

@@ -12,9 +12,9 @@ use Rattle.frame.specs.declared.trail.Trail.{Trail}
 use Rattle.header.specs.Valid.{header_of}
 use Rattle.judgement.specs.Judgement as judgement
 use Rattle.judgement.specs.Judgement.{JudgementSaid, judge_frame}
-use Rattle.judgement.specs.declared.told.Told.{Told}
+use Rattle.frame.specs.declared.header.Header.{Header}
 use Rattle.reading_state.specs.State.{end_of}
-use Rattle.reading_state.specs.Open.{told_of, open_of}
+use Rattle.reading_state.specs.Open.{open_of}
 use Rattle.archive_lists.specs.Tape.{Tape, HasLast, Cartridge, SameFrames}
 use Rattle.archive_lists.specs.Recordings.{Element, block, filemark}
 use Rattle.archive_lists.specs.Readings.{World, Call, Runs, started}
@@ -38,23 +38,23 @@ advance judgement.filemark f a n got trail = going (n + 1) (got ++ filemark ∷ 
 advance judgement.end f a n got trail = finished got a
 
 -- what an address reads as
-unfoldable pub look : Told → ℕ → Option (List ℕ) → Reader → Reader
+unfoldable pub look : Header → ℕ → Option (List ℕ) → Reader → Reader
 look told a none r = r
 look told a (some f) (going n got trail) = advance (judge_frame told (as_address a) (as_seq n) f) f a n got trail
 look told a (some f) (finished got e) = finished got e
 look told a (some f) (stopped m) = stopped m
 
 -- after the user frames below an address
-unfoldable pub fold_of : Told → Tape → ℕ → Reader
+unfoldable pub fold_of : Header → Tape → ℕ → Reader
 fold_of told t zero = going 0 [] no_trail
 fold_of told t (suc a) = pick (is_user told.last.0 a) (look told a (t a) (fold_of told t a)) (fold_of told t a)
 
 -- and over the whole tape
-abbrev pub whole_of : Told → Tape → Reader
+abbrev pub whole_of : Header → Tape → Reader
 whole_of told t = fold_of told t (told.last.0 + 1)
 
 -- where a reading stands after a list of its calls
-pub data Standing (told : Told) (t : Tape) (w : World) : Type 0 where
+pub data Standing (told : Header) (t : Tape) (w : World) : Type 0 where
   -- it goes on: it has delivered what the fold has at the next address
   goes_on : w.notes.refused ≡ 0 → w.notes.end ≡ false
       → fold_of told t w.session.position.next.0 ≡ going w.session.expected.0 w.notes.deliveries w.session.trail → Standing told t w
@@ -69,7 +69,7 @@ pub data Standing (told : Told) (t : Tape) (w : World) : Type 0 where
       → whole_of told t ≡ going w.session.expected.0 w.notes.deliveries w.session.trail → Standing told t w
 
 -- what every list of a reading's calls gives of a tape: the fold
-pub record IsFold (told : Told) (t : Tape) (w : World) : Type 0 where
+pub record IsFold (told : Header) (t : Tape) (w : World) : Type 0 where
   pub standing : Standing told t w
   -- where the fold over the whole tape ends, every list goes on to that end
   pub faithful : (xs : List Element) (e : ℕ) → whole_of told t ≡ finished xs e → Faithful told.last.0 xs w
@@ -80,8 +80,8 @@ ReadingIsFold =
     (g : Geometry) (last : ℕ) (t : Tape) (h : List ℕ) (at : ℕ) (calls : List Call) (w : World)
     → HasLast g last → Cartridge last t → (open_of g h).number ≡ 0
     → Runs t (started (open_of g h).session at) calls w
-    → IsFold (told_of (header_of h)) t w
+    → IsFold (header_of h) t w
 
 -- under one header the fold rests on the user frames alone: a session that wrote nothing else changes nothing for whoever reads on that header
 unfoldable pub FoldOfUserFrames : Type 0
-FoldOfUserFrames = (told : Told) (t u : Tape) → SameFrames told.last.0 t u → (a : ℕ) → fold_of told t a ≡ fold_of told u a
+FoldOfUserFrames = (told : Header) (t u : Tape) → SameFrames told.last.0 t u → (a : ℕ) → fold_of told t a ≡ fold_of told u a

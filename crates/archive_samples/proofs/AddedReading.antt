@@ -16,10 +16,10 @@ use Rattle.frame.specs.declared.trail.Trail.{Trail}
 use Rattle.frame.proofs.Frames.{element_length}
 use Rattle.archive_lists.specs.Tape.{Tape, put}
 use Rattle.drive.specs.declared.command.Command.TheVariants.{Read, Locate, ReadPosition}
-use Rattle.judgement.specs.declared.told.Told.{Told}
+use Rattle.frame.specs.declared.header.Header.{Header}
 use Rattle.judgement.specs.Judgement as judgement
 use Rattle.judgement.proofs.Written.{judged_written, judged_earlier}
-use Rattle.reading_state.specs.Open.{OpenedSaid, told_of, fresh, open_of}
+use Rattle.reading_state.specs.Open.{OpenedSaid, fresh, open_of}
 use Rattle.archive_lists.specs.Recordings.{Element}
 use Rattle.archive_lists.specs.Readings.{World, Call, Runs, started}
 use Rattle.archive_lists.specs.Faithful.{Faithful}
@@ -31,7 +31,7 @@ use Rattle.archive_samples.proofs.ReadingExchange.{between, before, address_loca
 use Rattle.archive_samples.proofs.FirstReading.{told_at, first_trail, eod_reads, first_through}
 use Rattle.archive_samples.proofs.AddedRecording.{after_error, after_mark, added_start, added_opened, added_written, added_left, above_empty, added_valid, added_newest, added_readable}
 
-pub added_reading_opened : open_of geometry (header_frame added_closing) ≡ record { session = fresh (told_of added_closing); number = 0 }
+pub added_reading_opened : open_of geometry (header_frame added_closing) ≡ record { session = fresh added_closing; number = 0 }
 added_reading_opened = reading_opened added_closing (lit< tt) (lit< tt) (lit< tt) (lit< tt) (lit< tt) added_valid
 
 -- ---- the frames, as a reading on this header or a later one judges them
@@ -44,9 +44,9 @@ module _ (eod update : ℕ) where
   pub added_found : (a : ℕ) → judgement.judge_frame (told_at eod update) (as_address a) (record { 0 = 2 }) (element_frame added_filemark blank) ≡ judgement.filemark
   added_found a = judged_written added_filemark (lit< tt) (lit< tt) blank refl (reads_itself (element_frame added_filemark blank)) (told_at eod update) (as_address a) refl refl refl
 
-eod_found : judgement.judge_frame (told_of added_closing) (as_address 81) (record { 0 = 3 }) (element_frame added_eod blank) ≡ judgement.end
+eod_found : judgement.judge_frame added_closing (as_address 81) (record { 0 = 3 }) (element_frame added_eod blank) ≡ judgement.end
 unfolding judgement.ends_from
-eod_found = judged_written added_eod (lit< tt) (lit< tt) blank refl (reads_itself (element_frame added_eod blank)) (told_of added_closing) (as_address 81) refl refl refl
+eod_found = judged_written added_eod (lit< tt) (lit< tt) blank refl (reads_itself (element_frame added_eod blank)) added_closing (as_address 81) refl refl refl
 
 -- ---- the tape
 
@@ -80,7 +80,7 @@ added_trail = record { filemarks = 2; marker = as_address 80 }
 
 -- the end, with 13 replies taken in
 abbrev pub added_read : List ℕ → World
-added_read b = between 82 (first_elements b ++ added_elements) 13 (before (told_of added_closing) added_trail (Read (as_address 81)) 82 false 3 true)
+added_read b = between 82 (first_elements b ++ added_elements) 13 (before added_closing added_trail (Read (as_address 81)) 82 false 3 true)
 
 module _ (b : List ℕ) (full : length b ≡ 32768) where
   -- the elements of both recordings, also from a later tape that reads as this one up to 80, on a header that names a later end than 46
@@ -88,7 +88,7 @@ module _ (b : List ℕ) (full : length b ≡ 32768) where
     pub added_through : (place : ℕ) → Runs t (between 81 (first_elements b ++ added_elements) 12 (before (told_at eod update) added_trail (Read (as_address 80)) 81 false 3 false)) cs u
         → Runs t (started (fresh (told_at eod update)) place) (through_added b cs) u
     added_through place rest =
-        let told : Told = told_at eod update in
+        let told : Header = told_at eod update in
         let as_first : (a : ℕ) → 10 ≤ a → a < 80 → t a ≡ (added_start b).tape a = λ a low high. same a low (omega arith) ∙ as_left b a low high in
         let behind : (a : ℕ) → 47 ≤ a → a < 80 → t a ≡ none = λ a low high. as_first a (omega arith) high ∙ above_empty b a (omega arith) (inl (omega arith, omega arith)) in
         address_located t told no_trail [] 0 ReadPosition 10 0 refl place
@@ -99,13 +99,13 @@ module _ (b : List ℕ) (full : length b ≡ 32768) where
         (unreadable_passed_over t told first_trail (first_elements b) 10 (Locate (as_address 79)) 79 2 refl refl (behind 79 (lit≤ tt) (lit< tt))
         (frame_read t told first_trail (first_elements b) 11 (Read (as_address 79)) 80 2 refl refl true (element_frame added_filemark blank) judgement.filemark (same 80 (lit≤ tt) (lit< tt) ∙ added_reads b) (element_length added_filemark blank refl) (added_found eod update 80) refl rest))))))
 
-  from_fresh : (place : ℕ) → Runs (left b) (started (fresh (told_of added_closing)) place) (added_reading b) (added_read b)
+  from_fresh : (place : ℕ) → Runs (left b) (started (fresh added_closing) place) (added_reading b) (added_read b)
   unfolding judgement.ends_from
   from_fresh place =
       let all : List Element = first_elements b ++ added_elements in
       added_through (left b) (λ _ _ _. refl) 81 3 (lit< tt) place
-      (frame_read (left b) (told_of added_closing) added_trail all 12 (Read (as_address 80)) 81 3 refl refl true (element_frame added_eod blank) judgement.end (end_reads b) (element_length added_eod blank refl) eod_found refl
-      (end_said (left b) 82 all 13 (told_of added_closing) added_trail (Read (as_address 81)) 82 3))
+      (frame_read (left b) added_closing added_trail all 12 (Read (as_address 80)) 81 3 refl refl true (element_frame added_eod blank) judgement.end (end_reads b) (element_length added_eod blank refl) eod_found refl
+      (end_said (left b) 82 all 13 added_closing added_trail (Read (as_address 81)) 82 3))
 
   -- from the newest header of the cartridge: what both recordings accepted comes back, and the end
   pub added_read_lem : (place : ℕ) → Runs (left b) (started (open_of geometry (header_frame added_closing)).session place) (added_reading b) (added_read b)

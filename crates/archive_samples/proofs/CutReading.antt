@@ -15,7 +15,7 @@ use Rattle.frame.specs.declared.trail.Trail.{Trail}
 use Rattle.frame.proofs.Frames.{element_length}
 use Rattle.judgement.specs.Judgement as judgement
 use Rattle.drive.specs.declared.command.Command.TheVariants.{Read, ReadPosition}
-use Rattle.reading_state.specs.Open.{OpenedSaid, told_of, open_of}
+use Rattle.reading_state.specs.Open.{OpenedSaid, open_of}
 use Rattle.archive_lists.specs.Tape.{put}
 use Rattle.archive_lists.specs.Readings.{World, Runs, stop, started}
 use Rattle.archive_cuts.specs.Cuts.{FaithfulInPart}
@@ -35,7 +35,7 @@ abbrev cut_trail : Trail
 cut_trail = record { filemarks = 2; marker = as_address 46 }
 
 abbrev pub cut_read : List ℕ → World
-cut_read b = between 47 (first_elements b ++ added_elements) 8 (before (told_of first_closing) cut_trail (Read (as_address 46)) 47 false 3 false)
+cut_read b = between 47 (first_elements b ++ added_elements) 8 (before first_closing cut_trail (Read (as_address 46)) 47 false 3 false)
 
 module _ (b : List ℕ) (full : length b ≡ 32768) where
   -- below 46 as the first recording left it
@@ -51,9 +51,9 @@ module _ (b : List ℕ) (full : length b ≡ 32768) where
   pub cut_read_lem : (place : ℕ) → Runs (cut_left b).tape (started (open_of geometry (header_frame first_closing)).session place) (cut_reading b) (cut_read b)
   cut_read_lem place =
       subst (λ (x : OpenedSaid). Runs (cut_left b).tape (started x.session place) (cut_reading b) (cut_read b)) (sym first_reading_opened)
-      (address_located (cut_left b).tape (told_of first_closing) no_trail [] 0 ReadPosition 10 0 refl place
+      (address_located (cut_left b).tape first_closing no_trail [] 0 ReadPosition 10 0 refl place
       (first_through b full (cut_left b).tape as_left 46 1
-      (frame_read (cut_left b).tape (told_of first_closing) first_trail (first_elements b) 7 (Read (as_address 45)) 46 2 refl refl true (element_frame added_filemark blank) judgement.filemark mark_reads (element_length added_filemark blank refl) (added_found 46 1 46) refl stop)))
+      (frame_read (cut_left b).tape first_closing first_trail (first_elements b) 7 (Read (as_address 45)) 46 2 refl refl true (element_frame added_filemark blank) judgement.filemark mark_reads (element_length added_filemark blank refl) (added_found 46 1 46) refl stop)))
 
   -- and PowerCut speaks of this list
   pub cut_faithful : FaithfulInPart 11999 (first_elements b) added_elements (MayEnd (at_first_end b full) (first_left b).tape (cut_left b).tape) (cut_read b)

@@ -17,10 +17,10 @@ use Rattle.archive_lists.specs.Tape.{Tape, put}
 use Rattle.drive.specs.declared.command.Command.TheVariants.{Read, Locate, ReadPosition}
 use Rattle.frame.specs.Trail.{no_trail}
 use Rattle.frame.specs.declared.trail.Trail.{Trail}
-use Rattle.judgement.specs.declared.told.Told.{Told}
+use Rattle.frame.specs.declared.header.Header.{Header}
 use Rattle.judgement.specs.Judgement as judgement
 use Rattle.judgement.proofs.Written.{judged_written, judged_other_pass}
-use Rattle.reading_state.specs.Open.{OpenedSaid, told_of, fresh, open_of}
+use Rattle.reading_state.specs.Open.{OpenedSaid, fresh, open_of}
 use Rattle.archive_lists.specs.Recordings.{block, filemark}
 use Rattle.archive_lists.specs.Readings.{World, Call, Runs, started}
 use Rattle.archive_lists.specs.Faithful.{Faithful}
@@ -32,12 +32,12 @@ use Rattle.archive_samples.proofs.Tapes.{empty, same_reads, headers_elsewhere}
 use Rattle.archive_samples.proofs.ReadingExchange.{between, before, address_located, address_located_again, frame_read, unreadable_passed_over, blank_jumped, end_said, told_on, reading_opened}
 use Rattle.archive_samples.proofs.FirstRecording.{older_fits, after_failure, after_block, after_filemark, first_opened, first_written, first_left, first_valid, first_newest, first_readable}
 
-pub first_reading_opened : open_of geometry (header_frame first_closing) ≡ record { session = fresh (told_of first_closing); number = 0 }
+pub first_reading_opened : open_of geometry (header_frame first_closing) ≡ record { session = fresh first_closing; number = 0 }
 first_reading_opened = reading_opened first_closing (lit< tt) (lit< tt) (lit< tt) (lit< tt) (lit< tt) first_valid
 
 -- ---- the frames, as a reading of pass 1 judges them
 
-abbrev pub told_at : ℕ → ℕ → Told
+abbrev pub told_at : ℕ → ℕ → Header
 told_at = told_on 11999
 
 module _ (eod update : ℕ) where
@@ -50,9 +50,9 @@ module _ (eod update : ℕ) where
   filemark_found : judgement.judge_frame (told_at eod update) (as_address 45) (record { 0 = 1 }) (element_frame first_filemark blank) ≡ judgement.filemark
   filemark_found = judged_written first_filemark (lit< tt) (lit< tt) blank refl (reads_itself (element_frame first_filemark blank)) (told_at eod update) (as_address 45) refl refl refl
 
-eod_found : judgement.judge_frame (told_of first_closing) (as_address 46) (record { 0 = 2 }) (element_frame first_eod blank) ≡ judgement.end
+eod_found : judgement.judge_frame first_closing (as_address 46) (record { 0 = 2 }) (element_frame first_eod blank) ≡ judgement.end
 unfolding judgement.ends_from
-eod_found = judged_written first_eod (lit< tt) (lit< tt) blank refl (reads_itself (element_frame first_eod blank)) (told_of first_closing) (as_address 46) refl refl refl
+eod_found = judged_written first_eod (lit< tt) (lit< tt) blank refl (reads_itself (element_frame first_eod blank)) first_closing (as_address 46) refl refl refl
 
 -- ---- the tape
 
@@ -96,7 +96,7 @@ first_trail = record { filemarks = 1; marker = as_address 45 }
 
 -- the end, with eight replies taken in
 abbrev pub first_read_world : List ℕ → World
-first_read_world b = between 47 (first_elements b) 8 (before (told_of first_closing) first_trail (Read (as_address 46)) 47 false 2 true)
+first_read_world b = between 47 (first_elements b) 8 (before first_closing first_trail (Read (as_address 46)) 47 false 2 true)
 
 module _ (b : List ℕ) (full : length b ≡ 32768) where
   -- what was accepted comes back byte for byte, also from a later tape that reads as this one up to 45
@@ -104,7 +104,7 @@ module _ (b : List ℕ) (full : length b ≡ 32768) where
     pub first_through : Runs t (between 46 (first_elements b) 7 (before (told_at eod update) first_trail (Read (as_address 45)) 46 false 2 false)) cs u
         → Runs t (between 10 [] 1 (before (told_at eod update) no_trail (Locate (as_address 10)) 10 false 0 false)) (through_first b cs) u
     first_through rest =
-        let told : Told = told_at eod update in
+        let told : Header = told_at eod update in
         let fits = block_fits Data b full in
         let gap : (a : ℕ) → 11 ≤ a → a < 44 → t a ≡ none = λ a low high. same a (omega arith) (omega arith) ∙ gap_empty b a low high in
         let read : List ℕ = take 32768 (element_frame first_block b) in
@@ -116,12 +116,12 @@ module _ (b : List ℕ) (full : length b ≡ 32768) where
         (frame_read t told no_trail (block read ∷ []) 6 (Read (as_address 44)) 45 1 refl refl true (element_frame first_filemark blank) judgement.filemark (same 45 (lit≤ tt) (lit< tt) ∙ filemark_reads b) (element_length first_filemark blank refl) (filemark_found eod update) refl
         (subst (λ (bytes : List ℕ). Runs t (between 46 (block bytes ∷ filemark ∷ []) 7 (before told first_trail (Read (as_address 45)) 46 false 2 false)) cs u) (sym (element_data first_block b fits)) rest))))))
 
-  from_fresh : (place : ℕ) → Runs (left b) (started (fresh (told_of first_closing)) place) (first_reading b) (first_read_world b)
+  from_fresh : (place : ℕ) → Runs (left b) (started (fresh first_closing) place) (first_reading b) (first_read_world b)
   from_fresh place =
-      address_located_again (left b) (told_of first_closing) no_trail [] 0 ReadPosition 10 0 refl place
+      address_located_again (left b) first_closing no_trail [] 0 ReadPosition 10 0 refl place
       (first_through (left b) (λ _ _ _. refl) 46 1
-      (frame_read (left b) (told_of first_closing) first_trail (first_elements b) 7 (Read (as_address 45)) 46 2 refl refl true (element_frame first_eod blank) judgement.end (eod_reads b) (element_length first_eod blank refl) eod_found refl
-      (end_said (left b) 47 (first_elements b) 8 (told_of first_closing) first_trail (Read (as_address 46)) 47 2)))
+      (frame_read (left b) first_closing first_trail (first_elements b) 7 (Read (as_address 45)) 46 2 refl refl true (element_frame first_eod blank) judgement.end (eod_reads b) (element_length first_eod blank refl) eod_found refl
+      (end_said (left b) 47 (first_elements b) 8 first_closing first_trail (Read (as_address 46)) 47 2)))
 
   -- from the newest header of the cartridge, to the end
   pub first_read : (place : ℕ) → Runs (left b) (started (open_of geometry (header_frame first_closing)).session place) (first_reading b) (first_read_world b)

@@ -13,10 +13,10 @@ use Rattle.frame.specs.Trail.{no_trail}
 use Rattle.frame.specs.declared.trail.Trail.{Trail}
 use Rattle.frame.proofs.Frames.{element_length}
 use Rattle.drive.specs.declared.command.Command.TheVariants.{Read}
-use Rattle.judgement.specs.declared.told.Told.{Told}
+use Rattle.frame.specs.declared.header.Header.{Header}
 use Rattle.judgement.specs.Judgement as judgement
 use Rattle.judgement.proofs.Written.{judged_written}
-use Rattle.reading_state.specs.Open.{OpenedSaid, told_of, fresh, open_of}
+use Rattle.reading_state.specs.Open.{OpenedSaid, fresh, open_of}
 use Rattle.archive_lists.specs.Tape.{Tape, put}
 use Rattle.archive_lists.specs.Recordings.{Element}
 use Rattle.archive_lists.specs.Readings.{World, Runs, started}
@@ -27,17 +27,17 @@ use Rattle.archive_samples.proofs.GivenUpReading.{given_up_through}
 use Rattle.archive_samples.proofs.FilemarkSession as session
 use Rattle.archive_samples.proofs.GivenUpAdded.{resumed_start, resumed_left, resumed_valid}
 
-pub resumed_reading_opened : open_of smallest (header_frame resumed_closing) ≡ record { session = fresh (told_of resumed_closing); number = 0 }
+pub resumed_reading_opened : open_of smallest (header_frame resumed_closing) ≡ record { session = fresh resumed_closing; number = 0 }
 resumed_reading_opened = reading_opened_on smallest 3000 refl resumed_closing (lit< tt) (lit< tt) (lit< tt) (lit< tt) (lit< tt) resumed_valid
 
 -- ---- the frames, as this reading judges them
 
-filemark_found : judgement.judge_frame (told_of resumed_closing) (as_address 2815) (record { 0 = 1 }) (element_frame resumed_filemark blank) ≡ judgement.filemark
-filemark_found = judged_written resumed_filemark (lit< tt) (lit< tt) blank refl (reads_itself (element_frame resumed_filemark blank)) (told_of resumed_closing) (as_address 2815) refl refl refl
+filemark_found : judgement.judge_frame resumed_closing (as_address 2815) (record { 0 = 1 }) (element_frame resumed_filemark blank) ≡ judgement.filemark
+filemark_found = judged_written resumed_filemark (lit< tt) (lit< tt) blank refl (reads_itself (element_frame resumed_filemark blank)) resumed_closing (as_address 2815) refl refl refl
 
-eod_found : judgement.judge_frame (told_of resumed_closing) (as_address 2816) (record { 0 = 2 }) (element_frame resumed_eod blank) ≡ judgement.end
+eod_found : judgement.judge_frame resumed_closing (as_address 2816) (record { 0 = 2 }) (element_frame resumed_eod blank) ≡ judgement.end
 unfolding judgement.ends_from
-eod_found = judged_written resumed_eod (lit< tt) (lit< tt) blank refl (reads_itself (element_frame resumed_eod blank)) (told_of resumed_closing) (as_address 2816) refl refl refl
+eod_found = judged_written resumed_eod (lit< tt) (lit< tt) blank refl (reads_itself (element_frame resumed_eod blank)) resumed_closing (as_address 2816) refl refl refl
 
 -- ---- the tape
 
@@ -65,12 +65,12 @@ resumed_trail = record { filemarks = 1; marker = as_address 2815 }
 
 -- the end, with 2,808 replies taken in
 abbrev pub resumed_read : List ℕ → World
-resumed_read b = between 2817 (given_up_elements b ++ resumed_elements) 2808 (before (told_of resumed_closing) resumed_trail (Read (as_address 2816)) 2817 false 2 true)
+resumed_read b = between 2817 (given_up_elements b ++ resumed_elements) 2808 (before resumed_closing resumed_trail (Read (as_address 2816)) 2817 false 2 true)
 
 module _ (b : List ℕ) (full : length b ≡ 32768) where
-  from_fresh : (place : ℕ) → Runs (left b) (started (fresh (told_of resumed_closing)) place) (resumed_reading b) (resumed_read b)
+  from_fresh : (place : ℕ) → Runs (left b) (started (fresh resumed_closing) place) (resumed_reading b) (resumed_read b)
   from_fresh place =
-      let told : Told = told_of resumed_closing in
+      let told : Header = resumed_closing in
       let all : List Element = given_up_elements b ++ resumed_elements in
       given_up_through b full (left b) (as_left b) 2816 3 place
       (λ c.

@@ -16,11 +16,11 @@ use Rattle.frame.specs.Trail.{no_trail}
 use Rattle.frame.proofs.Frames.{element_length, element_data}
 use Rattle.drive.specs.declared.command.Command.{Command}
 use Rattle.drive.specs.declared.command.Command.TheVariants.{Read, Locate, ReadPosition}
-use Rattle.judgement.specs.declared.told.Told.{Told}
+use Rattle.frame.specs.declared.header.Header.{Header}
 use Rattle.judgement.specs.Judgement as judgement
 use Rattle.judgement.proofs.JudgeLaws.{one_below_so, found_told}
 use Rattle.judgement.proofs.Written.{found_written, judged_written}
-use Rattle.reading_state.specs.Open.{OpenedSaid, told_of, fresh, open_of}
+use Rattle.reading_state.specs.Open.{OpenedSaid, fresh, open_of}
 use Rattle.archive_lists.specs.Tape.{Tape, put}
 use Rattle.archive_lists.specs.Filemarks.{naming_no_end}
 use Rattle.archive_lists.specs.Recordings.{block}
@@ -33,7 +33,7 @@ use Rattle.archive_samples.proofs.Tapes.{same_reads, headers_elsewhere}
 use Rattle.archive_samples.proofs.ReadingExchange.{between, before, address_located, frame_read, addresses_missed, end_said, told_on, reading_opened_on}
 use Rattle.archive_samples.proofs.GivenUp.{after_failures, after_ten, after_eleven, given_up_start, given_up_opened, given_up_written, given_up_left, given_up_valid}
 
-pub given_up_reading_opened : open_of smallest (header_frame given_up_closing) ≡ record { session = fresh (told_of given_up_closing); number = 0 }
+pub given_up_reading_opened : open_of smallest (header_frame given_up_closing) ≡ record { session = fresh given_up_closing; number = 0 }
 given_up_reading_opened = reading_opened_on smallest 3000 refl given_up_closing (lit< tt) (lit< tt) (lit< tt) (lit< tt) (lit< tt) given_up_valid
 
 -- ---- the frames, as a reading on this header or a later one judges them
@@ -42,10 +42,10 @@ block_found : (eod update : ℕ) (b : List ℕ) → length b ≡ 32768 → judge
 block_found eod update b full = judged_written given_up_block (lit< tt) (lit< tt) b (block_fits Data b full) (reads_itself (element_frame given_up_block b)) (told_on 3000 eod update) (as_address 2560) refl refl refl
 
 -- number 1 is expected, and EOD has 0
-one_below : judgement.judge_frame (told_of given_up_closing) (as_address 2815) (record { 0 = 1 }) (element_frame given_up_eod blank) ≡ judgement.end
+one_below : judgement.judge_frame given_up_closing (as_address 2815) (record { 0 = 1 }) (element_frame given_up_eod blank) ≡ judgement.end
 one_below =
-    one_below_so (told_of given_up_closing) (as_address 2815) (record { 0 = 1 }) (element_frame given_up_eod blank) (λ e. omega arith) refl (record { 0 = 0 }) refl
-    (found_told (naming_no_end 3000 1) (told_of given_up_closing) refl refl (found_written given_up_eod (lit< tt) (lit< tt) blank refl (reads_itself (element_frame given_up_eod blank))))
+    one_below_so given_up_closing (as_address 2815) (record { 0 = 1 }) (element_frame given_up_eod blank) (λ e. omega arith) refl (record { 0 = 0 }) refl
+    (found_told (naming_no_end 3000 1) given_up_closing refl refl (found_written given_up_eod (lit< tt) (lit< tt) blank refl (reads_itself (element_frame given_up_eod blank))))
 
 -- ---- the tape
 
@@ -78,12 +78,12 @@ module _ (b : List ℕ) where
 
 -- the end, with 2,807 replies taken in
 abbrev pub given_up_read : List ℕ → World
-given_up_read b = between 2816 (given_up_elements b) 2807 (before (told_of given_up_closing) no_trail (Read (as_address 2815)) 2816 false 1 true)
+given_up_read b = between 2816 (given_up_elements b) 2807 (before given_up_closing no_trail (Read (as_address 2815)) 2816 false 1 true)
 
 module _ (b : List ℕ) (full : length b ≡ 32768) where
   -- the block comes back byte for byte, also from a later tape that reads as this one up to 2,814
   module _ (t : Tape) (same : (a : ℕ) → 10 ≤ a → a < 2815 → t a ≡ left b a) (eod update : ℕ) where
-    abbrev told : Told
+    abbrev told : Header
     told = told_on 3000 eod update
 
     nothing : (a : ℕ) → 10 ≤ a → a < 2815 → (a ≡ 2560 → ⊥) → t a ≡ none
@@ -101,12 +101,12 @@ module _ (b : List ℕ) (full : length b ≡ 32768) where
         (addresses_missed t told no_trail (given_up_elements b) 1 2815 2806 (lit≤ tt) (lit≤ tt) rest 254 2561 2552 (Read (as_address 2560)) refl refl (λ a low high. nothing a (omega arith) high (λ e. omega arith)))))
         2550 10 1 (Locate (as_address 10)) refl refl (λ a low high. nothing a low (omega arith) (λ e. omega arith)))
 
-  from_fresh : (place : ℕ) → Runs (left b) (started (fresh (told_of given_up_closing)) place) (given_up_reading b) (given_up_read b)
+  from_fresh : (place : ℕ) → Runs (left b) (started (fresh given_up_closing) place) (given_up_reading b) (given_up_read b)
   from_fresh place =
       given_up_through (left b) (λ _ _ _. refl) 2815 1 place
       (λ c.
-      frame_read (left b) (told_of given_up_closing) no_trail (given_up_elements b) 2806 c 2815 1 refl refl true (element_frame given_up_eod blank) judgement.end (eod_reads b) (element_length given_up_eod blank refl) one_below refl
-      (end_said (left b) 2816 (given_up_elements b) 2807 (told_of given_up_closing) no_trail (Read (as_address 2815)) 2816 1))
+      frame_read (left b) given_up_closing no_trail (given_up_elements b) 2806 c 2815 1 refl refl true (element_frame given_up_eod blank) judgement.end (eod_reads b) (element_length given_up_eod blank refl) one_below refl
+      (end_said (left b) 2816 (given_up_elements b) 2807 given_up_closing no_trail (Read (as_address 2815)) 2816 1))
 
   -- from the newest header of the cartridge, to the end
   pub given_up_read_lem : (place : ℕ) → Runs (left b) (started (open_of smallest (header_frame given_up_closing)).session place) (given_up_reading b) (given_up_read b)

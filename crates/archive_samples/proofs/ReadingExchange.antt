@@ -30,9 +30,8 @@ use Rattle.drive.specs.declared.command.Command.TheVariants.{Read, Locate}
 use Rattle.drive.specs.declared.reply.Reply.{Reply}
 use Rattle.drive.proofs.CaseLaws.{command_by_lem}
 use Rattle.frame.specs.declared.trail.Trail.{Trail}
-use Rattle.judgement.specs.declared.told.Told.{Told}
 use Rattle.judgement.specs.Judgement as judgement
-use Rattle.reading_state.specs.Open.{told_of, fresh, open_for, open_of}
+use Rattle.reading_state.specs.Open.{fresh, open_for, open_of}
 use Rattle.reading_state.specs.Fetch as fetch
 use Rattle.reading_state.specs.Reply as reply
 use Rattle.reading_state.specs.declared.state.State.{State as Reading}
@@ -99,7 +98,7 @@ module _ (t : Tape) (deliveries : List Element) (n : ℕ) {cs : List Call} {u : 
 -- ---- the session, and each kind of exchange
 
 -- a reading on what a header tells, behind a trail, before a command
-abbrev pub before : Told → Trail → Command → ℕ → Bool → ℕ → Bool → Reading
+abbrev pub before : Header → Trail → Command → ℕ → Bool → ℕ → Bool → Reading
 before told trail c next locate expected finished = record {
   told = told;
   position = record { next = as_address next; locate = locate };
@@ -115,7 +114,7 @@ abbrev bringing : Bool → Reply
 bringing true = good
 bringing false = recovered
 
-module _ (told : Told) (trail : Trail) (c : Command) (a expected : ℕ) (low : ltb told.last.0 a ≡ false) where
+module _ (told : Header) (trail : Trail) (c : Command) (a expected : ℕ) (low : ltb told.last.0 a ≡ false) where
   abbrev locating : Reading
   locating = fetch.awaits (before told trail c a true expected false) (Locate (as_address a))
 
@@ -168,7 +167,7 @@ unfolding meaning_in
 counted true n = refl
 counted false n = refl
 
-module _ (t : Tape) (told : Told) (trail : Trail) (deliveries : List Element) (n : ℕ) (c : Command) (a expected : ℕ) (low : ltb told.last.0 a ≡ false) {cs : List Call} {u : World} where
+module _ (t : Tape) (told : Header) (trail : Trail) (deliveries : List Element) (n : ℕ) (c : Command) (a expected : ℕ) (low : ltb told.last.0 a ≡ false) {cs : List Call} {u : World} where
   pub address_located : (place : ℕ)
       → Runs t (between a (deliveries ++ []) (n + 1) (reply.located_of (locating told trail c a expected low)).session) cs u
       → Runs t (between place deliveries n (before told trail c a true expected false)) (fetching ∷ replying good frame ∷ cs) u
@@ -217,7 +216,7 @@ module _ (t : Tape) (told : Told) (trail : Trail) (deliveries : List Element) (n
         (blanks (as_address a) end_of_data a refl nothing) (inl refl) rest
 
 -- k addresses at which nothing reads, one after another
-module _ (t : Tape) (told : Told) (trail : Trail) (deliveries : List Element) (expected end replies : ℕ) (low : end ≤ 2990) (large : 2990 ≤ told.last.0) {cs : List Call} {u : World}
+module _ (t : Tape) (told : Header) (trail : Trail) (deliveries : List Element) (expected end replies : ℕ) (low : end ≤ 2990) (large : 2990 ≤ told.last.0) {cs : List Call} {u : World}
     (rest : (c : Command) → Runs t (between end deliveries replies (before told trail c end false expected false)) cs u) where
   pub addresses_missed : (k a n : ℕ) (c : Command) → a + k ≡ end → n + k ≡ replies → ((b : ℕ) → a ≤ b → b < end → t b ≡ none)
       → Runs t (between a deliveries n (before told trail c a false expected false)) (unreadables k cs) u
@@ -232,7 +231,7 @@ module _ (t : Tape) (told : Told) (trail : Trail) (deliveries : List Element) (e
       (addresses_missed k (a + 1) (n + 1) (Read (as_address a)) (omega arith) (omega arith) (λ b high. nothing b (omega arith)))))
 
 -- the end, said again at each fetch
-module _ (t : Tape) (place : ℕ) (deliveries : List Element) (n : ℕ) (told : Told) (trail : Trail) (c : Command) (next expected : ℕ) where
+module _ (t : Tape) (place : ℕ) (deliveries : List Element) (n : ℕ) (told : Header) (trail : Trail) (c : Command) (next expected : ℕ) where
   abbrev ended : Reading
   ended = before told trail c next false expected true
 
@@ -249,17 +248,17 @@ module _ (t : Tape) (place : ℕ) (deliveries : List Element) (n : ℕ) (told : 
 -- ---- the opening
 
 -- what the header of a closed recording of pass 1 tells
-abbrev pub told_on : ℕ → ℕ → ℕ → Told
+abbrev pub told_on : ℕ → ℕ → ℕ → Header
 told_on last eod update = record { last = as_address last; pass = 1; eod = as_address eod; old = as_address 0; update = update }
 
 pub reading_opened_on : (g : Geometry) (last : ℕ) → last_of g ≡ address last → (h : Header)
     → h.last.0 < 2 ^ 32 → h.pass < 2 ^ 16 → h.eod.0 < 2 ^ 32 → h.old.0 < 2 ^ 32 → h.update < 2 ^ 32 → valid_header (as_address last) (header_frame h) ≡ true
-    → open_of g (header_frame h) ≡ record { session = fresh (told_of h); number = 0 }
+    → open_of g (header_frame h) ≡ record { session = fresh h; number = 0 }
 unfolding open_of
 reading_opened_on g last size h small_last pass eod old update valid =
     ap open_for (valid_taken g (header_frame h) size (header_length h) valid)
-    ∙ ap (λ (x : Header). record { session = fresh (told_of x); number = 0 }) (built_fields h small_last pass eod old update)
+    ∙ ap (λ (x : Header). record { session = fresh x; number = 0 }) (built_fields h small_last pass eod old update)
 
 pub reading_opened : (h : Header) → h.last.0 < 2 ^ 32 → h.pass < 2 ^ 16 → h.eod.0 < 2 ^ 32 → h.old.0 < 2 ^ 32 → h.update < 2 ^ 32 → valid_header (as_address 11999) (header_frame h) ≡ true
-    → open_of geometry (header_frame h) ≡ record { session = fresh (told_of h); number = 0 }
+    → open_of geometry (header_frame h) ≡ record { session = fresh h; number = 0 }
 reading_opened = reading_opened_on geometry 11999 refl

@@ -15,7 +15,7 @@ use Rattle.archive_lists.specs.Tape.{Tape, put}
 use Rattle.drive.specs.declared.command.Command.TheVariants.{Read}
 use Rattle.judgement.specs.Judgement as judgement
 use Rattle.judgement.proofs.Written.{judged_written}
-use Rattle.reading_state.specs.Open.{OpenedSaid, told_of, fresh, open_of}
+use Rattle.reading_state.specs.Open.{OpenedSaid, fresh, open_of}
 use Rattle.archive_lists.specs.Recordings.{Element}
 use Rattle.archive_lists.specs.Readings.{World, Runs, started}
 use Rattle.archive_lists.specs.Faithful.{Faithful}
@@ -26,17 +26,17 @@ use Rattle.archive_samples.proofs.AddedReading.{added_trail, added_through}
 use Rattle.archive_samples.proofs.FilemarkSession as session
 use Rattle.archive_samples.proofs.ThirdRecording.{third_start, third_left, third_valid, third_newest, third_readable}
 
-pub third_reading_opened : open_of geometry (header_frame third_closing) ≡ record { session = fresh (told_of third_closing); number = 0 }
+pub third_reading_opened : open_of geometry (header_frame third_closing) ≡ record { session = fresh third_closing; number = 0 }
 third_reading_opened = reading_opened third_closing (lit< tt) (lit< tt) (lit< tt) (lit< tt) (lit< tt) third_valid
 
 -- ---- the frames, as this reading judges them
 
-third_found : judgement.judge_frame (told_of third_closing) (as_address 81) (record { 0 = 3 }) (element_frame third_filemark blank) ≡ judgement.filemark
-third_found = judged_written third_filemark (lit< tt) (lit< tt) blank refl (reads_itself (element_frame third_filemark blank)) (told_of third_closing) (as_address 81) refl refl refl
+third_found : judgement.judge_frame third_closing (as_address 81) (record { 0 = 3 }) (element_frame third_filemark blank) ≡ judgement.filemark
+third_found = judged_written third_filemark (lit< tt) (lit< tt) blank refl (reads_itself (element_frame third_filemark blank)) third_closing (as_address 81) refl refl refl
 
-eod_found : judgement.judge_frame (told_of third_closing) (as_address 82) (record { 0 = 4 }) (element_frame third_eod blank) ≡ judgement.end
+eod_found : judgement.judge_frame third_closing (as_address 82) (record { 0 = 4 }) (element_frame third_eod blank) ≡ judgement.end
 unfolding judgement.ends_from
-eod_found = judged_written third_eod (lit< tt) (lit< tt) blank refl (reads_itself (element_frame third_eod blank)) (told_of third_closing) (as_address 82) refl refl refl
+eod_found = judged_written third_eod (lit< tt) (lit< tt) blank refl (reads_itself (element_frame third_eod blank)) third_closing (as_address 82) refl refl refl
 
 -- ---- the tape
 
@@ -64,13 +64,13 @@ third_trail = record { filemarks = 3; marker = as_address 81 }
 
 -- the end, with 14 replies taken in
 abbrev pub third_read : List ℕ → World
-third_read b = between 83 (first_elements b ++ added_elements ++ third_elements) 14 (before (told_of third_closing) third_trail (Read (as_address 82)) 83 false 4 true)
+third_read b = between 83 (first_elements b ++ added_elements ++ third_elements) 14 (before third_closing third_trail (Read (as_address 82)) 83 false 4 true)
 
 module _ (b : List ℕ) (full : length b ≡ 32768) where
-  from_fresh : (place : ℕ) → Runs (left b) (started (fresh (told_of third_closing)) place) (third_reading b) (third_read b)
+  from_fresh : (place : ℕ) → Runs (left b) (started (fresh third_closing) place) (third_reading b) (third_read b)
   unfolding judgement.ends_from
   from_fresh place =
-      let told = told_of third_closing in
+      let told = third_closing in
       let all : List Element = first_elements b ++ added_elements ++ third_elements in
       added_through b full (left b) (as_left b) 82 5 (lit< tt) place
       (frame_read (left b) told added_trail (first_elements b ++ added_elements) 12 (Read (as_address 80)) 81 3 refl refl true (element_frame third_filemark blank) judgement.filemark (third_reads b) (element_length third_filemark blank refl) third_found refl

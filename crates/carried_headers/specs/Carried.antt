@@ -32,4 +32,4 @@ added_to last pass update end = record { last = last; pass = pass; eod = as_addr
 
 -- closing headers: the count is raised again, and EOD is named, which stands before the next address; the old end is not named any more
 abbrev pub closing_of : Header → Address → Header
-closing_of h next = record { last = h.last; pass = h.pass; eod = preceding next; old = as_address 0; update = wrap32 (h.update + 1) }
+closing_of h next = record h { eod = preceding next; old = as_address 0; update = wrap32 (h.update + 1) }

@@ -13,11 +13,11 @@ fn opening_header(last: Address, pass: u16, update: u32, old: Address) -> Header
     ensures { result ≡ record { last = last; pass = pass; eod = as_address 0; old = old; update = update } }
 {
     Header {
-        last: last,
-        pass: pass,
+        last,
+        pass,
         eod: Address(0),
-        old: old,
-        update: update,
+        old,
+        update,
     }
 }
 
@@ -42,38 +42,36 @@ pub fn is_counted_out(update: u32) -> bool
 pub fn is_exhausted(old: Header) -> bool
     ensures { result ≡ is_exhausted old }
 {
-    (HIGHEST_PASS <= old.pass) | is_counted_out(old.update)
+    HIGHEST_PASS <= old.pass || is_counted_out(old.update)
 }
 
 // The opening header of a recording over an old one.
 pub fn renew(old: Header) -> Header
     ensures { result ≡ renewed old }
 {
-    let pass = std::num::wrapping_add_u16(old.pass, 1);
-    let update = std::num::wrapping_add_u32(old.update, 1);
-    let none = Address(0);
-    let last = old.last;
-    opening_header(last, pass, update, none)
+    opening_header(
+        old.last,
+        old.pass.wrapping_add(1),
+        old.update.wrapping_add(1),
+        Address(0),
+    )
 }
 
 // The opening header of a recording that adds to a cartridge whose newest header has this LAST, pass and update count, and whose EOD is at `end`.
 pub fn add_to(last: Address, pass: u16, update: u32, end: Address) -> Header
     ensures { result ≡ added_to last pass update end }
 {
-    let next = std::num::wrapping_add_u32(update, 1);
-    opening_header(last, pass, next, end)
+    opening_header(last, pass, update.wrapping_add(1), end)
 }
 
 // The closing header: EOD stands before the next address.
 pub fn closing_header(header: Header, next: Address) -> Header
     ensures { result ≡ closing_of header next }
 {
-    let last = header.last;
     Header {
-        last: last,
-        pass: header.pass,
         eod: preceding(next),
         old: Address(0),
-        update: std::num::wrapping_add_u32(header.update, 1),
+        update: header.update.wrapping_add(1),
+        ..header
     }
 }

@@ -1,16 +1,15 @@
 -- 01, "A recording session", the paragraph on headers: how the copies of one header are written, one group after the other.
-use Rattle.std.specs.Prelude.{ℕ, ◌+◌, ◌-◌, Bool, true, false, ◌&&◌, ◌||◌, eqb, ltb, leb}
+use Rattle.std.specs.Prelude.{ℕ, ◌+◌, ◌-◌, true, false, ◌&&◌, ◌||◌, eqb, ltb, leb, Option, None, Some, Result, Ok, Err}
 use Rattle.geometry.specs.Place.{as_address}
 use Rattle.geometry.specs.Pick.{pick}
 use Rattle.geometry.specs.Refusal.{refusal_number}
 use Rattle.geometry.specs.Wrap.{wrap8}
 use Rattle.geometry.specs.Cartridge.{group_copies, header_address, copy_at}
 use Rattle.geometry.specs.declared.address.Address.{Address}
+use Rattle.geometry.specs.declared.refusal.Refusal.{Refusal}
 use Rattle.frame.specs.declared.header.Header.{Header}
 use Rattle.drive.specs.Command.{CommandSaid, write, locate, read_position}
 use Rattle.copies.specs.declared.copies.Copies.{Copies}
-use Rattle.copies.specs.declared.progress.Progress.{Progress}
-use Rattle.copies.specs.declared.progress.Progress.TheVariants.{More, Complete, Refused}
 
 -- before the first copy
 abbrev pub start_of : Header → Copies
@@ -33,36 +32,26 @@ pub data ProgressSaid : Type 0 where
   refused : ℕ → ProgressSaid
 
 -- what the code answers, in these terms
-abbrev pub progress_said : Progress → ProgressSaid
-progress_said (More c) = more c
-progress_said Complete = complete
-progress_said (Refused r) = refused (refusal_number r)
-
--- the same header, with another place: the copy that is due, by group and number, and whether a LOCATE comes before it
-abbrev with_place : Copies → ℕ → ℕ → Bool → Copies
-with_place c group copy locate =
-    record { header = c.header; group = group; copy = copy; outstanding = c.outstanding; confirmed = c.confirmed; locate = locate }
-
--- and with other counts of copies outstanding and known to be on tape
-abbrev with_counts : Copies → ℕ → ℕ → Copies
-with_counts c outstanding confirmed =
-    record { header = c.header; group = c.group; copy = c.copy; outstanding = outstanding; confirmed = confirmed; locate = c.locate }
+abbrev pub progress_said : Result (Option Copies) Refusal → ProgressSaid
+progress_said (Ok (Some c)) = more c
+progress_said (Ok None) = complete
+progress_said (Err r) = refused (refusal_number r)
 
 -- a LOCATE answered good
 abbrev pub located_of : Copies → Copies
-located_of c = with_place c c.group c.copy false
+located_of c = record c { locate = false }
 
 -- a WRITE answered good: the copy is outstanding. The counts stay below 11; `wrap8` only says what a wrapped number is.
 abbrev pub taken_of : Copies → Copies
-taken_of c = with_place (with_counts c (wrap8 (c.outstanding + 1)) c.confirmed) c.group (wrap8 (c.copy + 1)) c.locate
+taken_of c = record c { copy = wrap8 (c.copy + 1); outstanding = wrap8 (c.outstanding + 1) }
 
 -- the oldest n are on tape
 abbrev pub confirmed_of : Copies → ℕ → Copies
-confirmed_of c n = with_counts c (c.outstanding - n) (wrap8 (c.confirmed + n))
+confirmed_of c n = record c { outstanding = c.outstanding - n; confirmed = wrap8 (c.confirmed + n) }
 
 -- the next group starts with a LOCATE of its first copy
 abbrev pub next_group : Copies → Copies
-next_group c = with_place c 1 0 true
+next_group c = record c { group = 1; copy = 0; locate = true }
 
 -- a group whose copies are all through gives way to the next; behind the last one a copy must be on tape, else refusal 12
 unfoldable pub onward_of : Copies → ProgressSaid
@@ -77,7 +66,7 @@ counted_of c f = pick (ltb c.outstanding f) (refused 8) (onward_of (confirmed_of
 
 -- the copy of index i failed: it is spoiled, the n before it are on tape, and a LOCATE of the address behind it follows
 abbrev pub failed_at : Copies → ℕ → ℕ → Copies
-failed_at c n i = with_place (with_counts c 0 (wrap8 (c.confirmed + n))) c.group (i + 1) true
+failed_at c n i = record c { copy = i + 1; outstanding = 0; confirmed = wrap8 (c.confirmed + n); locate = true }
 
 -- the oldest outstanding copy, by its number in the group; the outstanding ones go up to the copy before the next
 abbrev pub oldest_copy : Copies → ℕ

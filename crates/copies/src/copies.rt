@@ -7,7 +7,7 @@ use drive::Command;
 use frame::Header;
 use geometry::{GROUP_COPIES, header_address};
 
-// The copies of one header, and how far the drive is with them.
+// The copies of one header, and how far the drive is with them. C hands the numbers and the flag in in every combination (`is_recording`).
 #[derive(Clone, Copy)]
 pub struct Copies {
     // What every copy carries.
@@ -19,7 +19,7 @@ pub struct Copies {
     pub outstanding: u8,
     // Copies of both groups that are known to be on tape.
     pub confirmed: u8,
-    // Whether a LOCATE comes before the next copy.
+    // Whether a LOCATE comes before the next copy. C hands in either with every copy.
     pub locate: bool,
 }
 
@@ -29,7 +29,7 @@ impl Copies {
         ensures { result ≡ start_of header }
     {
         Copies {
-            header: header,
+            header,
             group: 0,
             copy: 0,
             outstanding: 0,
@@ -39,6 +39,7 @@ impl Copies {
     }
 
     // The command that is due, for a drive that buffers `depth` frames.
+    #[tactic(auto, unfolding(crate::specs::Copies::command_of))]
     pub fn command(self, depth: u8) -> Command
         ensures { command_said result ≡ command_of depth self }
     {
@@ -46,7 +47,7 @@ impl Copies {
         if self.locate {
             return Command::Locate(address);
         }
-        if (self.copy < GROUP_COPIES) & (self.outstanding < depth) {
+        if self.copy < GROUP_COPIES && self.outstanding < depth {
             return Command::Write(address);
         }
         Command::ReadPosition

@@ -2,7 +2,5 @@
 #![tactic(auto)]
 
 mod copies;
-mod progress;
 
 pub use copies::Copies;
-pub use progress::Progress;

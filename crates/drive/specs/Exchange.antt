@@ -14,8 +14,8 @@ sent_of c = record { command = c; awaiting = true; again = false }
 
 -- the reply is taken in
 abbrev pub replied_of : Exchange → Exchange
-replied_of x = record { command = x.command; awaiting = false; again = x.again }
+replied_of x = record x { awaiting = false }
 
 -- answered busy: no reply is awaited any more, and the command is to be given once more
 abbrev pub repeated_of : Exchange → Exchange
-repeated_of x = record { command = x.command; awaiting = false; again = true }
+repeated_of x = record x { awaiting = false; again = true }

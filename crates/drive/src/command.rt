@@ -5,7 +5,7 @@ ghost use Rattle.drive.specs.Command.{command_code, command_address};
 use geometry::Address;
 
 // A command, with the address that it is about.
-#[derive(Clone, Copy)]
+#[derive(Clone, Copy, PartialEq, Eq)]
 pub enum Command {
     // Reads the frame at this address, where the drive stands.
     Read(Address),
@@ -29,26 +29,26 @@ pub const LOCATE: u8 = 0x2B;
 // READ POSITION.
 pub const READ_POSITION: u8 = 0x34;
 
-// The operation code of a command.
-pub fn code(c: Command) -> u8
-    ensures { result ≡ command_code c }
-{
-    match c {
-        Command::Read(_) => READ,
-        Command::Write(_) => WRITE,
-        Command::Locate(_) => LOCATE,
-        Command::ReadPosition => READ_POSITION,
+impl Command {
+    // Its operation code.
+    pub fn code(self) -> u8
+        ensures { result ≡ command_code self }
+    {
+        match self {
+            Command::Read(_) => READ,
+            Command::Write(_) => WRITE,
+            Command::Locate(_) => LOCATE,
+            Command::ReadPosition => READ_POSITION,
+        }
     }
-}
 
-// The command's address; READ POSITION has none and gives 0.
-pub fn address(c: Command) -> Address
-    ensures { result ≡ command_address c }
-{
-    match c {
-        Command::Read(a) => a,
-        Command::Write(a) => a,
-        Command::Locate(a) => a,
-        Command::ReadPosition => Address(0),
+    // Its address; READ POSITION has none and gives 0.
+    pub fn address(self) -> Address
+        ensures { result ≡ command_address self }
+    {
+        match self {
+            Command::Read(a) | Command::Write(a) | Command::Locate(a) => a,
+            Command::ReadPosition => Address(0),
+        }
     }
 }

@@ -4,7 +4,7 @@ ghost use Rattle.drive.specs.Exchange.{unsent, sent_of, replied_of, repeated_of}
 
 use crate::command::Command;
 
-// The last command, and what is to come of it.
+// The last command, and what is to come of it. Two flags, and no enum: C hands them in in every combination (`is_exchange`).
 #[derive(Clone, Copy)]
 pub struct Exchange {
     // The last command; before the first one it means nothing.
@@ -28,30 +28,34 @@ impl Exchange {
     }
 
     // A command goes out, and its reply is awaited.
-    pub fn sent(c: Command) -> Exchange
-        ensures { result ≡ sent_of c }
+    pub fn sent(command: Command) -> Exchange
+        ensures { result ≡ sent_of command }
     {
         Exchange {
-            command: c,
+            command,
             awaiting: true,
             again: false,
         }
     }
 
     // The reply is taken in.
-    pub fn replied(mut self) -> Exchange
+    pub fn replied(self) -> Exchange
         ensures { result ≡ replied_of self }
     {
-        self.awaiting = false;
-        self
+        Exchange {
+            awaiting: false,
+            ..self
+        }
     }
 
     // Answered busy: the command is to be given once more.
-    pub fn repeated(mut self) -> Exchange
+    pub fn repeated(self) -> Exchange
         ensures { result ≡ repeated_of self }
     {
-        self.awaiting = false;
-        self.again = true;
-        self
+        Exchange {
+            awaiting: false,
+            again: true,
+            ..self
+        }
     }
 }

@@ -2,6 +2,8 @@
 ghost use Rattle.std.specs.Prelude.{◌≡◌};
 ghost use Rattle.drive.specs.Senses.{matches, meaning_of};
 
+use crate::reply::Reply;
+
 // A sense triple with the code of its meaning.
 #[derive(Clone, Copy)]
 pub struct Sense {
@@ -11,25 +13,26 @@ pub struct Sense {
     pub meaning: u8,
 }
 
-// The meanings, after table 4-20 of the standard. This one is that of every triple that the table does not list.
+// The meanings, after table 4-20 of the standard. They are codes, and no enum: SCOPE asks that of the table and of the match on a reply.
+// This one is that of every triple that the table does not list.
 const OTHER: u8 = 0;
 
-pub(crate) const GOOD: u8 = 1;
+pub const GOOD: u8 = 1;
 
-pub(crate) const BUSY: u8 = 2;
+pub const BUSY: u8 = 2;
 
 // A frame could not be written.
 pub const WRITE_ERROR: u8 = 3;
 
-pub(crate) const VOLUME_OVERFLOW: u8 = 4;
+pub const VOLUME_OVERFLOW: u8 = 4;
 
-pub(crate) const RECOVERED: u8 = 5;
+pub const RECOVERED: u8 = 5;
 
-pub(crate) const UNREADABLE: u8 = 6;
+pub const UNREADABLE: u8 = 6;
 
-pub(crate) const END_OF_DATA: u8 = 7;
+pub const END_OF_DATA: u8 = 7;
 
-pub(crate) const END_OF_MEDIUM: u8 = 8;
+pub const END_OF_MEDIUM: u8 = 8;
 
 // How many triples are listed.
 const TRIPLES: usize = 9;
@@ -92,24 +95,24 @@ const SENSES: [Sense; TRIPLES] = [
     },
 ];
 
-// Whether an entry of the table is of this triple.
-fn is_triple(s: Sense, key: u8, asc: u8, ascq: u8) -> bool
-    ensures { result ≡ matches s key asc ascq }
-{
-    (s.key == key) & (s.asc == asc) & (s.ascq == ascq)
-}
-
-// The meaning of a triple: that of the first entry of the table which has it, or `OTHER`.
-pub fn meaning(key: u8, asc: u8, ascq: u8) -> u8
-    ensures { result ≡ meaning_of key asc ascq }
-{
-    let mut i: usize = 0;
-    while i < TRIPLES {
-        let s = SENSES[i];
-        if is_triple(s, key, asc, ascq) {
-            return s.meaning;
-        }
-        i += 1;
+impl Reply {
+    // Whether its triple is that of an entry of the table.
+    fn has(self, s: Sense) -> bool
+        ensures { result ≡ matches s self.key self.asc self.ascq }
+    {
+        s.key == self.key && s.asc == self.asc && s.ascq == self.ascq
     }
-    OTHER
+
+    // The meaning of its triple: that of the first entry of the table which has it, or `OTHER`.
+    #[tactic(auto, unfolding(crate::specs::Senses::meaning_in), using(crate::proofs::SenseLaws::meaning_step))]
+    pub fn meaning(self) -> u8
+        ensures { result ≡ meaning_of self.key self.asc self.ascq }
+    {
+        for sense in SENSES {
+            if self.has(sense) {
+                return sense.meaning;
+            }
+        }
+        OTHER
+    }
 }

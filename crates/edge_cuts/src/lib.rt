@@ -4,18 +4,16 @@
 mod additions;
 mod passed_over;
 
-use frame::DATA_LENGTH;
 use std::io;
 
-// The addition that is accepted has a window of four blocks.
+// The additions, and what is passed over.
 pub fn play_all(rt: &impl Print) -> io::Result<()> {
-    let window = [0u8; 4 * DATA_LENGTH];
     additions::behind_opening_headers(rt)?;
     additions::behind_element(rt)?;
     additions::at_last(rt)?;
     additions::behind_failed_write(rt)?;
     additions::behind_eod(rt)?;
-    additions::behind_closing_copy(rt, &window)?;
+    additions::behind_closing_copy(rt)?;
     passed_over::fresh(rt)?;
     passed_over::given_up(rt)
 }

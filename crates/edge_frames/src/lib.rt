@@ -1,32 +1,27 @@
 // Recordings whose frames are counted and set beside the most that the drive can take, played and printed.
 #![tactic(auto)]
 
+mod calls;
 mod element_errors;
 mod header_errors;
 mod most;
-mod runs;
-mod tally;
 
 use frame::DATA_LENGTH;
 use std::io;
 
-fn play_three_blocks(rt: &impl Print, window: &[u8]) -> io::Result<()> {
-    element_errors::both_outstanding(rt, window)?;
-    element_errors::told_at_write(rt, window)?;
-    element_errors::eod_alone(rt, window)
-}
-
 fn three_blocks(rt: &impl Print) -> io::Result<()> {
-    let window = [0u8; 3 * DATA_LENGTH];
-    play_three_blocks(rt, &window)
+    let mut window = [0u8; 3 * DATA_LENGTH];
+    element_errors::both_outstanding(rt, &mut window)?;
+    element_errors::told_at_write(rt, &mut window)?;
+    element_errors::eod_alone(rt, &mut window)
 }
 
 fn two_blocks(rt: &impl Print) -> io::Result<()> {
-    let window = [0u8; 2 * DATA_LENGTH];
-    element_errors::two_blocks(rt, &window)
+    let mut window = [0u8; 2 * DATA_LENGTH];
+    element_errors::two_blocks(rt, &mut window)
 }
 
-fn play_widest(rt: &impl Print, window: &[u8]) -> io::Result<()> {
+fn play_widest(rt: &impl Print, window: &mut [u8]) -> io::Result<()> {
     element_errors::one_outstanding(rt, window)?;
     element_errors::all_outstanding(rt, window)?;
     header_errors::first_of_five(rt, window)?;
@@ -34,8 +29,8 @@ fn play_widest(rt: &impl Print, window: &[u8]) -> io::Result<()> {
 }
 
 fn widest(rt: &impl Print) -> io::Result<()> {
-    let window = [0u8; 64 * DATA_LENGTH];
-    play_widest(rt, &window)
+    let mut window = [0u8; 64 * DATA_LENGTH];
+    play_widest(rt, &mut window)
 }
 
 // Each part with windows of one width.

@@ -4,14 +4,12 @@
 mod additions;
 mod readings;
 
-use frame::DATA_LENGTH;
 use std::io;
 
-// Additions with a window of four blocks, and the readings.
+// The additions, and the readings.
 pub fn play_all(rt: &impl Print) -> io::Result<()> {
-    let mut window = [0u8; 4 * DATA_LENGTH];
-    additions::behind_given_up(rt, &mut window)?;
-    additions::in_tail(rt, &mut window)?;
+    additions::behind_given_up(rt)?;
+    additions::in_tail(rt)?;
     readings::foreign(rt)?;
     readings::elsewhere(rt)?;
     readings::old_end(rt)

@@ -5,8 +5,9 @@ mod frames;
 mod printing;
 mod replies;
 
-pub use frames::print_sent;
-pub use printing::{
-    print, print_command, print_long, print_number, print_refusal, print_refused, print_sense,
+pub use frames::Sent;
+pub use printing::{Shown, session_of};
+pub use replies::{
+    busy, cartridge, end_of_data, end_of_medium, good, recovered, unreadable, unready,
+    volume_overflow, write_error,
 };
-pub use replies::{busy, cartridge, good, sense, write_error};

@@ -4,5 +4,15 @@
 mod headers;
 mod readings;
 
-pub use headers::{choices, openings};
-pub use readings::{crossing, example, jump_over, passed_over, refusals};
+use std::io;
+
+// All of them.
+pub fn play_all(rt: &impl Print) -> io::Result<()> {
+    readings::example(rt)?;
+    readings::passed_over(rt)?;
+    readings::jump_over(rt)?;
+    readings::crossing(rt)?;
+    readings::refusals(rt)?;
+    headers::openings(rt)?;
+    headers::choices(rt)
+}

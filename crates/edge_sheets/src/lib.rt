@@ -1,103 +1,93 @@
 // Shelf sheets of frames that the layer builds: each call, and what it prints.
 #![tactic(auto)]
 
-mod calls;
+mod clerk;
 
-use calls::{enter, enter_short, finish, open, open_short};
-use edge_output::print;
+use clerk::Clerk;
 use frame::Kind;
 use sheet::Sheet;
 use std::io;
 
 // 02's example, and calls behind its end.
 fn example(rt: &impl Print) -> io::Result<()> {
-    print(
-        rt,
-        b"sheet: a job of two blocks, one of none and EOD, then a block and the dump's end\n",
+    println!(rt;
+        "sheet: a job of two blocks, one of none and EOD, then a block and the dump's end"
     )?;
-    let mut s = enter(rt, open(rt)?, Kind::Data, 0)?;
-    s = enter(rt, s, Kind::Data, 1)?;
-    s = enter(rt, s, Kind::Marker, 2)?;
-    s = enter(rt, s, Kind::Marker, 3)?;
-    s = enter(rt, s, Kind::Eod, 4)?;
-    s = enter(rt, s, Kind::Data, 5)?;
-    finish(rt, s)?;
-    Ok(())
+    let mut s = Clerk::open(rt)?;
+    s.enter(Kind::Data, 0)?;
+    s.enter(Kind::Data, 1)?;
+    s.enter(Kind::Marker, 2)?;
+    s.enter(Kind::Marker, 3)?;
+    s.enter(Kind::Eod, 4)?;
+    s.enter(Kind::Data, 5)?;
+    s.finish()
 }
 
 // The last block failed and still reads: EOD has its number.
 fn one_below(rt: &impl Print) -> io::Result<()> {
-    print(rt, b"sheet: two blocks and EOD one below the next number\n")?;
-    let mut s = enter(rt, open(rt)?, Kind::Data, 0)?;
-    s = enter(rt, s, Kind::Data, 1)?;
-    enter(rt, s, Kind::Eod, 1)?;
-    Ok(())
+    println!(rt; "sheet: two blocks and EOD one below the next number")?;
+    let mut s = Clerk::open(rt)?;
+    s.enter(Kind::Data, 0)?;
+    s.enter(Kind::Data, 1)?;
+    s.enter(Kind::Eod, 1)
 }
 
 // A job that is open where the sheet breaks off has no line.
 fn broken_off(rt: &impl Print) -> io::Result<()> {
-    print(rt, b"sheet: a filemark and a block, then the dump's end\n")?;
-    let mut s = enter(rt, open(rt)?, Kind::Marker, 0)?;
-    s = enter(rt, s, Kind::Data, 1)?;
-    finish(rt, s)?;
-    print(
-        rt,
-        b"sheet: a filemark, then a block of the number behind the next\n",
-    )?;
-    s = enter(rt, open(rt)?, Kind::Marker, 0)?;
-    enter(rt, s, Kind::Data, 2)?;
-    print(rt, b"sheet: EOD of the highest number\n")?;
-    enter(rt, open(rt)?, Kind::Eod, 4294967295)?;
-    Ok(())
+    println!(rt; "sheet: a filemark and a block, then the dump's end")?;
+    let mut s = Clerk::open(rt)?;
+    s.enter(Kind::Marker, 0)?;
+    s.enter(Kind::Data, 1)?;
+    s.finish()?;
+    println!(rt; "sheet: a filemark, then a block of the number behind the next")?;
+    s = Clerk::open(rt)?;
+    s.enter(Kind::Marker, 0)?;
+    s.enter(Kind::Data, 2)?;
+    println!(rt; "sheet: EOD of the highest number")?;
+    s = Clerk::open(rt)?;
+    s.enter(Kind::Eod, u32::MAX)
 }
 
 // Lengths that are refused: an opening so gives an ended sheet, a field leaves the sheet as it was.
 fn lengths(rt: &impl Print) -> io::Result<()> {
-    print(
-        rt,
-        b"sheet: a line of 27 bytes at the opening, then a filemark\n",
-    )?;
-    enter(rt, open_short(rt)?, Kind::Marker, 0)?;
-    print(rt, b"sheet: a field of 511 bytes, then a filemark\n")?;
-    let s = enter_short(rt, open(rt)?)?;
-    enter(rt, s, Kind::Marker, 0)?;
-    Ok(())
+    println!(rt; "sheet: a line of 27 bytes at the opening, then a filemark")?;
+    Clerk::open_short(rt)?.enter(Kind::Marker, 0)?;
+    println!(rt; "sheet: a field of 511 bytes, then a filemark")?;
+    let mut s = Clerk::open(rt)?;
+    s.enter_short()?;
+    s.enter(Kind::Marker, 0)
 }
 
 // A sheet far on: this job begins at this number.
-fn far_on(job: u32, first: u64) -> Sheet {
-    Sheet {
-        job: job,
-        first: first,
+fn far_on<P: Print>(rt: &P, job: u32, first: u64) -> Clerk<'_, P> {
+    let sheet = Sheet {
+        job,
+        first,
         next: first,
         ended: false,
-    }
+    };
+    Clerk { rt, sheet }
 }
 
 // The highest job that has a line, and the one behind it.
 fn highest_job(rt: &impl Print) -> io::Result<()> {
-    print(rt, b"sheet: job 99,999 of one block, then a filemark\n")?;
-    let mut s = enter(rt, far_on(99999, 99998), Kind::Data, 99998)?;
-    s = enter(rt, s, Kind::Marker, 99999)?;
-    enter(rt, s, Kind::Marker, 100000)?;
-    Ok(())
+    println!(rt; "sheet: job 99,999 of one block, then a filemark")?;
+    let mut s = far_on(rt, 99999, 99998);
+    s.enter(Kind::Data, 99998)?;
+    s.enter(Kind::Marker, 99999)?;
+    s.enter(Kind::Marker, 100000)
 }
 
 // The highest number, and what may come behind it.
 fn highest_number(rt: &impl Print) -> io::Result<()> {
-    print(
-        rt,
-        b"sheet: a block of the highest number, and EOD of that number\n",
-    )?;
-    let mut s = enter(rt, far_on(2, 4294967295), Kind::Data, 4294967295)?;
-    enter(rt, s, Kind::Eod, 4294967295)?;
-    print(
-        rt,
-        b"sheet: a filemark of the highest number, then a block of number 0\n",
-    )?;
-    s = enter(rt, far_on(2, 4294967295), Kind::Marker, 4294967295)?;
-    enter(rt, s, Kind::Data, 0)?;
-    Ok(())
+    println!(rt; "sheet: a block of the highest number, and EOD of that number")?;
+    let mut s = far_on(rt, 2, 4294967295);
+    s.enter(Kind::Data, u32::MAX)?;
+    s.enter(Kind::Eod, u32::MAX)?;
+    println!(rt; "sheet: a filemark of the highest number, then a block of number 0")?;
+    s = far_on(rt, 2, 4294967295);
+    s.enter(Kind::Marker, u32::MAX)?;
+    s.enter(Kind::Data, 0)
 }
 
 pub fn play_all(rt: &impl Print) -> io::Result<()> {

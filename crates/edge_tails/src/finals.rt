@@ -1,87 +1,60 @@
 // Where no room is left for EOD either, and where there is no tail.
 use crate::start::near_end;
-use edge_output::{cartridge, sense, write_error};
-use edge_recorder::{
-    accept_block, accept_blocks, close, look, open_tailed, play, play_good, play_headers,
-};
-use recording::Recording;
+use edge_output::{cartridge, volume_overflow};
+use edge_recorder::Recorder;
+use frame::DATA_LENGTH;
 use std::io;
 
-// Refused for good: close and fetch.
-fn look_ended(rt: &impl Print, session: Recording, window: &[u8]) -> io::Result<()> {
-    look(rt, close(rt, session)?, window)?;
-    Ok(())
+// Close, and what is fetched behind it.
+fn close_and_look(r: &mut Recorder<'_, impl Print>) -> io::Result<()> {
+    r.close()?;
+    r.look()
 }
 
-// An error at 2,989 with skip 255.
-fn play_target_above_end(rt: &impl Print, session: Recording, window: &[u8]) -> io::Result<()> {
-    let mut s = play_good(rt, session, window, 2)?;
-    s = play(rt, s, window, write_error(2989, 255))?;
-    s = look(rt, close(rt, s)?, window)?;
-    look_ended(rt, s, window)
+// A block fails at 2,989 with skip 255, and its target is past the tape's end for EOD too.
+pub fn target_above_end(rt: &impl Print) -> io::Result<()> {
+    println!(rt; "tail of 1: a target of 3,244, above the tape's end")?;
+    let mut window = [0u8; 4 * DATA_LENGTH];
+    let mut r = near_end(rt, &mut window, 1, 174)?;
+    r.play_error(2, 2989, 255)?;
+    close_and_look(&mut r)?;
+    close_and_look(&mut r)
 }
 
-// A block fails, and its target is past the tape's end for EOD too.
-pub fn target_above_end(rt: &impl Print, window: &mut [u8]) -> io::Result<()> {
-    let s = near_end(
-        rt,
-        b"tail of 1: a target of 3,244, above the tape's end\n",
-        1,
-        174,
-        window,
-    )?;
-    play_target_above_end(rt, s, window)
+// A block at 2,989; EOD fails on the last frame of the tape.
+pub fn eod_fails(rt: &impl Print) -> io::Result<()> {
+    println!(rt; "tail of 1: an error of EOD at 3,000")?;
+    let mut window = [0u8; 4 * DATA_LENGTH];
+    let mut r = near_end(rt, &mut window, 1, 174)?;
+    r.play_good(4)?;
+    r.look()?;
+    r.close()?;
+    r.play_error(1, 3000, 1)?;
+    close_and_look(&mut r)
 }
 
-// A block at 2,989, EOD at 3,000.
-fn play_eod_fails(rt: &impl Print, session: Recording, window: &[u8]) -> io::Result<()> {
-    let mut s = play_good(rt, session, window, 4)?;
-    s = look(rt, s, window)?;
-    s = play_good(rt, close(rt, s)?, window, 1)?;
-    s = play(rt, s, window, write_error(3000, 1))?;
-    look_ended(rt, s, window)
+// Three blocks, at 10, at 11 and none.
+pub fn tape_ends(rt: &impl Print) -> io::Result<()> {
+    println!(rt; "tail of 2: the tape ends before 12, and has no room for EOD")?;
+    let mut window = [0u8; 4 * DATA_LENGTH];
+    let mut r = Recorder::open(rt, &mut window, cartridge(1000, 12), 4, 2)?;
+    r.accept_blocks(3)?;
+    r.play_headers()?;
+    r.play_good(3)?;
+    r.play(volume_overflow())?;
+    r.play_good(1)?;
+    r.look()?;
+    close_and_look(&mut r)?;
+    close_and_look(&mut r)
 }
 
-// EOD fails on the last frame of the tape.
-pub fn eod_fails(rt: &impl Print, window: &mut [u8]) -> io::Result<()> {
-    let s = near_end(rt, b"tail of 1: an error of EOD at 3,000\n", 1, 174, window)?;
-    play_eod_fails(rt, s, window)
-}
-
-// Blocks at 10 and 11.
-fn play_tape_ends(rt: &impl Print, session: Recording, window: &[u8]) -> io::Result<()> {
-    let mut s = play_headers(rt, session, window)?;
-    s = play_good(rt, s, window, 3)?;
-    s = play(rt, s, window, sense(0x0D, 0, 2))?;
-    s = play_good(rt, s, window, 1)?;
-    s = look(rt, s, window)?;
-    s = look(rt, close(rt, s)?, window)?;
-    look_ended(rt, s, window)
-}
-
-// Three blocks.
-pub fn tape_ends(rt: &impl Print, window: &mut [u8]) -> io::Result<()> {
-    let mut s = open_tailed(
-        rt,
-        b"tail of 2: the tape ends before 12, and has no room for EOD\n",
-        cartridge(1000, 12),
-        4,
-        2,
-    )?;
-    s = accept_blocks(rt, s, window, 3)?;
-    play_tape_ends(rt, s, window)
-}
-
-// Blocks at 2,989 and 3,000.
-fn play_no_tail(rt: &impl Print, session: Recording, window: &[u8]) -> io::Result<()> {
-    let mut s = play_good(rt, session, window, 6)?;
-    s = look(rt, s, window)?;
-    look_ended(rt, s, window)
-}
-
-// Three blocks.
-pub fn no_tail(rt: &impl Print, window: &mut [u8]) -> io::Result<()> {
-    let mut s = near_end(rt, b"no tail: refused for good\n", 0, 174, window)?;
-    s = accept_block(rt, s, window)?;
-    play_no_tail(rt, s, window)
+// Three blocks, at 2,989, at 3,000 and none.
+pub fn no_tail(rt: &impl Print) -> io::Result<()> {
+    println!(rt; "no tail: refused for good")?;
+    let mut window = [0u8; 4 * DATA_LENGTH];
+    let mut r = near_end(rt, &mut window, 0, 174)?;
+    r.accept_block()?;
+    r.play_good(6)?;
+    r.look()?;
+    close_and_look(&mut r)
 }

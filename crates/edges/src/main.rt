@@ -5,14 +5,8 @@ use std::io;
 
 fn main(rt: HostRuntime) -> io::Result<()> {
     edge_recordings::play_all(&rt)?;
-    edge_readings::example(&rt)?;
-    edge_readings::passed_over(&rt)?;
-    edge_readings::jump_over(&rt)?;
-    edge_readings::crossing(&rt)?;
-    edge_readings::refusals(&rt)?;
-    edge_readings::openings(&rt)?;
-    edge_readings::choices(&rt)?;
-    edge_additions::additions(&rt)?;
+    edge_readings::play_all(&rt)?;
+    edge_additions::play_all(&rt)?;
     edge_tails::play_all(&rt)?;
     edge_given_up::play_all(&rt)?;
     edge_frames::play_all(&rt)?;

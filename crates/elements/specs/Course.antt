@@ -12,16 +12,16 @@ start_of last a = record { next = a; limit = as_address (wrap32 (last.0 + 1)); l
 
 -- a LOCATE is answered good: writing goes on at its address
 abbrev pub located_of : Course → Address → Course
-located_of c a = record { next = a; limit = c.limit; locate = false; target = c.target }
+located_of c a = record c { next = a; locate = false }
 
 -- a frame is taken: the next one goes behind it
 abbrev pub taken_of : Course → Course
-taken_of c = record { next = as_address (wrap32 (c.next.0 + 1)); limit = c.limit; locate = c.locate; target = c.target }
+taken_of c = record c { next = as_address (wrap32 (c.next.0 + 1)) }
 
 -- a LOCATE of this target comes first
 abbrev pub relocated_of : Course → Address → Course
-relocated_of c t = record { next = c.next; limit = c.limit; locate = true; target = t }
+relocated_of c t = record c { locate = true; target = t }
 
 -- 0D/00/02 at an address: it and all behind it are beyond END
 abbrev pub overflowed_of : Course → Address → Course
-overflowed_of c a = record { next = c.next; limit = a; locate = c.locate; target = c.target }
+overflowed_of c a = record c { limit = a }

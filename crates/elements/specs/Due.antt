@@ -1,13 +1,13 @@
 -- 01, "A recording session": the six rules for elements and EOD, tried in their order.
-use Rattle.std.specs.Prelude.{ℕ, Bool, ◌&&◌, ◌||◌, ◌==◌, nat_le, nat_lt}
+use Rattle.std.specs.Prelude.{ℕ, Bool, ◌&&◌, ◌||◌, ◌==◌, nat_le, nat_lt, Option, None, Some, Result, Ok, Err}
 use Rattle.geometry.specs.Pick.{pick}
 use Rattle.geometry.specs.Refusal.{refusal_number}
+use Rattle.geometry.specs.declared.refusal.Refusal.{Refusal}
 use Rattle.geometry.specs.Cartridge.{second_group, second_user}
 use Rattle.drive.specs.Command.{CommandSaid, command_said, write, locate, read_position}
+use Rattle.drive.specs.declared.command.Command.{Command}
 use Rattle.elements.specs.declared.elements.Elements.{Elements}
 use Rattle.elements.specs.Elements.{limit_of}
-use Rattle.elements.specs.declared.due.Due.{Due}
-use Rattle.elements.specs.declared.due.Due.TheVariants as D
 
 -- a command, nothing, or a refusal by its number
 pub data DueSaid : Type 0 where
@@ -16,10 +16,10 @@ pub data DueSaid : Type 0 where
   refused : ℕ → DueSaid
 
 -- what the code answers, in these terms
-abbrev pub due_said : Due → DueSaid
-due_said (D.Send c) = send (command_said c)
-due_said D.Idle = idle
-due_said (D.Refused r) = refused (refusal_number r)
+abbrev pub due_said : Result (Option Command) Refusal → DueSaid
+due_said (Ok (Some c)) = send (command_said c)
+due_said (Ok None) = idle
+due_said (Err r) = refused (refusal_number r)
 
 -- the next address is above the highest that what is due may have
 abbrev pub above_limit : ℕ → Elements → Bool

@@ -22,20 +22,22 @@ mark_place first n = (first.0 + n) % most_blocks
 
 -- one element more, a filemark or not
 abbrev pub accepted_of : Queue → Bool → Queue
-accepted_of q mark = record {
-  first = q.first;
+accepted_of q mark = record q {
   pending = wrap16 (q.pending + 1);
-  outstanding = q.outstanding;
   marks = slice_set q.marks (mark_place q.first q.pending) mark;
 }
 
--- whether the next element to be written is a filemark
+-- whether the element n behind the oldest is a filemark
+abbrev pub mark_at : Queue → ℕ → Bool
+mark_at q n = slice_index_or q.marks (mark_place q.first n) false
+
+-- whether the next element to be written is one
 abbrev pub is_mark : Queue → Bool
-is_mark q = slice_index_or q.marks (mark_place q.first q.outstanding) false
+is_mark q = mark_at q q.outstanding
 
 -- so many elements, of which the drive has taken so many
 abbrev pub with_counts : Queue → ℕ → ℕ → Queue
-with_counts q pending outstanding = record { first = q.first; pending = pending; outstanding = outstanding; marks = q.marks }
+with_counts q pending outstanding = record q { pending = pending; outstanding = outstanding }
 
 -- without any: they are given up
 abbrev pub dropped_of : Queue → Queue
@@ -51,4 +53,4 @@ due_again q = with_counts q q.pending 0
 
 -- without the oldest n, which are on tape
 abbrev pub confirmed_of : Queue → ℕ → Queue
-confirmed_of q n = record { first = number_of q n; pending = q.pending - n; outstanding = q.outstanding - n; marks = q.marks }
+confirmed_of q n = record q { first = number_of q n; pending = q.pending - n; outstanding = q.outstanding - n }

@@ -4,14 +4,14 @@ ghost use Rattle.elements.specs.Course.{start_of};
 
 use geometry::Address;
 
-// The next frame's address, and what changes it.
+// The next frame's address, and what changes it. The target stands beside its flag, since C hands in one without the other (`is_recording`).
 #[derive(Clone, Copy)]
 pub struct Course {
     // The address of the next frame.
     pub next: Address,
     // One past END, the highest address that a frame may have.
     pub limit: Address,
-    // Whether a LOCATE of the target comes first.
+    // Whether a LOCATE of the target comes first. C hands in every target without one, too.
     pub locate: bool,
     // The first element's address, and after a write error where that sends the frames.
     pub target: Address,
@@ -24,7 +24,7 @@ impl Course {
     {
         Course {
             next: address,
-            limit: Address(std::num::wrapping_add_u32(last.0, 1)),
+            limit: Address(last.0.wrapping_add(1)),
             locate: true,
             target: address,
         }

@@ -1,6 +1,6 @@
 // The elements that are not known to be on tape.
 ghost use Rattle.std.specs.Prelude.{◌≡◌};
-ghost use Rattle.elements.specs.Queue.{empty_from, number_of, mark_place, accepted_of, is_mark};
+ghost use Rattle.elements.specs.Queue.{empty_from, number_of, mark_place, accepted_of, mark_at};
 
 use frame::MOST_BLOCKS;
 use geometry::Seq;
@@ -8,7 +8,7 @@ use geometry::Seq;
 // How many marks there are: as many as a window may have blocks, so that all elements that a session holds have one.
 pub const MARKS: usize = MOST_BLOCKS as usize;
 
-// They are in order, the oldest first; EOD is the last of them once it is due.
+// They are in order, the oldest first; EOD is the last of them once it is due. C hands in every combination of the counts (`is_recording`).
 #[derive(Clone, Copy)]
 pub struct Queue {
     // The number of the oldest, or of the next to be accepted if there is none.
@@ -19,13 +19,6 @@ pub struct Queue {
     pub outstanding: u16,
     // Whether element i is a filemark stands at i % `MARKS`.
     pub marks: [bool; MARKS],
-}
-
-// Where it is told whether the element n behind `first` is a filemark.
-pub(crate) fn mark_place(first: Seq, n: u16) -> usize
-    ensures { result ≡ mark_place first n }
-{
-    ((first.0 % (MARKS as u32) + (n as u32)) % (MARKS as u32)) as usize
 }
 
 impl Queue {
@@ -45,24 +38,30 @@ impl Queue {
     pub fn number(self, n: u16) -> Seq
         ensures { result ≡ number_of self n }
     {
-        Seq(std::num::wrapping_add_u32(self.first.0, n as u32))
+        Seq(self.first.0.wrapping_add(n as u32))
+    }
+
+    // Where it is told whether the element n behind the oldest is a filemark.
+    fn mark_place(self, n: u16) -> usize
+        ensures { result ≡ mark_place self.first n }
+    {
+        ((self.first.0 % (MARKS as u32) + (n as u32)) % (MARKS as u32)) as usize
     }
 
     // One more, which is a filemark or not.
     pub(crate) fn accept(mut self, mark: bool) -> Queue
         ensures { result ≡ accepted_of self mark }
     {
-        let place = mark_place(self.first, self.pending);
+        let place = self.mark_place(self.pending);
         self.marks[place] = mark;
-        self.pending = std::num::wrapping_add_u16(self.pending, 1);
+        self.pending = self.pending.wrapping_add(1);
         self
     }
 
-    // Whether the next element to be written is a filemark.
-    pub(crate) fn is_mark(self) -> bool
-        ensures { result ≡ is_mark self }
+    // Whether the element n behind the oldest is a filemark.
+    pub(crate) fn is_mark(self, n: u16) -> bool
+        ensures { result ≡ mark_at self n }
     {
-        let marks = self.marks;
-        marks[mark_place(self.first, self.outstanding)]
+        self.marks[self.mark_place(n)]
     }
 }

@@ -1,6 +1,6 @@
 -- The smaller of two numbers is at most each of them, and the largest that is. Assumes nothing.
-use Prim.Native.Nat.{ℕ, ◌+◌, ◌*◌, ◌^◌, ◌≤◌, ◌<◌}
-use native.Mathlib.Nat.{le_refl, mul-le-mul}
+use Prim.Native.Nat.{ℕ, ◌≤◌}
+use native.Mathlib.Nat.{le_refl}
 use native.Mathlib.Omega.{arith}
 use borrow.Author.Tests.{leb-true, leb-false}
 use lib.Dec.{leb}
@@ -15,11 +15,3 @@ smaller_right a b = pick_by (λ (k : ℕ). k ≤ b) (leb a b) (λ e. leb-true a 
 
 pub below_smaller : (n a b : ℕ) → n ≤ a → n ≤ b → n ≤ smaller a b
 below_smaller n a b p q = pick_by (λ (k : ℕ). n ≤ k) (leb a b) (λ _. p) (λ _. q)
-
--- a product of two 32-bit numbers leaves room in 64 bits for two of them more
-pub product_fits : (a b : ℕ) → a < 2 ^ 32 → b < 2 ^ 32 → a * b + 2 ^ 33 ≤ 2 ^ 64 + 1
-product_fits a b p q =
-    let low : a ≤ 4294967295 = omega arith in
-    let right : b ≤ 4294967295 = omega arith in
-    let all : a * b ≤ 4294967295 * 4294967295 = mul-le-mul low right in
-    omega (arith, all)

@@ -3,34 +3,24 @@
 #![tactic(auto)]
 
 ghost use Rattle.std.specs.Prelude.{◌≡◌};
-ghost use Rattle.frame_bounds.specs.Bounds.{smaller, frames_at_most, header_frames_at_most};
+ghost use Rattle.frame_bounds.specs.Bounds.{frames_at_most, header_frames_at_most};
 
 use geometry::{GROUP_COPIES, HEADER_GROUPS};
 
 // The header copies of a session: those of both groups at its opening, and again at its close.
 const SESSION_COPIES: u64 = 2 * (HEADER_GROUPS as u64) * (GROUP_COPIES as u64);
 
-// The smaller of two numbers.
-fn smaller(a: u32, b: u32) -> u32
-    ensures { result ≡ smaller a b }
-{
-    if a <= b { a } else { b }
-}
-
 // Frames of elements and EOD, with so many elements and so many write errors met by these, at depth D and with W blocks.
 pub fn frames_sent_at_most(elements: u32, errors: u32, depth: u32, blocks: u32) -> u64
     ensures { result ≡ frames_at_most elements errors depth blocks }
 {
-    (elements as u64) + 1 + (errors as u64) * (smaller(depth, blocks) as u64)
+    (elements as u64) + 1 + (errors as u64) * (depth.min(blocks) as u64)
 }
 
 // Frames of headers, with so many write errors met by these, at depth D.
 pub fn header_frames_sent_at_most(errors: u32, depth: u32) -> u64
     ensures { result ≡ header_frames_at_most errors depth }
 {
-    let held = smaller(depth, GROUP_COPIES as u32);
-    if held == 0 {
-        return SESSION_COPIES;
-    }
-    SESSION_COPIES + (errors as u64) * ((held - 1) as u64)
+    let held = depth.min(GROUP_COPIES as u32);
+    SESSION_COPIES + (errors as u64) * (held.saturating_sub(1) as u64)
 }

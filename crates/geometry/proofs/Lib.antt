@@ -9,4 +9,3 @@ pub mod UserFrames
 pub mod HeaderPlaces
 pub mod Landing
 pub mod CopyPlaces
-pub mod Verdicts

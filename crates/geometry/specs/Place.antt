@@ -1,9 +1,8 @@
 -- An address or a refusal, in 01's numbers.
-use Rattle.std.specs.Prelude.{ℕ, ◌-◌}
+use Rattle.std.specs.Prelude.{ℕ, ◌-◌, Result, Ok, Err}
 use Rattle.geometry.specs.declared.address.Address.{Address}
 use Rattle.geometry.specs.declared.address.Seq.{Seq}
-use Rattle.geometry.specs.declared.address.Place.{Place}
-use Rattle.geometry.specs.declared.address.Place.TheVariants.{At, Refused}
+use Rattle.geometry.specs.declared.refusal.Refusal.{Refusal}
 use Rattle.geometry.specs.Refusal.{refusal_number}
 
 -- a number as an address, and as a sequence number
@@ -28,6 +27,6 @@ pub data PlaceSaid : Type 0 where
   refused : ℕ → PlaceSaid
 
 -- what the code answers, in these terms
-abbrev pub place_said : Place → PlaceSaid
-place_said (At a) = address a.0
-place_said (Refused r) = refused (refusal_number r)
+abbrev pub place_said : Result Address Refusal → PlaceSaid
+place_said (Ok a) = address a.0
+place_said (Err r) = refused (refusal_number r)

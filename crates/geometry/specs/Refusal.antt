@@ -1,10 +1,8 @@
 -- 01, "Refused calls", and 02 from 13 on: each refusal's number, and 0 for a call that is accepted.
-use Rattle.std.specs.Prelude.{ℕ}
+use Rattle.std.specs.Prelude.{ℕ, Result, Ok, Err}
 use Rattle.geometry.specs.declared.refusal.Refusal.{Refusal}
 use Rattle.geometry.specs.declared.refusal.Refusal.TheVariants.{Length, Geometry, Header, Capacity, Exhausted, WindowFull, Phase}
 use Rattle.geometry.specs.declared.refusal.Refusal.TheVariants.{Reply, TapeFull, Missing, Foreign, NotFound, EndElsewhere}
-use Rattle.geometry.specs.declared.refusal.Verdict.{Verdict}
-use Rattle.geometry.specs.declared.refusal.Verdict.TheVariants.{Accepted, Refused}
 
 -- the number of a refusal
 abbrev pub refusal_number : Refusal → ℕ
@@ -23,6 +21,6 @@ refusal_number NotFound = 12
 refusal_number EndElsewhere = 13
 
 -- the number of a verdict
-abbrev pub verdict_number : Verdict → ℕ
-verdict_number Accepted = 0
-verdict_number (Refused r) = refusal_number r
+abbrev pub verdict_number : Result Unit Refusal → ℕ
+verdict_number (Ok _) = 0
+verdict_number (Err r) = refusal_number r

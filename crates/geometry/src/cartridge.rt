@@ -3,7 +3,7 @@ ghost use Rattle.std.specs.Prelude.{◌≡◌, ◌+◌};
 ghost use Rattle.geometry.specs.Place.{place_said};
 ghost use Rattle.geometry.specs.Cartridge.{track_frames, frames_of, last_of, is_user, past_reserved, header_address, copy_at};
 
-use crate::address::{Address, Place};
+use crate::address::Address;
 use crate::refusal::Refusal;
 
 // Where the cartridge is loaded, which decides how much of a track can be used.
@@ -59,16 +59,9 @@ impl Geometry {
     fn track_frames(self) -> u16
         ensures { result ≡ track_frames self.load self.segtrk }
     {
-        let load = self.load;
-        match load {
+        match self.load {
             LoadPoint::Beginning => self.segtrk,
-            LoadPoint::Centre => {
-                if self.segtrk < CENTRE_FRAMES {
-                    0
-                } else {
-                    self.segtrk - CENTRE_FRAMES
-                }
-            }
+            LoadPoint::Centre => self.segtrk.saturating_sub(CENTRE_FRAMES),
         }
     }
 
@@ -80,14 +73,14 @@ impl Geometry {
     }
 
     // LAST, the highest address; refused with 2 where there are too few frames.
-    pub fn last(self) -> Place
+    pub fn last(self) -> Result<Address, Refusal>
         ensures { place_said result ≡ last_of self }
     {
         let n = self.frames();
         if n < LEAST_FRAMES {
-            return Place::Refused(Refusal::Geometry);
+            return Err(Refusal::Geometry);
         }
-        Place::At(Address(n - 1))
+        Ok(Address(n - 1))
     }
 }
 
@@ -95,16 +88,7 @@ impl Geometry {
 pub fn is_user(last: Address, a: Address) -> bool
     ensures { result ≡ is_user last.0 a.0 }
 {
-    if a.0 < FIRST_USER {
-        return false;
-    }
-    if a.0 < SECOND_GROUP {
-        return true;
-    }
-    if a.0 < SECOND_USER {
-        return false;
-    }
-    a.0 <= last.0
+    (FIRST_USER <= a.0 && a.0 < SECOND_GROUP) || (SECOND_USER <= a.0 && a <= last)
 }
 
 // The address so many frames further on; where that lies in the second header group or the defect map behind it, the first user frame behind
@@ -113,13 +97,10 @@ pub fn past_reserved(from: Address, further: u8) -> u64
     ensures { result ≡ past_reserved (from.0 + further) }
 {
     let t = (from.0 as u64) + (further as u64);
-    if t < (SECOND_GROUP as u64) {
-        return t;
-    }
-    if t < (SECOND_USER as u64) {
-        SECOND_USER as u64
-    } else {
+    if t < (SECOND_GROUP as u64) || (SECOND_USER as u64) <= t {
         t
+    } else {
+        SECOND_USER as u64
     }
 }
 
@@ -132,17 +113,15 @@ pub fn header_address(group: u8, copy: u8) -> Address
     HEADERS[g][c]
 }
 
-// Which copy of a group stands at an address: the group's addresses are gone through in order. `GROUP_COPIES` where none does.
+// Which copy of a group stands at an address: the group's addresses are gone through in order. `GROUP_COPIES` where none does,
+// as the definition has it: what becomes of that number is promised, too.
 pub fn copy_at(group: u8, a: Address) -> u8
     ensures { result ≡ copy_at group a.0 }
 {
-    let mut copy: u8 = 0;
-    while copy < GROUP_COPIES {
-        let at = header_address(group, copy);
-        if at.0 == a.0 {
+    for copy in 0..GROUP_COPIES {
+        if header_address(group, copy) == a {
             return copy;
         }
-        copy += 1;
     }
     GROUP_COPIES
 }

@@ -2,14 +2,12 @@
 #![tactic(auto)]
 
 mod address;
-mod arithmetic;
 mod cartridge;
 mod refusal;
 
-pub use address::{Address, HIGHEST_ADDRESS, Place, Seq, preceding};
-pub use arithmetic::saturating_sub;
+pub use address::{Address, HIGHEST_ADDRESS, Seq, preceding};
 pub use cartridge::{
     FIRST_USER, GROUP_COPIES, Geometry, HEADER_GROUPS, LoadPoint, SECOND_GROUP, SECOND_USER,
     copy_at, header_address, is_user, past_reserved,
 };
-pub use refusal::{Refusal, Verdict, number};
+pub use refusal::{Outcome, Refusal};

@@ -1,7 +1,8 @@
 -- 01, "AUX bytes" and "Refused calls": a lent header is taken for valid, or refused with 1, 2 or 3.
-use Rattle.std.specs.Prelude.{ℕ, List, eqb, length}
+use Rattle.std.specs.Prelude.{ℕ, List, eqb, length, Result, Ok, Err}
 use Rattle.geometry.specs.Pick.{pick}
 use Rattle.geometry.specs.Refusal.{refusal_number}
+use Rattle.geometry.specs.declared.refusal.Refusal.{Refusal}
 use Rattle.geometry.specs.Place as place
 use Rattle.geometry.specs.Place.{PlaceSaid}
 use Rattle.geometry.specs.Cartridge.{last_of}
@@ -9,8 +10,6 @@ use Rattle.geometry.specs.declared.address.Address.{Address}
 use Rattle.geometry.specs.declared.cartridge.Geometry.{Geometry}
 use Rattle.frame.specs.Lengths.{frame_length}
 use Rattle.frame.specs.declared.header.Header.{Header}
-use Rattle.header.specs.declared.read.Checked as read
-use Rattle.header.specs.declared.read.Checked.TheVariants as C
 use Rattle.header.specs.Valid.{valid_header, header_of}
 
 -- its fields, or the refusal's number
@@ -19,9 +18,9 @@ pub data CheckedSaid : Type 0 where
   refused : ℕ → CheckedSaid
 
 -- what the code answers, in these terms
-abbrev pub checked_said : read.Checked → CheckedSaid
-checked_said (C.Valid h) = valid h
-checked_said (C.Refused r) = refused (refusal_number r)
+abbrev pub checked_said : Result Header Refusal → CheckedSaid
+checked_said (Ok h) = valid h
+checked_said (Err r) = refused (refusal_number r)
 
 -- 3: invalid on a cartridge with this LAST
 unfoldable pub header_on : Address → List ℕ → CheckedSaid

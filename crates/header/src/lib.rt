@@ -4,4 +4,4 @@
 mod read;
 mod valid;
 
-pub use read::{Checked, read_header};
+pub use read::read_header;

@@ -1,33 +1,25 @@
--- The choice between two frames where update counts and data are known. Assumes nothing.
-use mathlib.Core.Path.{◌≡◌, sym, ◌∙◌}
+-- The choice between two frames of equal update counts, by the library's comparisons. Assumes nothing.
+use mathlib.Core.Path.{◌≡◌, sym, ap, ◌∙◌}
+use mathlib.Core.Bool.{Bool}
 use mathlib.Core.List.{List}
-use Prim.Native.Nat.{ℕ, ◌<◌}
+use Prim.Native.Nat.{ℕ}
 use native.Mathlib.Omega.{arith}
-use borrow.Author.Tests.{lt-ltb, le-ltb}
+use borrow.Author.Tests.{le-ltb}
+use lib.Dec.{eqb}
 use lib.ListN.{take}
+use lib.Pointwise.{pointwise}
+use Rattle.std.proofs.Common.{Equal}
+use Rattle.std.specs.Ordering.{nat_cmp}
+use Rattle.std.specs.Cmp.{ranked}
 use Rattle.geometry.specs.Pick.{pick}
-use Rattle.geometry.proofs.PickLaws.{pick_t, pick_f}
-use Rattle.buffer.specs.Bytes.{agree}
-use Rattle.geometry.specs.declared.cartridge.Geometry.{Geometry}
+use Rattle.geometry.proofs.PickLaws.{pick_f}
+use Rattle.buffer.proofs.Agreement.{agree_pointwise}
 use Rattle.frame.specs.declared.header.Header.{Header}
-use Rattle.header.specs.Read.{CheckedSaid, read_header}
-use Rattle.header_choice.specs.Choice.{first, second, neither, newer_of, choice_by, choice_of}
+use Rattle.header_choice.specs.Choice.{first, neither, newer_of}
 
--- by what each part is
-pub by_checked : (g : Geometry) (a b : List ℕ) {c d : CheckedSaid} → c ≡ read_header g a → d ≡ read_header g b → choice_by c d a b ≡ choice_of g a b
-unfolding choice_of
-by_checked g a b e f = rw (e, f)
-
-module _ (h k : Header) (a b : List ℕ) where
-  pub higher_first : k.update < h.update → first ≡ newer_of h k a b
-  unfolding newer_of
-  higher_first more = sym (pick_t _ (lt-ltb _ _ more))
-
-  pub higher_second : h.update < k.update → second ≡ newer_of h k a b
-  unfolding newer_of
-  higher_second more = sym (pick_f _ (le-ltb k.update h.update (omega arith)) ∙ pick_t _ (lt-ltb _ _ more))
-
-  pub equal_counts : h.update ≡ k.update → pick (agree (take 32768 a) (take 32768 b)) first (neither 3) ≡ newer_of h k a b
-  unfolding newer_of
-  equal_counts same =
-      sym (pick_f _ (le-ltb k.update h.update (omega arith)) ∙ pick_f _ (le-ltb h.update k.update (omega arith)))
+pub by_data : (h k : Header) (a b : List ℕ) {r : Bool} → Equal ≡ nat_cmp h.update k.update → r ≡ pointwise eqb (take 32768 a) (take 32768 b) → pick r first (neither 3) ≡ newer_of h k a b
+unfolding newer_of
+by_data h k a b {r} same alike =
+    let equal : h.update ≡ k.update = ranked h.update k.update Equal same in
+    ap (λ (t : Bool). pick t first (neither 3)) (alike ∙ sym (agree_pointwise (take 32768 a) (take 32768 b)))
+    ∙ sym (pick_f _ (le-ltb k.update h.update (omega arith)) ∙ pick_f _ (le-ltb h.update k.update (omega arith)))

@@ -1,14 +1,15 @@
 -- 01, "AUX bytes": which of two lent header frames is handed back.
-use Rattle.std.specs.Prelude.{ℕ, List, [], ◌≡◌, eqb, ltb, take}
+use Rattle.std.specs.Prelude.{ℕ, List, [], ◌≡◌, eqb, ltb, take, Result, Ok, Err}
 use Rattle.std.specs.Borrow.{Bor}
 use Rattle.geometry.specs.Pick.{pick}
 use Rattle.geometry.specs.Refusal.{refusal_number}
+use Rattle.geometry.specs.declared.refusal.Refusal.{Refusal}
 use Rattle.geometry.specs.declared.cartridge.Geometry.{Geometry}
 use Rattle.frame.specs.Lengths.{data_length}
 use Rattle.frame.specs.declared.header.Header.{Header}
 use Rattle.buffer.specs.Bytes.{agree}
 use Rattle.header_choice.specs.declared.Choice.{Choice}
-use Rattle.header_choice.specs.declared.Choice.TheVariants.{First, Second, Refused}
+use Rattle.header_choice.specs.declared.Choice.TheVariants.{First, Second}
 use Rattle.header.specs.Read.{CheckedSaid, valid, refused, read_header}
 
 -- the first, the second, or neither, with the number of the refusal
@@ -18,10 +19,10 @@ pub data ChoiceSaid : Type 0 where
   neither : ℕ → ChoiceSaid
 
 -- the code's answer, a refusal by its number
-abbrev pub choice_said : Choice → ChoiceSaid
-choice_said First = first
-choice_said Second = second
-choice_said (Refused r) = neither (refusal_number r)
+abbrev pub choice_said : Result Choice Refusal → ChoiceSaid
+choice_said (Ok First) = first
+choice_said (Ok Second) = second
+choice_said (Err r) = neither (refusal_number r)
 
 -- of two valid ones, by their update counts; where these are equal the first, if both hold the same data bytes, else refusal 3
 unfoldable pub newer_of : Header → Header → List ℕ → List ℕ → ChoiceSaid

@@ -11,11 +11,11 @@ use Rattle.frame.specs.declared.element.Kind.{Kind}
 use Rattle.geometry.specs.declared.address.Seq.{Seq}
 use Rattle.geometry.proofs.TestLaws.{and_true}
 use Rattle.buffer.proofs.Agreement.{agree_same, agree_is}
-use Rattle.judgement.specs.declared.told.Told.{Told}
+use Rattle.frame.specs.declared.header.Header.{Header}
 use Rattle.judgement.specs.Judgement.{expected_element, part, as_table}
 
 -- the frame is of the pass and of a kind
-pub record Typed (told : Told) (k : Kind) (frame : List ℕ) : Type 0 where
+pub record Typed (told : Header) (k : Kind) (frame : List ℕ) : Type 0 where
   pub long : length frame ≡ 33280
   pub format : get32 (drop 32768 frame) 0 ≡ 0
   pub type : get16 (drop 32768 frame) 16 ≡ type_of k
@@ -28,7 +28,7 @@ pub record Alike (e : Element) (aux : List ℕ) : Type 0 where
   pub numbers : part 44 68 aux ≡ part 44 68 (aux_bytes (element_aux e))
 
 -- the frame is the expected one
-pub record FoundAs (told : Told) (expected : Seq) (k : Kind) (frame : List ℕ) : Type 0 where
+pub record FoundAs (told : Header) (expected : Seq) (k : Kind) (frame : List ℕ) : Type 0 where
   pub typed : Typed told k frame
   pub number : get32 (drop 32768 frame) 44 ≡ expected.0
   pub alike : Alike (expected_element k told expected) (drop 32768 frame)

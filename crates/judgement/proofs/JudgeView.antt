@@ -19,12 +19,12 @@ use Rattle.frame.specs.declared.element.Kind.{Kind}
 use Rattle.frame.specs.declared.element.Kind.TheVariants.{Data, Marker, Eod}
 use Rattle.geometry.specs.declared.address.Address.{Address}
 use Rattle.geometry.specs.declared.address.Seq.{Seq}
-use Rattle.judgement.specs.declared.told.Told.{Told}
+use Rattle.frame.specs.declared.header.Header.{Header}
 use Rattle.judgement.specs.Judgement.{JudgementSaid, passed_over, refused, found_said, expected_element, as_table, ends_from, is_earlier_end, is_named_end, is_one_below, judge_table, judge_number, judge_kind, judge_type, judge_aux, judge_frame}
 use Rattle.judgement.proofs.Cases.{no_kind}
 use Rattle.judgement.proofs.Facts.{Typed, Alike, FoundAs, alike_so, so_alike}
 
-pub data JudgeView (told : Told) (at : Address) (expected : Seq) (frame : List ℕ) : JudgementSaid → Type 0 where
+pub data JudgeView (told : Header) (at : Address) (expected : Seq) (frame : List ℕ) : JudgementSaid → Type 0 where
   wrong_length : (length frame ≡ 33280 → ⊥) → JudgeView told at expected frame (refused 1)
   other_format : length frame ≡ 33280 → (get32 (drop 32768 frame) 0 ≡ 0 → ⊥) → JudgeView told at expected frame passed_over
   other_type : length frame ≡ 33280 → ((k : Kind) → get16 (drop 32768 frame) 16 ≡ type_of k → ⊥) → JudgeView told at expected frame passed_over
@@ -39,7 +39,7 @@ pub data JudgeView (told : Told) (at : Address) (expected : Seq) (frame : List �
   foreign : (k : Kind) → Typed told k frame → get32 (drop 32768 frame) 44 ≡ expected.0 → is_earlier_end k told at ≡ false → (Alike (expected_element k told expected) (drop 32768 frame) → ⊥) → JudgeView told at expected frame (refused 11)
   found : (k : Kind) {j : JudgementSaid} → found_said k ≡ j → is_earlier_end k told at ≡ false → FoundAs told expected k frame → JudgeView told at expected frame j
 
-module _ (told : Told) (at : Address) (expected : Seq) (frame : List ℕ) where
+module _ (told : Header) (at : Address) (expected : Seq) (frame : List ℕ) where
   abbrev View : JudgementSaid → Type 0
   View j = JudgeView told at expected frame j
 
@@ -109,7 +109,7 @@ found_kind Eod Data e = cc
 found_kind Eod Marker e = cc
 
 -- a frame of the right length is refused with 10 or 11
-pub refused_known : {told : Told} {at : Address} {expected : Seq} {frame : List ℕ} {m : ℕ} → length frame ≡ 33280 → JudgeView told at expected frame (refused m) → (m ≡ 10) ⊎ (m ≡ 11)
+pub refused_known : {told : Header} {at : Address} {expected : Seq} {frame : List ℕ} {m : ℕ} → length frame ≡ 33280 → JudgeView told at expected frame (refused m) → (m ≡ 10) ⊎ (m ≡ 11)
 refused_known long (wrong_length h) = absurd (h long)
 refused_known long (above _ _ _) = inl refl
 refused_known long (foreign _ _ _ _ _) = inr refl
@@ -119,14 +119,14 @@ refused_known long (found Data e _ _) = never (cc)
 refused_known long (found Marker e _ _) = never (cc)
 refused_known long (found Eod e _ _) = never (cc)
 
-as_kind : (told : Told) (at : Address) (expected : Seq) (frame : List ℕ) (k m : Kind) → found_said m ≡ found_said k → is_earlier_end m told at ≡ false → FoundAs told expected m frame → FoundAs told expected k frame × (is_earlier_end k told at ≡ false)
+as_kind : (told : Header) (at : Address) (expected : Seq) (frame : List ℕ) (k m : Kind) → found_said m ≡ found_said k → is_earlier_end m told at ≡ false → FoundAs told expected m frame → FoundAs told expected k frame × (is_earlier_end k told at ≡ false)
 as_kind told at expected frame k m e late h = let same = found_kind k m e in (rw (← same) h, subst (λ (x : Kind). is_earlier_end x told at ≡ false) same late)
 
-unnamed : (told : Told) (at : Address) (k : Kind) → found_said Eod ≡ found_said k → is_named_end Eod told at ≡ true → is_named_end k told at ≡ false → ⊥
+unnamed : (told : Header) (at : Address) (k : Kind) → found_said Eod ≡ found_said k → is_named_end Eod told at ≡ true → is_named_end k told at ≡ false → ⊥
 unnamed told at k e named u = true≢false (sym named ∙ subst (λ (x : Kind). is_named_end x told at ≡ false) (sym (found_kind k Eod e)) u)
 
 -- one that is delivered or ends reading, which is no earlier end, elsewhere than where the header has EOD
-pub found_known : {told : Told} {at : Address} {expected : Seq} {frame : List ℕ} (k : Kind) → is_named_end k told at ≡ false → JudgeView told at expected frame (found_said k) → FoundAs told expected k frame × (is_earlier_end k told at ≡ false)
+pub found_known : {told : Header} {at : Address} {expected : Seq} {frame : List ℕ} (k : Kind) → is_named_end k told at ≡ false → JudgeView told at expected frame (found_said k) → FoundAs told expected k frame × (is_earlier_end k told at ≡ false)
 found_known Data u (found m e late h) = as_kind _ _ _ _ Data m e late h
 found_known Marker u (found m e late h) = as_kind _ _ _ _ Marker m e late h
 found_known Eod u (found m e late h) = as_kind _ _ _ _ Eod m e late h
@@ -135,7 +135,7 @@ found_known {told = told} {at = at} Marker u (one_below named e _ _) = absurd (u
 found_known {told = told} {at = at} Eod u (one_below named e _ _) = absurd (unnamed told at Eod e named u)
 
 -- where the header has EOD it is no earlier end
-pub named_late : (told : Told) (at : Address) → is_named_end Eod told at ≡ true → is_earlier_end Eod told at ≡ false
+pub named_late : (told : Header) (at : Address) → is_named_end Eod told at ≡ true → is_earlier_end Eod told at ≡ false
 unfolding ends_from
 named_late told at e =
     let both = and_true (not (eqb told.eod.0 0)) (eqb at.0 told.eod.0) e in
@@ -148,6 +148,6 @@ named_late told at e =
     not_so false e = refl
 
 -- the end: an EOD with the expected number, or one below, and no earlier end
-pub end_known : {told : Told} {at : Address} {expected : Seq} {frame : List ℕ} → JudgeView told at expected frame (found_said Eod) → Typed told Eod frame × (get32 (drop 32768 frame) 44 ≤ expected.0) × (is_earlier_end Eod told at ≡ false)
+pub end_known : {told : Header} {at : Address} {expected : Seq} {frame : List ℕ} → JudgeView told at expected frame (found_said Eod) → Typed told Eod frame × (get32 (drop 32768 frame) 44 ≤ expected.0) × (is_earlier_end Eod told at ≡ false)
 end_known (found m e late h) = let f = as_kind _ _ _ _ Eod m e late h in (f.0.typed, omega (arith, f.0.number), f.1)
 end_known {told = told} {at = at} (one_below named _ e h) = (h.typed, omega arith, named_late told at named)

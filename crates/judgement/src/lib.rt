@@ -3,7 +3,5 @@
 
 mod judge;
 mod table;
-mod told;
 
-pub use judge::{Judgement, judge_frame};
-pub use told::Told;
+pub use judge::judge_frame;

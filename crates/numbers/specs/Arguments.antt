@@ -7,9 +7,9 @@ use Rattle.geometry.specs.declared.cartridge.LoadPoint.{LoadPoint}
 use Rattle.geometry.specs.declared.cartridge.LoadPoint.TheVariants.{Beginning, Centre}
 use Rattle.drive.specs.Senses.{meaning_of, write_error}
 use Rattle.drive.specs.declared.reply.Reply.{Reply}
+use Rattle.recording_state.specs.declared.state.Sizes.{Sizes}
 use Rattle.numbers.specs.declared.arguments.AdrGeometry.{AdrGeometry}
 use Rattle.numbers.specs.declared.arguments.AdrReply.{AdrReply}
-use Rattle.numbers.specs.declared.arguments.Sizes.{Sizes}
 
 -- SEGTRK and TRKS have 16 bits; the load point is 0, the beginning, or 1, the centre
 abbrev pub is_geometry : AdrGeometry → Bool

@@ -1,8 +1,8 @@
-// What a call answers, by number: one number for one meaning in every call.
+// What a call answers, by number: one number for one meaning in every call. They are the numbers of adr.h, as C's structs hold them.
 ghost use Rattle.std.specs.Prelude.{◌≡◌};
 ghost use Rattle.geometry.specs.Refusal.{verdict_number};
 
-use geometry::{Verdict, number};
+use geometry::Refusal;
 
 // The call is refused; the number of the refusal comes beside it.
 pub const REFUSED: u8 = 0;
@@ -32,11 +32,11 @@ pub const FILEMARK: u8 = 7;
 pub const LINE: u8 = 8;
 
 // The number of the refusal, 0 for none.
-pub fn verdict_number(v: Verdict) -> u8
+pub fn verdict_number(v: Result<(), Refusal>) -> u8
     ensures { result ≡ verdict_number v }
 {
     match v {
-        Verdict::Accepted => 0,
-        Verdict::Refused(r) => number(r),
+        Ok(()) => 0,
+        Err(r) => r.number(),
     }
 }

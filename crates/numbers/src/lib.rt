@@ -8,5 +8,5 @@ mod places;
 pub use answers::{
     BLOCK, COMMAND, DONE, END, FILEMARK, IDLE, LINE, NOTHING, REFUSED, verdict_number,
 };
-pub use arguments::{AdrGeometry, AdrReply, Sizes};
+pub use arguments::{AdrGeometry, AdrReply, sizes_of};
 pub use places::{AdrChoice, AdrPlace};

@@ -4,7 +4,7 @@ ghost use Rattle.geometry.specs.Place.{place_said};
 ghost use Rattle.header_choice.specs.Choice.{choice_said};
 ghost use Rattle.numbers.specs.Places.{place_twin, choice_twin};
 
-use geometry::{Place, number};
+use geometry::{Address, Refusal};
 use header_choice::Choice;
 
 // An address, or 0 and the number of the refusal.
@@ -23,41 +23,39 @@ pub struct AdrChoice {
     pub number: u8,
 }
 
-impl AdrPlace {
-    // A place's numbers.
-    pub fn of(p: Place) -> AdrPlace
-        ensures { result ≡ place_twin (place_said p) }
-    {
-        match p {
-            Place::At(a) => AdrPlace {
+impl From<Result<Address, Refusal>> for AdrPlace {
+    ghost from_gives = { λ p n. n ≡ place_twin (place_said p) };
+
+    fn from(place: Result<Address, Refusal>) -> AdrPlace {
+        match place {
+            Ok(a) => AdrPlace {
                 address: a.0,
                 number: 0,
             },
-            Place::Refused(r) => AdrPlace {
+            Err(r) => AdrPlace {
                 address: 0,
-                number: number(r),
+                number: r.number(),
             },
         }
     }
 }
 
-impl AdrChoice {
-    // A choice's numbers.
-    pub fn of(c: Choice) -> AdrChoice
-        ensures { result ≡ choice_twin (choice_said c) }
-    {
-        match c {
-            Choice::First => AdrChoice {
+impl From<Result<Choice, Refusal>> for AdrChoice {
+    ghost from_gives = { λ c n. n ≡ choice_twin (choice_said c) };
+
+    fn from(choice: Result<Choice, Refusal>) -> AdrChoice {
+        match choice {
+            Ok(Choice::First) => AdrChoice {
                 which: 1,
                 number: 0,
             },
-            Choice::Second => AdrChoice {
+            Ok(Choice::Second) => AdrChoice {
                 which: 2,
                 number: 0,
             },
-            Choice::Refused(r) => AdrChoice {
+            Err(r) => AdrChoice {
                 which: 0,
-                number: number(r),
+                number: r.number(),
             },
         }
     }

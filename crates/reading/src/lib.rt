@@ -3,5 +3,4 @@
 
 mod reading;
 
-pub use reading::{Fetched, Opened, Reading, Replied};
-pub use reading_state::{Answer, Delivery};
+pub use reading::Reading;

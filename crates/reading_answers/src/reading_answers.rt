@@ -1,13 +1,15 @@
 // What the calls of a reading session return, as numbers.
 ghost use Rattle.std.specs.Prelude.{◌≡◌};
 ghost use Rattle.reading.specs.Reading.{opened_said, fetched_said, replied_said};
-ghost use Rattle.reading_answers.specs.Reading.{opened_twin, without_command, unknown_fetch, fetched_twin, with_answer, unknown_reply, replied_twin};
+ghost use Rattle.reading_answers.specs.Reading.{opened_twin, without_command, unknown_fetch, fetched_twin, unknown_reply, replied_twin};
 
-use exchange_twins::{AdrCommand, command_twin};
-use geometry::number;
+use drive::Command;
+use exchange_twins::AdrCommand;
+use frame::Kind;
+use geometry::{Outcome, Refusal};
 use numbers::{BLOCK, COMMAND, END, FILEMARK, NOTHING, REFUSED, verdict_number};
-use reading::{Answer, Delivery, Fetched, Opened, Replied};
-use reading_twins::{AdrReading, reading_state_twin};
+use reading::Reading;
+use reading_twins::AdrReading;
 
 // The session and the number of the refusal, 0 for none.
 #[repr(C)]
@@ -17,7 +19,7 @@ pub struct AdrReadOpened {
     pub number: u8,
 }
 
-// What a fetch answers: a command, the end, or refused with a number.
+// What a fetch answers: a command, the end, or refused with a number. C has a struct for each session's fetches, so this one is not generic.
 #[repr(C)]
 #[derive(Clone, Copy)]
 pub struct AdrReadFetched {
@@ -36,95 +38,90 @@ pub struct AdrReadReplied {
     pub number: u8,
 }
 
-impl AdrReadOpened {
-    // What an opening returned, as numbers.
-    pub fn of(o: Opened) -> AdrReadOpened
-        ensures { result ≡ opened_twin (opened_said o) }
-    {
-        let session = o.session;
-        let verdict = o.verdict;
+impl From<Outcome<Reading>> for AdrReadOpened {
+    ghost from_gives = { λ r n. n ≡ opened_twin (opened_said r) };
+
+    fn from(returned: Outcome<Reading>) -> AdrReadOpened {
+        let (session, verdict) = returned;
         AdrReadOpened {
-            session: reading_state_twin(session.state),
+            session: session.state.into(),
             number: verdict_number(verdict),
+        }
+    }
+}
+
+impl From<Outcome<Reading, Option<Command>>> for AdrReadFetched {
+    ghost from_gives = { λ r n. n ≡ fetched_twin (fetched_said r) };
+
+    fn from(returned: Outcome<Reading, Option<Command>>) -> AdrReadFetched {
+        let (session, answer) = returned;
+        let session = session.state.into();
+        match answer {
+            Ok(Some(c)) => AdrReadFetched {
+                session,
+                command: c.into(),
+                answer: COMMAND,
+                number: 0,
+            },
+            Ok(None) => AdrReadFetched::without(session, END, 0),
+            Err(r) => AdrReadFetched::without(session, REFUSED, r.number()),
         }
     }
 }
 
 impl AdrReadFetched {
     // An answer without a command.
-    fn without(s: AdrReading, answer: u8, number: u8) -> AdrReadFetched
-        ensures { result ≡ without_command s answer number }
+    fn without(session: AdrReading, answer: u8, number: u8) -> AdrReadFetched
+        ensures { result ≡ without_command session answer number }
     {
         AdrReadFetched {
-            session: s,
+            session,
             command: AdrCommand {
                 code: 0,
                 address: 0,
             },
-            answer: answer,
-            number: number,
-        }
-    }
-
-    // What a fetch returned, as numbers.
-    pub fn of(f: Fetched) -> AdrReadFetched
-        ensures { result ≡ fetched_twin (fetched_said f) }
-    {
-        let session = f.session;
-        let answer = f.answer;
-        let s = reading_state_twin(session.state);
-        match answer {
-            Answer::Command(c) => AdrReadFetched {
-                session: s,
-                command: command_twin(c),
-                answer: COMMAND,
-                number: 0,
-            },
-            Answer::End => AdrReadFetched::without(s, END, 0),
-            Answer::Refused(r) => AdrReadFetched::without(s, REFUSED, number(r)),
+            answer,
+            number,
         }
     }
 
     // Numbers that are no session's.
-    pub fn unknown(s: AdrReading) -> AdrReadFetched
-        ensures { result ≡ unknown_fetch s }
+    pub fn unknown(session: AdrReading) -> AdrReadFetched
+        ensures { result ≡ unknown_fetch session }
     {
-        AdrReadFetched::without(s, REFUSED, 7)
+        AdrReadFetched::without(session, REFUSED, Refusal::Phase.number())
+    }
+}
+
+impl From<Outcome<Reading, Option<Kind>>> for AdrReadReplied {
+    ghost from_gives = { λ r n. n ≡ replied_twin (replied_said r) };
+
+    fn from(returned: Outcome<Reading, Option<Kind>>) -> AdrReadReplied {
+        let (session, delivery) = returned;
+        let (answer, number) = match delivery {
+            Ok(None) => (NOTHING, 0),
+            Ok(Some(Kind::Data)) => (BLOCK, 0),
+            Ok(Some(Kind::Marker)) => (FILEMARK, 0),
+            Ok(Some(Kind::Eod)) => (END, 0),
+            Err(r) => (REFUSED, r.number()),
+        };
+        AdrReadReplied {
+            session: session.state.into(),
+            answer,
+            number,
+        }
     }
 }
 
 impl AdrReadReplied {
-    // An answer beside the session.
-    fn with(s: AdrReading, answer: u8, number: u8) -> AdrReadReplied
-        ensures { result ≡ with_answer s answer number }
+    // Numbers that are no session's.
+    pub fn unknown(session: AdrReading) -> AdrReadReplied
+        ensures { result ≡ unknown_reply session }
     {
         AdrReadReplied {
-            session: s,
-            answer: answer,
-            number: number,
+            session,
+            answer: REFUSED,
+            number: Refusal::Phase.number(),
         }
-    }
-
-    // What a reply returned, as numbers.
-    pub fn of(t: Replied) -> AdrReadReplied
-        ensures { result ≡ replied_twin (replied_said t) }
-    {
-        let session = t.session;
-        let delivery = t.delivery;
-        let s = reading_state_twin(session.state);
-        match delivery {
-            Delivery::Nothing => AdrReadReplied::with(s, NOTHING, 0),
-            Delivery::Block => AdrReadReplied::with(s, BLOCK, 0),
-            Delivery::Filemark => AdrReadReplied::with(s, FILEMARK, 0),
-            Delivery::End => AdrReadReplied::with(s, END, 0),
-            Delivery::Refused(r) => AdrReadReplied::with(s, REFUSED, number(r)),
-        }
-    }
-
-    // Numbers that are no session's.
-    pub fn unknown(s: AdrReading) -> AdrReadReplied
-        ensures { result ≡ unknown_reply s }
-    {
-        AdrReadReplied::with(s, REFUSED, 7)
     }
 }

@@ -6,8 +6,8 @@ ghost use Rattle.drive.specs.Command.{command_said};
 ghost use Rattle.reading_state.specs.Fetch.{command_of, fetched_said, sending, fetch_of};
 
 use drive::{Command, Exchange};
-use geometry::{Address, Refusal, SECOND_GROUP, SECOND_USER};
-use reading_state::{Answer, Fetched, State};
+use geometry::{Address, Outcome, Refusal, SECOND_GROUP, SECOND_USER};
+use reading_state::State;
 
 // The command that is due where the next address is not above LAST.
 #[tactic(auto, unfolding(reading_state::specs::Fetch::command_of))]
@@ -25,44 +25,32 @@ fn due(s: State) -> Command
 }
 
 // The command goes out, and its reply is awaited.
-fn send(mut s: State, c: Command) -> Fetched
+fn send(s: State, c: Command) -> Outcome<State, Option<Command>>
     ensures { fetched_said result ≡ sending s c }
 {
-    s.exchange = Exchange::sent(c);
-    Fetched {
-        session: s,
-        answer: Answer::Command(c),
-    }
+    let session = State {
+        exchange: Exchange::sent(c),
+        ..s
+    };
+    (session, Ok(Some(c)))
 }
 
-// The command that was answered busy, once more; else the next command, or the end once EOD was read.
+// The command that was answered busy, once more; else the next command, or none once EOD was read.
 #[tactic(auto, unfolding(reading_state::specs::Fetch::fetch_of))]
-pub fn fetch(mut s: State) -> Fetched
+pub fn fetch(s: State) -> Outcome<State, Option<Command>>
     ensures { fetched_said result ≡ fetch_of s }
 {
-    if s.ended | s.exchange.awaiting {
-        return Fetched {
-            session: s,
-            answer: Answer::Refused(Refusal::Phase),
-        };
+    if s.ended || s.exchange.awaiting {
+        return (s, Err(Refusal::Phase));
     }
     if s.exchange.again {
-        let exchange = s.exchange;
-        let c = exchange.command;
-        return send(s, c);
+        return send(s, s.exchange.command);
     }
     if s.finished {
-        return Fetched {
-            session: s,
-            answer: Answer::End,
-        };
+        return (s, Ok(None));
     }
-    if s.told.last.0 < s.position.next.0 {
-        s.ended = true;
-        return Fetched {
-            session: s,
-            answer: Answer::Refused(Refusal::NotFound),
-        };
+    if s.told.last < s.position.next {
+        return (s.ended(), Err(Refusal::NotFound));
     }
     send(s, due(s))
 }

@@ -3,21 +3,20 @@
 
 ghost use Rattle.std.specs.Prelude.{◌≡◌};
 ghost use Rattle.geometry.specs.Refusal.{refusal_number};
-ghost use Rattle.reading_state.specs.Open.{opened_said, told_of, fresh, open_refused, open_of};
+ghost use Rattle.reading_state.specs.Open.{opened_said, fresh, open_refused, open_of};
 
 use drive::Exchange;
 use frame::{Header, no_trail};
-use geometry::{Address, FIRST_USER, Geometry, Refusal, Seq, Verdict};
-use header::{Checked, read_header};
-use judgement::Told;
-use reading_state::{Opened, Position, State};
+use geometry::{Address, FIRST_USER, Geometry, Outcome, Refusal, Seq};
+use header::read_header;
+use reading_state::{Position, State};
 
-// A session at its first command.
-fn fresh_session(told: Told) -> State
+// A session at its first command, by what the header tells.
+fn fresh_session(told: Header) -> State
     ensures { result ≡ fresh told }
 {
     State {
-        told: told,
+        told,
         position: Position {
             next: Address(FIRST_USER),
             locate: true,
@@ -31,50 +30,20 @@ fn fresh_session(told: Told) -> State
 }
 
 // A refused opening returns an ended session.
-fn refuse_opening(refusal: Refusal) -> Opened
+fn refuse_opening(refusal: Refusal) -> Outcome<State>
     ensures { opened_said result ≡ open_refused (refusal_number refusal) }
 {
-    let mut session = fresh_session(Told {
-        last: Address(0),
-        pass: 0,
-        eod: Address(0),
-        old: Address(0),
-        update: 0,
-    });
-    session.ended = true;
-    Opened {
-        session: session,
-        verdict: Verdict::Refused(refusal),
-    }
-}
-
-// What a header tells a reading.
-fn told_by(header: Header) -> Told
-    ensures { result ≡ told_of header }
-{
-    let last = header.last;
-    let eod = header.eod;
-    let old = header.old;
-    Told {
-        last: last,
-        pass: header.pass,
-        eod: eod,
-        old: old,
-        update: header.update,
-    }
+    let session = fresh_session(Header::default());
+    (session.ended(), Err(refusal))
 }
 
 // Opens a reading on the newest header of the cartridge.
 #[tactic(auto, unfolding(reading_state::specs::Open::open_of))]
-pub fn open(g: Geometry, header: &[u8]) -> Opened
+pub fn open(g: Geometry, header: &[u8]) -> Outcome<State>
     ensures { opened_said result ≡ open_of g header.now }
 {
-    let checked = read_header(g, header);
-    match checked {
-        Checked::Valid(fields) => Opened {
-            session: fresh_session(told_by(fields)),
-            verdict: Verdict::Accepted,
-        },
-        Checked::Refused(r) => refuse_opening(r),
+    match read_header(g, header) {
+        Ok(told) => (fresh_session(told), Ok(())),
+        Err(r) => refuse_opening(r),
     }
 }

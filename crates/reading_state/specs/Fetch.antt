@@ -1,15 +1,13 @@
 -- 01, "Reading a cartridge": fetching the next command.
-use Rattle.std.specs.Prelude.{ℕ, ◌||◌, ◌==◌, nat_lt}
+use Rattle.std.specs.Prelude.{ℕ, ◌||◌, ◌==◌, nat_lt, Option, None, Some, Result, Ok, Err}
 use Rattle.geometry.specs.Pick.{pick}
 use Rattle.geometry.specs.Refusal.{refusal_number}
+use Rattle.geometry.specs.declared.refusal.Refusal.{Refusal}
 use Rattle.geometry.specs.Cartridge.{second_group, second_user}
 use Rattle.drive.specs.Command.{CommandSaid, command_said, command_for, read, locate}
 use Rattle.drive.specs.Exchange.{sent_of}
 use Rattle.drive.specs.declared.command.Command.{Command}
 use Rattle.reading_state.specs.declared.state.State.{State}
-use Rattle.reading_state.specs.declared.state.Fetched.{Fetched}
-use Rattle.reading_state.specs.declared.state.Answer.{Answer}
-use Rattle.reading_state.specs.declared.state.Answer.TheVariants as A
 use Rattle.reading_state.specs.State.{with_exchange, ended_of}
 
 -- LOCATE 10 at first, and LOCATE after 08/00/05; before 2,990 LOCATE 3,000; else READ
@@ -29,10 +27,10 @@ abbrev pub giving : CommandSaid → AnswerSaid
 giving x = command x.code x.address
 
 -- the code's answer, in 01's numbers
-abbrev pub answer_said : Answer → AnswerSaid
-answer_said (A.Command c) = giving (command_said c)
-answer_said A.End = end
-answer_said (A.Refused r) = refused (refusal_number r)
+abbrev pub answer_said : Result (Option Command) Refusal → AnswerSaid
+answer_said (Ok (Some c)) = giving (command_said c)
+answer_said (Ok None) = end
+answer_said (Err r) = refused (refusal_number r)
 
 -- what a fetch returns: the session and the answer
 pub record FetchedSaid : Type 0 where
@@ -40,8 +38,8 @@ pub record FetchedSaid : Type 0 where
   pub said : AnswerSaid
 
 -- the same of the code's fetch
-abbrev pub fetched_said : Fetched → FetchedSaid
-fetched_said r = record { session = r.session; said = answer_said r.answer }
+abbrev pub fetched_said : State × Result (Option Command) Refusal → FetchedSaid
+fetched_said r = record { session = r.0; said = answer_said r.1 }
 
 -- the command goes out and its reply is awaited
 abbrev pub awaits : State → Command → State

@@ -1,6 +1,7 @@
 -- 01, "Reading a cartridge": opening, with the geometry and a header that the host has read.
-use Rattle.std.specs.Prelude.{ℕ, true, false, List}
+use Rattle.std.specs.Prelude.{ℕ, true, false, List, Result}
 use Rattle.geometry.specs.Refusal.{verdict_number}
+use Rattle.geometry.specs.declared.refusal.Refusal.{Refusal}
 use Rattle.geometry.specs.Place.{as_address, as_seq}
 use Rattle.geometry.specs.Cartridge.{first_user}
 use Rattle.geometry.specs.declared.cartridge.Geometry.{Geometry}
@@ -8,9 +9,7 @@ use Rattle.frame.specs.Trail.{no_trail}
 use Rattle.frame.specs.declared.header.Header.{Header}
 use Rattle.header.specs.Read.{CheckedSaid, valid, refused, read_header}
 use Rattle.drive.specs.Exchange.{unsent}
-use Rattle.judgement.specs.declared.told.Told.{Told}
 use Rattle.reading_state.specs.declared.state.State.{State}
-use Rattle.reading_state.specs.declared.state.Opened.{Opened}
 use Rattle.reading_state.specs.State.{ended_of}
 
 -- the session and the number of the refusal, 0 for none
@@ -19,15 +18,11 @@ pub record OpenedSaid : Type 0 where
   pub number : ℕ
 
 -- what an opening returned, with its refusal by number
-abbrev pub opened_said : Opened → OpenedSaid
-opened_said r = record { session = r.session; number = verdict_number r.verdict }
-
--- what the header tells
-abbrev pub told_of : Header → Told
-told_of h = record { last = h.last; pass = h.pass; eod = h.eod; old = h.old; update = h.update }
+abbrev pub opened_said : State × Result Unit Refusal → OpenedSaid
+opened_said r = record { session = r.0; number = verdict_number r.1 }
 
 -- a session whose LOCATE 10 is due and that expects number 0
-abbrev pub fresh : Told → State
+abbrev pub fresh : Header → State
 fresh told = record {
   told = told;
   position = record { next = as_address first_user; locate = true };
@@ -39,7 +34,7 @@ fresh told = record {
 }
 
 -- where no header tells anything
-abbrev pub told_nothing : Told
+abbrev pub told_nothing : Header
 told_nothing = record { last = as_address 0; pass = 0; eod = as_address 0; old = as_address 0; update = 0 }
 
 -- a refused opening returns a session that has ended
@@ -48,7 +43,7 @@ open_refused n = record { session = ended_of (fresh told_nothing); number = n }
 
 -- a header that is valid gives its fields; any other is refused with 1, 2 or 3
 abbrev pub open_for : CheckedSaid → OpenedSaid
-open_for (valid header) = record { session = fresh (told_of header); number = 0 }
+open_for (valid header) = record { session = fresh header; number = 0 }
 open_for (refused n) = open_refused n
 
 -- the opening of a reading

@@ -1,13 +1,16 @@
 -- 01, "Reading a cartridge" and "Replies", on READ: what a reply with a lent frame answers and leaves.
-use Rattle.std.specs.Prelude.{ℕ, ◌+◌, Bool, true, false, not, ◌||◌, List, length, ◌==◌}
+use Rattle.std.specs.Prelude.{ℕ, ◌+◌, Bool, true, false, not, ◌||◌, List, length, ◌==◌, Option, None, Some, Result, Ok, Err}
 use Rattle.geometry.specs.Place.{as_address, as_seq}
 use Rattle.geometry.specs.Pick.{pick}
 use Rattle.geometry.specs.Refusal.{refusal_number}
+use Rattle.geometry.specs.declared.refusal.Refusal.{Refusal}
 use Rattle.geometry.specs.Cartridge.{past_reserved}
 use Rattle.geometry.specs.Wrap.{wrap32}
 use Rattle.geometry.specs.declared.address.Address.{Address}
 use Rattle.frame.specs.Lengths.{frame_length}
 use Rattle.frame.specs.Trail.{marked}
+use Rattle.frame.specs.declared.element.Kind.{Kind}
+use Rattle.frame.specs.declared.element.Kind.TheVariants.{Data, Marker, Eod}
 use Rattle.frame.specs.declared.trail.Trail.{Trail}
 use Rattle.drive.specs.Command.{command_address}
 use Rattle.drive.specs.Cases as cases
@@ -16,9 +19,6 @@ use Rattle.drive.specs.Exchange as exchange
 use Rattle.drive.specs.declared.reply.Reply.{Reply}
 use Rattle.judgement.specs.Judgement as judgement
 use Rattle.reading_state.specs.declared.state.State.{State}
-use Rattle.reading_state.specs.declared.state.Replied.{Replied}
-use Rattle.reading_state.specs.declared.state.Delivery.{Delivery}
-use Rattle.reading_state.specs.declared.state.Delivery.TheVariants as D
 use Rattle.reading_state.specs.State.{with_exchange, with_position, with_expected, with_end, ended_of}
 
 -- what a reply is answered: nothing delivered, a block (the first 32,768 bytes of the lent frame), a filemark, the end, or a refusal by its number
@@ -30,12 +30,12 @@ pub data DeliverySaid : Type 0 where
   refused : ℕ → DeliverySaid
 
 -- the code's delivery, in 01's numbers
-abbrev pub delivery_said : Delivery → DeliverySaid
-delivery_said D.Nothing = nothing
-delivery_said D.Block = block
-delivery_said D.Filemark = filemark
-delivery_said D.End = end
-delivery_said (D.Refused r) = refused (refusal_number r)
+abbrev pub delivery_said : Result (Option Kind) Refusal → DeliverySaid
+delivery_said (Ok None) = nothing
+delivery_said (Ok (Some Data)) = block
+delivery_said (Ok (Some Marker)) = filemark
+delivery_said (Ok (Some Eod)) = end
+delivery_said (Err r) = refused (refusal_number r)
 
 -- what a reply returns: the session and the delivery
 pub record RepliedSaid : Type 0 where
@@ -43,8 +43,8 @@ pub record RepliedSaid : Type 0 where
   pub said : DeliverySaid
 
 -- the same of the code's reply
-abbrev pub replied_said : Replied → RepliedSaid
-replied_said t = record { session = t.session; said = delivery_said t.delivery }
+abbrev pub replied_said : State × Result (Option Kind) Refusal → RepliedSaid
+replied_said t = record { session = t.0; said = delivery_said t.1 }
 
 -- a session beside what it answers
 abbrev pub delivering : State → DeliverySaid → RepliedSaid

@@ -9,63 +9,23 @@ use Rattle.reading_state.specs.declared.state.State.{State}
 
 -- the exchange: the last command, and how it stands with its reply
 abbrev pub with_exchange : State → Exchange → State
-with_exchange s x = record {
-  told = s.told;
-  position = s.position;
-  expected = s.expected;
-  trail = s.trail;
-  exchange = x;
-  finished = s.finished;
-  ended = s.ended;
-}
+with_exchange s x = record s { exchange = x }
 
 -- the next address, and whether a LOCATE of it comes first
 abbrev pub with_position : State → Address → Bool → State
-with_position s next locate = record {
-  told = s.told;
-  position = record { next = next; locate = locate };
-  expected = s.expected;
-  trail = s.trail;
-  exchange = s.exchange;
-  finished = s.finished;
-  ended = s.ended;
-}
+with_position s next locate = record s { position = record { next = next; locate = locate } }
 
 -- the number that is expected, and the filemarks before it
 abbrev pub with_expected : State → Seq → Trail → State
-with_expected s expected trail = record {
-  told = s.told;
-  position = s.position;
-  expected = expected;
-  trail = trail;
-  exchange = s.exchange;
-  finished = s.finished;
-  ended = s.ended;
-}
+with_expected s expected trail = record s { expected = expected; trail = trail }
 
 -- EOD was read
 abbrev pub with_end : State → State
-with_end s = record {
-  told = s.told;
-  position = s.position;
-  expected = s.expected;
-  trail = s.trail;
-  exchange = s.exchange;
-  finished = true;
-  ended = s.ended;
-}
+with_end s = record s { finished = true }
 
 -- refusals from 8 on: session ended
 abbrev pub ended_of : State → State
-ended_of s = record {
-  told = s.told;
-  position = s.position;
-  expected = s.expected;
-  trail = s.trail;
-  exchange = s.exchange;
-  finished = s.finished;
-  ended = true;
-}
+ended_of s = record s { ended = true }
 
 -- the reading is at its end: a fetch says so
 abbrev pub is_at_end : State → Bool

@@ -5,4 +5,4 @@
 mod reply;
 mod state;
 
-pub use state::{Answer, Delivery, Fetched, Opened, Position, Replied, State};
+pub use state::{Position, State};

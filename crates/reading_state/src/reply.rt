@@ -1,14 +1,12 @@
 // What a reply changes, and what it is answered: a step for each case that `reading_replying` tells apart.
 ghost use Rattle.std.specs.Prelude.{◌≡◌};
-ghost use Rattle.geometry.specs.Refusal.{refusal_number};
-ghost use Rattle.reading_state.specs.Reply.{delivery_said, replied_said, delivering, refusing, ending, wrapped, block, filemark};
+ghost use Rattle.reading_state.specs.Reply.{replied_said, delivering, wrapped, block, filemark, address_of};
 ghost use Rattle.reading_state.specs.Reply.{repeated_of, moved_of, advanced_of, located_of, passed_over_of, marked_of, delivered_of, finished_of, jumped_of};
-ghost use Rattle.reading_state.specs.State.{is_at_end, end_of};
+ghost use Rattle.reading_state.specs.State.{ended_of, is_at_end, end_of};
 
-use crate::state::{Delivery, Position, Replied, State};
-use drive::address;
-use frame::{Trail, marked};
-use geometry::{Address, HIGHEST_ADDRESS, Refusal, Seq, past_reserved, preceding};
+use crate::state::{Position, State};
+use frame::{Kind, Trail, marked};
+use geometry::{Address, HIGHEST_ADDRESS, Outcome, Seq, past_reserved, preceding};
 
 // A number as an address. It wraps only in a session that no call returned.
 fn wrapped(n: u64) -> Address
@@ -18,141 +16,122 @@ fn wrapped(n: u64) -> Address
 }
 
 impl State {
-    // The session beside what it answers.
-    pub fn deliver(self, delivery: Delivery) -> Replied
-        ensures { replied_said result ≡ delivering self (delivery_said delivery) }
+    // Refusals from 8 on end the session.
+    pub fn ended(self) -> State
+        ensures { result ≡ ended_of self }
     {
-        Replied {
-            session: self,
-            delivery: delivery,
+        State {
+            ended: true,
+            ..self
         }
     }
 
-    // Refusals 1 to 7 leave the session unchanged.
-    pub fn refuse(self, refusal: Refusal) -> Replied
-        ensures { replied_said result ≡ refusing self (refusal_number refusal) }
-    {
-        self.deliver(Delivery::Refused(refusal))
-    }
-
-    // Refusals from 8 on end the session.
-    pub fn end(mut self, refusal: Refusal) -> Replied
-        ensures { replied_said result ≡ ending self (refusal_number refusal) }
-    {
-        self.ended = true;
-        self.deliver(Delivery::Refused(refusal))
-    }
-
     // Busy: the command is given once more.
-    pub fn repeated(mut self) -> State
+    pub fn repeated(self) -> State
         ensures { result ≡ repeated_of self }
     {
-        let exchange = self.exchange;
-        self.exchange = exchange.repeated();
-        self
+        State {
+            exchange: self.exchange.repeated(),
+            ..self
+        }
     }
 
     // The reply is taken in, and reading goes on at an address, with a LOCATE of it or without.
-    fn moved(mut self, next: Address, locate: bool) -> State
+    fn moved(self, next: Address, locate: bool) -> State
         ensures { result ≡ moved_of self next locate }
     {
-        let exchange = self.exchange;
-        self.exchange = exchange.replied();
-        let position = Position {
-            next: next,
-            locate: locate,
-        };
-        self.position = position;
-        self
+        State {
+            exchange: self.exchange.replied(),
+            position: Position { next, locate },
+            ..self
+        }
+    }
+
+    // The address of the command.
+    fn address(self) -> Address
+        ensures { result ≡ address_of self }
+    {
+        self.exchange.command.address()
     }
 
     // Reading goes on one address behind the command's.
     fn advanced(self) -> State
         ensures { result ≡ advanced_of self }
     {
-        let exchange = self.exchange;
-        let c = exchange.command;
-        let next = wrapped((address(c).0 as u64) + 1);
+        let next = Address(self.address().0.wrapping_add(1));
         self.moved(next, self.position.locate)
     }
 
     // The drive stands at the command's address.
-    pub fn located(self) -> Replied
+    pub fn located(self) -> Outcome<State, Option<Kind>>
         ensures { replied_said result ≡ located_of self }
     {
-        let exchange = self.exchange;
-        let c = exchange.command;
-        self.moved(address(c), false).deliver(Delivery::Nothing)
+        (self.moved(self.address(), false), Ok(None))
     }
 
     // The address is passed over.
-    pub fn passed_over(self) -> Replied
+    pub fn passed_over(self) -> Outcome<State, Option<Kind>>
         ensures { replied_said result ≡ passed_over_of self }
     {
-        self.advanced().deliver(Delivery::Nothing)
+        (self.advanced(), Ok(None))
     }
 
     // The expected element is delivered, and the next one expected, behind a trail.
-    fn delivered(self, trail: Trail, delivery: Delivery) -> Replied
-        ensures { replied_said result ≡ delivered_of self trail (delivery_said delivery) }
+    fn delivered(self, trail: Trail) -> State
+        ensures { delivering result block ≡ delivered_of self trail block }
     {
-        let expected = Seq(std::num::wrapping_add_u32(self.expected.0, 1));
-        let mut session = self.advanced();
-        session.expected = expected;
-        session.trail = trail;
-        session.deliver(delivery)
+        State {
+            expected: Seq(self.expected.0.wrapping_add(1)),
+            trail,
+            ..self.advanced()
+        }
     }
 
     // A block is delivered.
-    pub fn delivered_block(self) -> Replied
+    pub fn delivered_block(self) -> Outcome<State, Option<Kind>>
         ensures { replied_said result ≡ delivered_of self self.trail block }
     {
-        let trail = self.trail;
-        self.delivered(trail, Delivery::Block)
+        (self.delivered(self.trail), Ok(Some(Kind::Data)))
     }
 
     // A filemark is delivered, at the command's address.
-    pub fn delivered_filemark(self) -> Replied
+    pub fn delivered_filemark(self) -> Outcome<State, Option<Kind>>
         ensures { replied_said result ≡ delivered_of self (marked_of self) filemark }
     {
-        let trail = self.trail;
-        let exchange = self.exchange;
-        let c = exchange.command;
-        self.delivered(marked(trail, address(c)), Delivery::Filemark)
+        let trail = marked(self.trail, self.address());
+        (self.delivered(trail), Ok(Some(Kind::Marker)))
     }
 
     // EOD ends reading.
-    pub fn finished(self) -> Replied
+    pub fn finished(self) -> Outcome<State, Option<Kind>>
         ensures { replied_said result ≡ finished_of self }
     {
-        let mut session = self.advanced();
-        session.finished = true;
-        session.deliver(Delivery::End)
+        let session = State {
+            finished: true,
+            ..self.advanced()
+        };
+        (session, Ok(Some(Kind::Eod)))
     }
 
     // Nothing reads for 32 addresses: LOCATE behind them, or behind the second header group and its defect map.
-    pub fn jumped(self) -> Replied
+    pub fn jumped(self) -> Outcome<State, Option<Kind>>
         ensures { replied_said result ≡ jumped_of self }
     {
-        let exchange = self.exchange;
-        let c = exchange.command;
-        let next = wrapped(past_reserved(address(c), 32));
-        self.moved(next, true).deliver(Delivery::Nothing)
+        let next = wrapped(past_reserved(self.address(), 32));
+        (self.moved(next, true), Ok(None))
     }
 
     // Whether the reading is at its end.
     pub fn is_at_end(self) -> bool
         ensures { result ≡ is_at_end self }
     {
-        let exchange = self.exchange;
-        self.finished & !(self.ended | exchange.awaiting | exchange.again)
+        self.finished && !(self.ended || self.exchange.awaiting || self.exchange.again)
     }
 
     // The address of the EOD at which it ended.
     pub fn end_address(self) -> Address
         ensures { result ≡ end_of self }
     {
-        let next = self.position.next;
-        preceding(next)
+        preceding(self.position.next)
     }
 }

@@ -3,4 +3,4 @@
 
 mod reading_numbers;
 
-pub use reading_numbers::{AdrReading, is_reading, reading_state_of, reading_state_twin};
+pub use reading_numbers::AdrReading;

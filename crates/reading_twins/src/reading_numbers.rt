@@ -1,17 +1,14 @@
 // A reading session as numbers.
 ghost use Rattle.std.specs.Prelude.{◌≡◌};
 ghost use Rattle.exchange_twins.specs.ComesBack.{ComesBack};
-ghost use Rattle.reading_twins.specs.Reading.{is_reading, reading_state_of, reading_state_twin};
+ghost use Rattle.reading_twins.specs.Reading.{told_of, told_twin, is_reading, reading_state_of, reading_state_twin, checked_reading};
 
-use exchange_twins::{
-    AdrExchange, AdrTrail, exchange_of, exchange_twin, flag_number, is_exchange, trail_of,
-    trail_twin,
-};
-use geometry::{Address, Seq};
-use judgement::Told;
+use exchange_twins::{AdrExchange, AdrTrail};
+use frame::Header;
+use geometry::{Address, Refusal, Seq};
 use reading_state::{Position, State};
 
-// What the header tells.
+// What the header tells. C has a struct of its own for it beside that of a recording's header, of the same members.
 #[repr(C)]
 #[derive(Clone, Copy)]
 pub struct AdrTold {
@@ -43,68 +40,97 @@ pub struct AdrReading {
     pub ended: u8,
 }
 
-// Whether the numbers are a session's.
-#[tactic(auto, unfolding(crate::specs::Reading::is_reading))]
-pub fn is_reading(s: AdrReading) -> bool
-    ensures { result ≡ is_reading s }
-{
-    let exchange = s.exchange;
-    is_exchange(exchange) & (s.position.locate <= 1) & (s.finished <= 1) & (s.ended <= 1)
-}
+impl From<AdrTold> for Header {
+    ghost from_gives = { λ n h. h ≡ told_of n };
 
-// The session that the numbers stand for, where they are one's. The contract also says that no session is lost on the way to its numbers and back.
-pub fn reading_state_of(s: AdrReading) -> State
-    ensures { (result ≡ reading_state_of s) × ComesBack is_reading reading_state_of reading_state_twin }
-{
-    let told = s.told;
-    let position = s.position;
-    let trail = s.trail;
-    let exchange = s.exchange;
-    State {
-        told: Told {
-            last: Address(told.last),
-            pass: told.pass,
-            eod: Address(told.eod),
-            old: Address(told.old),
-            update: told.update,
-        },
-        position: Position {
-            next: Address(position.next),
-            locate: position.locate == 1,
-        },
-        expected: Seq(s.expected),
-        trail: trail_of(trail),
-        exchange: exchange_of(exchange),
-        finished: s.finished == 1,
-        ended: s.ended == 1,
+    fn from(n: AdrTold) -> Header {
+        Header {
+            last: Address(n.last),
+            pass: n.pass,
+            eod: Address(n.eod),
+            old: Address(n.old),
+            update: n.update,
+        }
     }
 }
 
-// A session's numbers.
-#[tactic(auto, unfolding(crate::specs::Reading::reading_state_twin))]
-pub fn reading_state_twin(s: State) -> AdrReading
-    ensures { result ≡ reading_state_twin s }
-{
-    let told = s.told;
-    let position = s.position;
-    let trail = s.trail;
-    let exchange = s.exchange;
-    AdrReading {
-        told: AdrTold {
-            last: told.last.0,
-            eod: told.eod.0,
-            old: told.old.0,
-            update: told.update,
-            pass: told.pass,
-        },
-        position: AdrPosition {
-            next: position.next.0,
-            locate: flag_number(position.locate),
-        },
-        expected: s.expected.0,
-        trail: trail_twin(trail),
-        exchange: exchange_twin(exchange),
-        finished: flag_number(s.finished),
-        ended: flag_number(s.ended),
+impl From<Header> for AdrTold {
+    ghost from_gives = { λ h n. n ≡ told_twin h };
+
+    fn from(h: Header) -> AdrTold {
+        AdrTold {
+            last: h.last.0,
+            eod: h.eod.0,
+            old: h.old.0,
+            update: h.update,
+            pass: h.pass,
+        }
+    }
+}
+
+impl AdrReading {
+    // Whether the numbers are a session's.
+    #[tactic(auto, unfolding(crate::specs::Reading::is_reading))]
+    pub fn is_reading(self) -> bool
+        ensures { result ≡ is_reading self }
+    {
+        self.exchange.is_exchange()
+            && self.position.locate <= 1
+            && self.finished <= 1
+            && self.ended <= 1
+    }
+
+    // The session that the numbers stand for, where they are one's; other numbers have some value all the same, so that calls go by `try_from`. The
+    // contract also says that no session is lost on the way to its numbers and back.
+    #[tactic(auto, unfolding(crate::specs::Reading::reading_state_of), using(crate::proofs::Inverse::reading_comes_back))]
+    pub fn reading_state(self) -> State
+        ensures { (result ≡ reading_state_of self) × ComesBack is_reading reading_state_of reading_state_twin }
+    {
+        State {
+            told: self.told.into(),
+            position: Position {
+                next: Address(self.position.next),
+                locate: self.position.locate == 1,
+            },
+            expected: Seq(self.expected),
+            trail: self.trail.into(),
+            exchange: self.exchange.exchange(),
+            finished: self.finished == 1,
+            ended: self.ended == 1,
+        }
+    }
+}
+
+impl From<State> for AdrReading {
+    ghost from_gives = { λ s n. n ≡ reading_state_twin s };
+
+    #[tactic(auto, unfolding(crate::specs::Reading::reading_state_twin))]
+    fn from(s: State) -> AdrReading {
+        AdrReading {
+            told: s.told.into(),
+            position: AdrPosition {
+                next: s.position.next.0,
+                locate: s.position.locate.into(),
+            },
+            expected: s.expected.0,
+            trail: s.trail.into(),
+            exchange: s.exchange.into(),
+            finished: s.finished.into(),
+            ended: s.ended.into(),
+        }
+    }
+}
+
+// Numbers that are no session's are refused with 7.
+impl TryFrom<AdrReading> for State {
+    type Error = Refusal;
+
+    ghost try_from_gives = { λ n r. r ≡ checked_reading n };
+
+    fn try_from(n: AdrReading) -> Result<State, Refusal> {
+        if !n.is_reading() {
+            return Err(Refusal::Phase);
+        }
+        Ok(n.reading_state())
     }
 }

@@ -3,5 +3,5 @@
 
 mod recording;
 
-pub use recording::{Fetched, Outcome, Recording};
-pub use recording_state::{Answer, Stage};
+pub use recording::{Recording, holding};
+pub use recording_state::{Answer, Sizes, Stage};

@@ -9,14 +9,14 @@ ghost use Rattle.recording_state.specs.Accept.{is_full, accepts_none, with_eleme
 
 use crate::window::put_block;
 use frame::DATA_LENGTH;
-use geometry::Refusal;
-use recording_state::{Outcome, State};
+use geometry::{Outcome, Refusal};
+use recording_state::State;
 
 // The phase is wrong for an accept and for close.
 fn accepts_none(s: State) -> bool
     ensures { result ≡ accepts_none s }
 {
-    s.ended | s.closed
+    s.ended || s.closed
 }
 
 // As many elements are not known to be on tape as the window has blocks.
@@ -27,66 +27,64 @@ fn is_full(s: State) -> bool
 }
 
 // One element more, a filemark or not.
-fn with_element(mut s: State, mark: bool) -> State
+fn with_element(s: State, mark: bool) -> State
     ensures { result ≡ with_element s mark }
 {
-    s.elements = s.elements.accept(mark);
-    s
+    State {
+        elements: s.elements.accept(mark),
+        ..s
+    }
 }
 
 // Accepts a filemark.
-pub fn accept_filemark(s: State) -> Outcome
+#[tactic(auto, unfolding(recording_state::specs::Accept::filemark_of))]
+pub fn accept_filemark(s: State) -> Outcome<State>
     ensures { outcome_said result ≡ filemark_of s }
 {
     if accepts_none(s) {
-        return s.refuse(Refusal::Phase);
+        return (s, Err(Refusal::Phase));
     }
     if is_full(s) {
-        return s.refuse(Refusal::WindowFull);
+        return (s, Err(Refusal::WindowFull));
     }
-    with_element(s, true).accepted()
+    (with_element(s, true), Ok(()))
 }
 
 // Accepts a block and stores it in the window, from which it is written and, after an error, written again.
-pub fn accept_block(s: State, block: &[u8], window: &mut [u8]) -> Outcome
+#[tactic(auto, unfolding(recording_state::specs::Accept::block_of))]
+pub fn accept_block(s: State, block: &[u8], window: &mut [u8]) -> Outcome<State>
     ensures { stored_said result window.new ≡ block_of s block.now window.old }
 {
     if accepts_none(s) {
-        return s.refuse(Refusal::Phase);
+        return (s, Err(Refusal::Phase));
     }
-    if block.len() != DATA_LENGTH {
-        return s.refuse(Refusal::Length);
-    }
-    let w = s.blocks();
-    if window.len() != w * DATA_LENGTH {
-        return s.refuse(Refusal::Length);
+    if block.len() != DATA_LENGTH || window.len() != s.blocks() * DATA_LENGTH {
+        return (s, Err(Refusal::Length));
     }
     if is_full(s) {
-        return s.refuse(Refusal::WindowFull);
+        return (s, Err(Refusal::WindowFull));
     }
-    let queue = s.elements.queue;
-    let number = queue.number(queue.pending);
-    put_block(window, (number.0 as usize) % w, block);
-    with_element(s, false).accepted()
+    put_block(window, s.place(s.elements.queue.pending), block);
+    (with_element(s, false), Ok(()))
 }
 
 // Whether close may still be called though the session has ended.
 fn is_spent(s: State) -> bool
     ensures { result ≡ is_spent s }
 {
-    s.ended & s.spent
+    s.ended && s.spent
 }
 
 // No element is accepted any more; EOD and the closing headers follow. A spent session gives up what is not on tape.
-pub fn close(mut s: State) -> Outcome
+#[tactic(auto, unfolding(recording_state::specs::Accept::close_of))]
+pub fn close(s: State) -> Outcome<State>
     ensures { outcome_said result ≡ close_of s }
 {
     if is_spent(s) {
-        return s.give_up().accepted();
+        return (s.give_up(), Ok(()));
     }
     if accepts_none(s) {
-        return s.refuse(Refusal::Phase);
+        return (s, Err(Refusal::Phase));
     }
-    s.closed = true;
-    s.settle().accepted()
+    (State { closed: true, ..s }.settle(), Ok(()))
 }

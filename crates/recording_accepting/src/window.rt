@@ -1,4 +1,4 @@
-// Storing in the window.
+// Storing in the window, of which `recording_filling` has the other side.
 ghost use Rattle.std.specs.Prelude.{◌≡◌, ◌+◌, ◌*◌, ◌≤◌, ◌<◌, length};
 ghost use Rattle.frame.specs.Lengths.{data_length};
 ghost use Rattle.recording_state.specs.Window.{put_block};

@@ -5,11 +5,11 @@ ghost use Rattle.recording_state.specs.Answer.{answer_said};
 ghost use Rattle.recording_twins.specs.Recording.{recording_state_twin};
 ghost use Rattle.recording_answers.specs.Recording.{outcome_twin, unknown, without_command, unknown_fetch, fetched_twin};
 
-use exchange_twins::{AdrCommand, command_twin};
-use geometry::number;
+use exchange_twins::AdrCommand;
+use geometry::{Outcome, Refusal};
 use numbers::{COMMAND, DONE, IDLE, REFUSED, verdict_number};
-use recording::{Answer, Fetched, Outcome};
-use recording_twins::{AdrRecording, recording_state_twin};
+use recording::{Answer, Recording};
+use recording_twins::AdrRecording;
 
 // The session and the number of the refusal, 0 for none.
 #[repr(C)]
@@ -29,70 +29,70 @@ pub struct AdrRecordFetched {
     pub number: u8,
 }
 
-impl AdrRecordOutcome {
-    // What a call returned, as numbers.
-    pub fn of(o: Outcome) -> AdrRecordOutcome
-        ensures { result ≡ outcome_twin (outcome_said o) }
-    {
-        let session = o.session;
-        let verdict = o.verdict;
+impl From<Outcome<Recording>> for AdrRecordOutcome {
+    ghost from_gives = { λ r n. n ≡ outcome_twin (outcome_said r) };
+
+    fn from(returned: Outcome<Recording>) -> AdrRecordOutcome {
+        let (session, verdict) = returned;
         AdrRecordOutcome {
-            session: recording_state_twin(session.state),
+            session: session.state.into(),
             number: verdict_number(verdict),
         }
     }
+}
 
+impl AdrRecordOutcome {
     // Numbers that are no session's.
-    pub fn unknown(s: AdrRecording) -> AdrRecordOutcome
-        ensures { result ≡ unknown s }
+    pub fn unknown(session: AdrRecording) -> AdrRecordOutcome
+        ensures { result ≡ unknown session }
     {
         AdrRecordOutcome {
-            session: s,
-            number: 7,
+            session,
+            number: Refusal::Phase.number(),
+        }
+    }
+}
+
+impl From<Outcome<Recording, Answer>> for AdrRecordFetched {
+    ghost from_gives = { λ r n. n ≡ fetched_twin (answer_said r.1) (recording_state_twin r.0.state) };
+
+    fn from(returned: Outcome<Recording, Answer>) -> AdrRecordFetched {
+        let (session, answer) = returned;
+        let session = session.state.into();
+        match answer {
+            Ok(Answer::Command(c)) => AdrRecordFetched {
+                session,
+                command: c.into(),
+                answer: COMMAND,
+                number: 0,
+            },
+            Ok(Answer::Idle) => AdrRecordFetched::without(session, IDLE, 0),
+            Ok(Answer::Done) => AdrRecordFetched::without(session, DONE, 0),
+            Err(r) => AdrRecordFetched::without(session, REFUSED, r.number()),
         }
     }
 }
 
 impl AdrRecordFetched {
     // An answer without a command.
-    fn without(s: AdrRecording, answer: u8, number: u8) -> AdrRecordFetched
-        ensures { result ≡ without_command s answer number }
+    fn without(session: AdrRecording, answer: u8, number: u8) -> AdrRecordFetched
+        ensures { result ≡ without_command session answer number }
     {
         AdrRecordFetched {
-            session: s,
+            session,
             command: AdrCommand {
                 code: 0,
                 address: 0,
             },
-            answer: answer,
-            number: number,
-        }
-    }
-
-    // What a fetch returned, as numbers.
-    pub fn of(f: Fetched) -> AdrRecordFetched
-        ensures { result ≡ fetched_twin (answer_said f.answer) (recording_state_twin f.session.state) }
-    {
-        let session = f.session;
-        let answer = f.answer;
-        let s = recording_state_twin(session.state);
-        match answer {
-            Answer::Command(c) => AdrRecordFetched {
-                session: s,
-                command: command_twin(c),
-                answer: COMMAND,
-                number: 0,
-            },
-            Answer::Idle => AdrRecordFetched::without(s, IDLE, 0),
-            Answer::Done => AdrRecordFetched::without(s, DONE, 0),
-            Answer::Refused(r) => AdrRecordFetched::without(s, REFUSED, number(r)),
+            answer,
+            number,
         }
     }
 
     // Numbers that are no session's.
-    pub fn unknown(s: AdrRecording) -> AdrRecordFetched
-        ensures { result ≡ unknown_fetch s }
+    pub fn unknown(session: AdrRecording) -> AdrRecordFetched
+        ensures { result ≡ unknown_fetch session }
     {
-        AdrRecordFetched::without(s, REFUSED, 7)
+        AdrRecordFetched::without(session, REFUSED, Refusal::Phase.number())
     }
 }

@@ -1,48 +1,37 @@
 // What is due, by the session's stage.
-ghost use Rattle.std.specs.Prelude.{◌≡◌};
+ghost use Rattle.std.specs.Prelude.{◌≡◌, Ok};
 ghost use Rattle.recording_state.specs.Answer.{answer_said};
 ghost use Rattle.recording_state.specs.Due.{header_due, element_due, decision_of};
 
-use elements::Due;
+use geometry::Refusal;
 use recording_state::{Answer, Stage, State};
 
 // What is due for elements and EOD.
-fn element_due(s: State) -> Answer
+fn element_due(s: State) -> Result<Answer, Refusal>
     ensures { answer_said result ≡ element_due s }
 {
-    let elements = s.elements;
-    let setup = s.setup;
-    let due = element_rules::due(elements, setup.depth, setup.tail);
-    match due {
-        Due::Send(c) => Answer::Command(c),
-        Due::Idle => Answer::Idle,
-        Due::Refused(r) => Answer::Refused(r),
-    }
+    let due = element_rules::due(s.elements, s.setup.depth, s.setup.tail)?;
+    Ok(due.map_or(Answer::Idle, Answer::Command))
 }
 
 // What is due for the header copies.
 fn header_due(s: State) -> Answer
-    ensures { answer_said result ≡ header_due s }
+    ensures { answer_said (Ok result) ≡ header_due s }
 {
-    let copies = s.copies;
-    let setup = s.setup;
-    Answer::Command(copies.command(setup.depth))
+    Answer::Command(s.copies.command(s.setup.depth))
 }
 
 // What a fetch answers, once the session is found able to: the same command after busy, else what is due in this stage.
-pub(crate) fn decision(s: State) -> Answer
+#[tactic(auto, unfolding(recording_state::specs::Due::decision_of))]
+pub(crate) fn decision(s: State) -> Result<Answer, Refusal>
     ensures { answer_said result ≡ decision_of s }
 {
-    let exchange = s.exchange;
-    if exchange.again {
-        let c = exchange.command;
-        return Answer::Command(c);
+    if s.exchange.again {
+        return Ok(Answer::Command(s.exchange.command));
     }
-    let stage = s.stage;
-    match stage {
-        Stage::OpeningHeaders => header_due(s),
+    match s.stage {
+        Stage::OpeningHeaders | Stage::ClosingHeaders => Ok(header_due(s)),
         Stage::Elements => element_due(s),
-        Stage::ClosingHeaders => header_due(s),
-        Stage::Done => Answer::Done,
+        Stage::Done => Ok(Answer::Done),
     }
 }

@@ -3,21 +3,21 @@
 
 mod due;
 
-ghost use Rattle.std.specs.Prelude.{◌≡◌, ℕ, List, length};
-ghost use Rattle.geometry.specs.Refusal.{refusal_number, verdict_number};
+ghost use Rattle.std.specs.Prelude.{◌≡◌, length};
+ghost use Rattle.geometry.specs.Refusal.{verdict_number};
 ghost use Rattle.frame.specs.Lengths.{frame_length};
 ghost use Rattle.recording_state.specs.State.{window_length};
-ghost use Rattle.recording_state.specs.Fetch.{fetched_said, frame_for, sending, fetch_refused, fetch_of};
+ghost use Rattle.recording_state.specs.Fetch.{fetched_said, frame_for, sending, fetch_of};
 
 use crate::due::decision;
 use drive::{Command, Exchange};
 use frame::{DATA_LENGTH, FRAME_LENGTH};
-use geometry::{Refusal, Verdict};
+use geometry::{Outcome, Refusal};
 use recording_filling::fill;
-use recording_state::{Answer, Fetched, State};
+use recording_state::{Answer, State};
 
 // Fills the frame of a WRITE; any other command leaves it alone.
-fn fill_for(c: Command, s: State, window: &[u8], frame: &mut [u8]) -> Verdict
+fn fill_for(c: Command, s: State, window: &[u8], frame: &mut [u8]) -> Result<(), Refusal>
     requires window_len { length window.now ≡ window_length s }
     requires frame_len { length frame.old ≡ frame_length }
     ensures answer { verdict_number result ≡ 0 }
@@ -25,64 +25,41 @@ fn fill_for(c: Command, s: State, window: &[u8], frame: &mut [u8]) -> Verdict
 {
     match c {
         Command::Write(_) => fill(s, window, frame),
-        _ => Verdict::Accepted,
+        _ => Ok(()),
     }
 }
 
 // Hands out a command.
-fn send(mut s: State, c: Command, window: &[u8], frame: &mut [u8]) -> Fetched
+#[tactic(auto, unfolding(recording_state::specs::Fetch::sending))]
+fn send(s: State, c: Command, window: &[u8], frame: &mut [u8]) -> Outcome<State, Answer>
     requires window_len { length window.now ≡ window_length s }
     requires frame_len { length frame.old ≡ frame_length }
     ensures { fetched_said result frame.new ≡ sending s c window.now frame.old }
 {
-    let filled = fill_for(c, s, window, frame);
-    match filled {
-        Verdict::Accepted => {
-            s.exchange = Exchange::sent(c);
-            Fetched {
-                session: s,
-                answer: Answer::Command(c),
-            }
-        }
-        Verdict::Refused(r) => refuse_fetch(s, r),
+    if let Err(r) = fill_for(c, s, window, frame) {
+        return (s, Err(r));
     }
-}
-
-// A fetch refused: the frame as it was lent.
-fn refuse_fetch(s: State, refusal: Refusal) -> Fetched
-    ensures { (frame : List ℕ) → fetched_said result frame ≡ fetch_refused s (refusal_number refusal) frame }
-{
-    Fetched {
-        session: s,
-        answer: Answer::Refused(refusal),
-    }
+    let session = State {
+        exchange: Exchange::sent(c),
+        ..s
+    };
+    (session, Ok(Answer::Command(c)))
 }
 
 // The next command, or idle, or done. The window must be as the accepts left it; no byte of the frame is written but for a WRITE.
-pub fn fetch(s: State, window: &[u8], frame: &mut [u8]) -> Fetched
+#[tactic(auto, unfolding(recording_state::specs::Fetch::fetch_of))]
+pub fn fetch(s: State, window: &[u8], frame: &mut [u8]) -> Outcome<State, Answer>
     ensures { fetched_said result frame.new ≡ fetch_of s window.now frame.old }
 {
-    let exchange = s.exchange;
-    if s.ended | exchange.awaiting {
-        return refuse_fetch(s, Refusal::Phase);
+    if s.ended || s.exchange.awaiting {
+        return (s, Err(Refusal::Phase));
     }
-    if window.len() != s.blocks() * DATA_LENGTH {
-        return refuse_fetch(s, Refusal::Length);
+    if window.len() != s.blocks() * DATA_LENGTH || frame.len() != FRAME_LENGTH {
+        return (s, Err(Refusal::Length));
     }
-    if frame.len() != FRAME_LENGTH {
-        return refuse_fetch(s, Refusal::Length);
-    }
-    let answer = decision(s);
-    match answer {
-        Answer::Command(c) => send(s, c, window, frame),
-        Answer::Idle => Fetched {
-            session: s,
-            answer: Answer::Idle,
-        },
-        Answer::Done => Fetched {
-            session: s,
-            answer: Answer::Done,
-        },
-        Answer::Refused(r) => refuse_fetch(s.ended_by(r), r),
+    match decision(s) {
+        Ok(Answer::Command(c)) => send(s, c, window, frame),
+        Ok(answer) => (s, Ok(answer)),
+        Err(r) => (s.ended_by(r), Err(r)),
     }
 }

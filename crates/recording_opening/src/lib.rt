@@ -11,11 +11,11 @@ use copies::Copies;
 use drive::Exchange;
 use elements::Elements;
 use frame::{Header, MOST_BLOCKS, Trail, no_trail};
-use geometry::{Address, FIRST_USER, Geometry, Place, Refusal, Seq};
-use header::{Checked, read_header};
-use recording_state::{Outcome, Setup, Stage, State};
+use geometry::{Address, FIRST_USER, Geometry, Outcome, Refusal, Seq};
+use header::read_header;
+use recording_state::{Setup, Sizes, Stage, State};
 
-// A session at its first command, whose elements start from an address, a number and a trail.
+// A session at its first command, whose elements start from an address, a number and a trail: of a fresh recording, or of one that is added to.
 pub fn session_at(
     setup: Setup,
     header: Header,
@@ -25,16 +25,15 @@ pub fn session_at(
 ) -> State
     ensures { result ≡ started_at setup header address number trail }
 {
-    let last = header.last;
     State {
-        setup: setup,
+        setup,
         stage: Stage::OpeningHeaders,
         exchange: Exchange::unsent(),
         closed: false,
         ended: false,
         spent: false,
         copies: Copies::start(header),
-        elements: Elements::start(last, address, number, trail),
+        elements: Elements::start(header.last, address, number, trail),
     }
 }
 
@@ -46,76 +45,63 @@ fn fresh_session(setup: Setup, header: Header) -> State
 }
 
 // A refused opening returns an ended session.
-pub fn refuse_opening(refusal: Refusal) -> Outcome
+pub fn refuse_opening(refusal: Refusal) -> Outcome<State>
     ensures { outcome_said result ≡ open_refused (refusal_number refusal) }
 {
-    let header = Header {
-        last: Address(0),
-        pass: 0,
-        eod: Address(0),
-        old: Address(0),
-        update: 0,
-    };
-    let setup = Setup {
-        depth: 0,
-        highest: 0,
-        tail: 0,
-    };
-    let session = fresh_session(setup, header);
-    session.end(refusal)
+    let session = fresh_session(Setup::default(), Header::default());
+    (session.ended_by(refusal), Err(refusal))
 }
 
 // Whether D or W is none that a session can have.
-pub fn is_misfit(depth: u8, blocks: u8) -> bool
-    ensures { result ≡ is_misfit depth blocks }
+pub fn is_misfit(sizes: Sizes) -> bool
+    ensures { result ≡ is_misfit sizes.depth sizes.blocks }
 {
-    (depth == 0) | ((blocks == 0) | (MOST_BLOCKS < blocks))
+    sizes.depth == 0 || sizes.blocks == 0 || MOST_BLOCKS < sizes.blocks
 }
 
 // D, W, of which a session holds W - 1, and T.
-pub fn setup_of(depth: u8, blocks: u8, tail: u8) -> Setup
-    ensures { result ≡ setup_of depth blocks tail }
+pub fn setup_of(sizes: Sizes) -> Setup
+    ensures { result ≡ setup_of sizes.depth sizes.blocks sizes.tail }
 {
-    let highest = if blocks == 0 { 0 } else { blocks - 1 };
     Setup {
-        depth: depth,
-        highest: highest,
-        tail: tail,
+        depth: sizes.depth,
+        highest: sizes.blocks.saturating_sub(1),
+        tail: sizes.tail,
     }
 }
 
 // Refusal 4 for the sizes, then 5; else a session with this header.
-fn open_with(depth: u8, blocks: u8, tail: u8, exhausted: bool, header: Header) -> Outcome
-    ensures { outcome_said result ≡ open_with depth blocks tail exhausted header }
+#[tactic(auto, unfolding(recording_state::specs::Open::open_with))]
+fn open_with(sizes: Sizes, exhausted: bool, header: Header) -> Outcome<State>
+    ensures { outcome_said result ≡ open_with sizes.depth sizes.blocks sizes.tail exhausted header }
 {
-    if is_misfit(depth, blocks) {
+    if is_misfit(sizes) {
         return refuse_opening(Refusal::Capacity);
     }
     if exhausted {
         return refuse_opening(Refusal::Exhausted);
     }
-    fresh_session(setup_of(depth, blocks, tail), header).accepted()
+    (fresh_session(setup_of(sizes), header), Ok(()))
 }
 
-// On the newest header of the cartridge, for a drive that buffers `depth` frames, with a window of `blocks` blocks, the last `tail` frames
-// kept for EOD.
-pub fn open(g: Geometry, depth: u8, blocks: u8, tail: u8, header: &[u8]) -> Outcome
-    ensures { outcome_said result ≡ open_of g depth blocks tail header.now }
+// On the newest header of the cartridge.
+#[tactic(auto, unfolding(recording_state::specs::Open::open_of))]
+pub fn open(g: Geometry, sizes: Sizes, header: &[u8]) -> Outcome<State>
+    ensures { outcome_said result ≡ open_of g sizes.depth sizes.blocks sizes.tail header.now }
 {
-    let checked = read_header(g, header);
-    match checked {
-        Checked::Valid(old) => open_with(depth, blocks, tail, is_exhausted(old), renew(old)),
-        Checked::Refused(r) => refuse_opening(r),
+    match read_header(g, header) {
+        Ok(old) => open_with(sizes, is_exhausted(old), renew(old)),
+        Err(r) => refuse_opening(r),
     }
 }
 
 // On a cartridge that holds no valid header.
-pub fn open_blank(g: Geometry, depth: u8, blocks: u8, tail: u8) -> Outcome
-    ensures { outcome_said result ≡ open_blank_of g depth blocks tail }
+#[tactic(auto, unfolding(recording_state::specs::Open::open_blank_of))]
+pub fn open_blank(g: Geometry, sizes: Sizes) -> Outcome<State>
+    ensures { outcome_said result ≡ open_blank_of g sizes.depth sizes.blocks sizes.tail }
 {
-    let place = g.last();
-    match place {
-        Place::At(last) => open_with(depth, blocks, tail, false, blank_header(last)),
-        Place::Refused(r) => refuse_opening(r),
+    match g.last() {
+        Ok(last) => open_with(sizes, false, blank_header(last)),
+        Err(r) => refuse_opening(r),
     }
 }

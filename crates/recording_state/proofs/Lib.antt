@@ -8,4 +8,4 @@ pub mod ReplyView
 pub mod Refusals
 pub mod ListedReplies
 pub mod LawfulReplies
-pub mod Sizes
+pub mod KeptSizes

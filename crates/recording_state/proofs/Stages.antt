@@ -1,14 +1,10 @@
 -- The stages in which headers are written, and those of elements and EOD. Assumes nothing.
 use mathlib.Core.Path.{◌≡◌, refl}
-use mathlib.Core.List.{[], ◌∷◌}
-use denote.Enum.Declared.{tag_of}
-use types.Run.{OneOf, miss}
 use mathlib.Core.Logic.{◌⊎◌, inl, inr}
 use Rattle.geometry.proofs.Impossible.{never}
 use Rattle.recording_state.specs.declared.state.State.{State}
 use Rattle.recording_state.specs.declared.state.Stage.{Stage}
 use Rattle.recording_state.specs.declared.state.Stage.TheVariants as S
-use Rattle.recording_state.specs.contracts.state.Stage.{the_type}
 
 abbrev pub HeaderStage : State → Type 0
 HeaderStage s = (s.stage ≡ S.OpeningHeaders) ⊎ (s.stage ≡ S.ClosingHeaders)
@@ -26,17 +22,6 @@ header_not_done s (inr a) b = never (cc)
 
 pub element_not_done : {X : Type 0} (s : State) → ElementStage s → s.stage ≡ S.Done → X
 element_not_done s a b = never (cc)
-
--- ---- the stages of an arm of a match, by their numbers
-
-pub header_tags : (s : State) → OneOf (0 ∷ (2 ∷ [])) (tag_of the_type s.stage) → HeaderStage s
-header_tags s = go s.stage refl
-  where
-    go : (k : Stage) → s.stage ≡ k → OneOf (0 ∷ (2 ∷ [])) (tag_of the_type k) → HeaderStage s
-    go S.OpeningHeaders e h = inl e
-    go S.Elements e h = absurd (miss (0 ∷ (2 ∷ [])) 1 tt h)
-    go S.ClosingHeaders e h = inr e
-    go S.Done e h = absurd (miss (0 ∷ (2 ∷ [])) 3 tt h)
 
 -- all but the elements'
 pub outside : (P : Stage → Type 0) (k : Stage) → (k ≡ S.Elements → ⊥) → P S.OpeningHeaders → P S.ClosingHeaders → P S.Done → P k

@@ -1,11 +1,11 @@
 -- 01, "A recording session": accepting blocks and filemarks, and close.
-use Rattle.std.specs.Prelude.{ℕ, ◌%◌, Bool, true, false, ◌&&◌, ◌||◌, List, eqb, ltb, length}
+use Rattle.std.specs.Prelude.{ℕ, ◌%◌, Bool, true, false, ◌&&◌, ◌||◌, List, eqb, ltb, length, Result}
 use Rattle.geometry.specs.Pick.{pick}
 use Rattle.frame.specs.Lengths.{data_length}
 use Rattle.elements.specs.Elements as elements
 use Rattle.elements.specs.Queue as queue
 use Rattle.recording_state.specs.declared.state.State.{State}
-use Rattle.recording_state.specs.declared.state.Outcome.{Outcome}
+use Rattle.geometry.specs.declared.refusal.Refusal.{Refusal}
 use Rattle.recording_state.specs.State.{blocks_of, window_length, OutcomeSaid, outcome_said, accepting, refusing}
 use Rattle.recording_state.specs.State.{with_elements, closed_of, given_up_of, settled_of}
 use Rattle.recording_state.specs.Window.{put_block}
@@ -39,7 +39,7 @@ pub record StoredSaid : Type 0 where
   pub window : List ℕ
 
 -- what the code returns and leaves, in these terms
-abbrev pub stored_said : Outcome → List ℕ → StoredSaid
+abbrev pub stored_said : State × Result Unit Refusal → List ℕ → StoredSaid
 stored_said r window = record { result = outcome_said r; window = window }
 
 -- accepting a block: 7, 1 and 6 in this order; else it is stored at its place

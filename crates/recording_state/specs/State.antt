@@ -1,7 +1,8 @@
 -- 01, "A recording session": the session's terms, and what a call's outcome is in 01's numbers.
-use Rattle.std.specs.Prelude.{ℕ, ◌+◌, ◌*◌, Bool, true, false, ◌&&◌, not, eqb, ltb}
+use Rattle.std.specs.Prelude.{ℕ, ◌+◌, ◌*◌, Bool, true, false, ◌&&◌, not, eqb, ltb, Result}
 use Rattle.geometry.specs.Pick.{pick}
 use Rattle.geometry.specs.Refusal.{verdict_number}
+use Rattle.geometry.specs.declared.refusal.Refusal.{Refusal}
 use Rattle.frame.specs.Lengths.{data_length}
 use Rattle.frame.specs.declared.header.Header.{Header}
 use Rattle.drive.specs.Exchange.{unsent}
@@ -12,7 +13,6 @@ use Rattle.copies.specs.declared.copies.Copies.{Copies}
 use Rattle.elements.specs.Elements as elements
 use Rattle.elements.specs.declared.elements.Elements.{Elements}
 use Rattle.recording_state.specs.declared.state.State.{State}
-use Rattle.recording_state.specs.declared.state.Outcome.{Outcome}
 use Rattle.recording_state.specs.declared.state.Stage.{Stage}
 use Rattle.recording_state.specs.declared.state.Stage.TheVariants as S
 
@@ -30,8 +30,8 @@ pub record OutcomeSaid : Type 0 where
   pub number : ℕ
 
 -- what the code returns, in these terms
-abbrev pub outcome_said : Outcome → OutcomeSaid
-outcome_said r = record { session = r.session; number = verdict_number r.verdict }
+abbrev pub outcome_said : State × Result Unit Refusal → OutcomeSaid
+outcome_said r = record { session = r.0; number = verdict_number r.1 }
 
 -- not refused
 abbrev pub accepting : State → OutcomeSaid
@@ -48,51 +48,25 @@ following_of S.Elements = S.ClosingHeaders
 following_of S.ClosingHeaders = S.Done
 following_of S.Done = S.Done
 
--- the session with all that changes in its course given
-abbrev with_parts : State → Stage → Exchange → Copies → Elements → State
-with_parts s stage x c e = record {
-  setup = s.setup;
-  stage = stage;
-  exchange = x;
-  closed = s.closed;
-  ended = s.ended;
-  spent = s.spent;
-  copies = c;
-  elements = e;
-}
-
--- and with what says which calls it takes: whether close was called, whether it has ended, and whether it is spent
-abbrev with_phase : State → Bool → Bool → Bool → State
-with_phase s closed ended spent = record {
-  setup = s.setup;
-  stage = s.stage;
-  exchange = s.exchange;
-  closed = closed;
-  ended = ended;
-  spent = spent;
-  copies = s.copies;
-  elements = s.elements;
-}
-
 -- the session in another stage
 abbrev pub with_stage : State → Stage → State
-with_stage s stage = with_parts s stage s.exchange s.copies s.elements
+with_stage s stage = record s { stage = stage }
 
 -- with another exchange
 abbrev pub with_exchange : State → Exchange → State
-with_exchange s x = with_parts s s.stage x s.copies s.elements
+with_exchange s x = record s { exchange = x }
 
 -- with other header copies
 abbrev pub with_copies : State → Copies → State
-with_copies s c = with_parts s s.stage s.exchange c s.elements
+with_copies s c = record s { copies = c }
 
 -- with other elements
 abbrev pub with_elements : State → Elements → State
-with_elements s e = with_parts s s.stage s.exchange s.copies e
+with_elements s e = record s { elements = e }
 
 -- close was called
 abbrev pub closed_of : State → State
-closed_of s = with_phase s true s.ended s.spent
+closed_of s = record s { closed = true }
 
 -- 02, Card 6: the session is spent by a 9 for an element, if T is above 0. It has no room for elements, and close can be called once more
 abbrev pub is_spending : State → ℕ → Bool
@@ -100,7 +74,7 @@ is_spending s n = eqb n 9 && (ltb 0 s.setup.tail && not s.elements.eod)
 
 -- refusals from 8 on: session ended, for good unless it is spent
 abbrev pub ended_of : State → ℕ → State
-ended_of s n = with_phase s s.closed true (is_spending s n)
+ended_of s n = record s { ended = true; spent = is_spending s n }
 
 -- refused, and the session ended: from 8 on
 abbrev pub ending : State → ℕ → OutcomeSaid
@@ -108,7 +82,13 @@ ending s n = record { session = ended_of s n; number = n }
 
 -- its close: what is not on tape is dropped, EOD becomes due, and the exchange with the drive starts anew
 abbrev pub given_up_of : State → State
-given_up_of s = with_phase (with_parts s s.stage unsent s.copies (elements.given_up_of s.elements)) true false false
+given_up_of s = record s {
+  exchange = unsent;
+  closed = true;
+  ended = false;
+  spent = false;
+  elements = elements.given_up_of s.elements;
+}
 
 -- EOD becomes due
 abbrev pub eod_due : State → State

@@ -6,4 +6,4 @@ mod report;
 mod state;
 
 pub use report::Report;
-pub use state::{Answer, Fetched, Outcome, Setup, Stage, State};
+pub use state::{Answer, Setup, Sizes, Stage, State};

@@ -1,10 +1,8 @@
 -- A recording session as numbers and back. Assumes nothing.
-use Prim.Native.Nat.{ℕ, ◌≤◌}
-use mathlib.Core.Path.{◌≡◌, refl, sym}
-use mathlib.Core.Bool.{Bool, true, false}
-use native.Mathlib.Omega.{arith}
-use borrow.Author.Tests.{leb-true, eqb-true, eqb-false}
-use lib.Dec.{eqb}
+use Prim.Native.Nat.{ℕ}
+use mathlib.Core.Path.{◌≡◌, refl}
+use mathlib.Core.Bool.{true}
+use Rattle.std.proofs.Common.{rules}
 use Rattle.geometry.proofs.TestLaws.{and_true}
 use Rattle.copies.specs.declared.copies.Copies.{Copies}
 use Rattle.elements.specs.declared.elements.Elements.{Elements}
@@ -36,24 +34,7 @@ stage_known S.ClosingHeaders = refl
 stage_known S.Done = refl
 
 stage_number_lem : (n : ℕ) → is_stage n ≡ true → stage_number (stage_of n) ≡ n
-stage_number_lem n h = zero? (eqb n 0) refl
-  where
-    two? : (eqb n 0 ≡ false) → (eqb n 1 ≡ false) → (b : Bool) → eqb n 2 ≡ b → stage_number (stage_of n) ≡ n
-    two? p q true e = rw (p, q, e) (sym (eqb-true n 2 e))
-    two? p q false e =
-        let l : n ≤ 3 = leb-true n 3 h in
-        let p' : n ≡ 0 → ⊥ = eqb-false n 0 p in
-        let q' : n ≡ 1 → ⊥ = eqb-false n 1 q in
-        let e' : n ≡ 2 → ⊥ = eqb-false n 2 e in
-        rw (p, q, e) (omega arith)
-
-    one? : (eqb n 0 ≡ false) → (b : Bool) → eqb n 1 ≡ b → stage_number (stage_of n) ≡ n
-    one? p true e = rw (p, e) (sym (eqb-true n 1 e))
-    one? p false e = two? p e (eqb n 2) refl
-
-    zero? : (b : Bool) → eqb n 0 ≡ b → stage_number (stage_of n) ≡ n
-    zero? true e = rw e (sym (eqb-true n 0 e))
-    zero? false e = one? e (eqb n 1) refl
+stage_number_lem n h = search rules
 
 copies_back : (c : Copies) → copies_of (copies_twin c) ≡ c
 copies_back c = rw (flag_back c.locate)

@@ -1,52 +1,39 @@
 -- Marks as flags and back. Assumes nothing.
-use mathlib.Core.Path.{◌≡◌, refl, ap, ap₂, ◌∙◌}
-use mathlib.Core.Bool.{Bool, true, false, ◌&&◌}
-use mathlib.Core.List.{List, [], ◌∷◌, ◌++◌, map}
-use Prim.Native.Nat.{ℕ, zero, suc, ◌+◌, ◌-◌, ◌<◌}
-use native.Mathlib.Nat.{not-suc-le-zero, le_of_suc-le-suc}
-use native.Mathlib.Numerals.{add-one}
+use mathlib.Core.Path.{◌≡◌, refl, ap₂, ◌∙◌, sym}
+use mathlib.Core.Bool.{Bool, true, false}
+use mathlib.Core.List.{List, [], ◌∷◌, map}
+use Prim.Native.Nat.{ℕ, ◌<◌}
 use native.Mathlib.Omega.{arith}
-use lib.Dec.{leb}
-use lib.ListN.{length, take, drop, get_or, set}
+use lib.ListN.{length, get_or}
+use denote.Param.Members.{Mut}
+use Rattle.std.specs.Fn.{Called}
+use Rattle.std.specs.Array.{IsMapOf}
+use Rattle.std.proofs.lemmas.List.{ext_get_or, get_or-map, length-map}
 use Rattle.geometry.proofs.TestLaws.{and_true}
 use Rattle.exchange_twins.specs.Numbers.{is_flag, flag_of, flag_number}
 use Rattle.exchange_twins.proofs.FlagLaws.{flag_back, flag_number_lem}
 use Rattle.recording_twins.specs.Marks.{all_flags}
 
-map_suc : {A B : Type 0} (f : A → B) (n : ℕ) (s : List A) (d : List B) (x : A) → n < length s → n < length d → set (take n (map f s) ++ drop n d) n (f (get_or s n x)) ≡ take (suc n) (map f s) ++ drop (suc n) d
-map_suc f n [] d x h k = absurd (not-suc-le-zero h)
-map_suc f n (a ∷ s) [] x h k = absurd (not-suc-le-zero k)
-map_suc f zero (a ∷ s) (b ∷ d) x h k = refl
-map_suc {A} {B} f (suc n) (a ∷ s) (b ∷ d) x h k = ap (λ (l : List B). f a ∷ l) (map_suc f n s d x (le_of_suc-le-suc h) (le_of_suc-le-suc k))
-
-pub map_more : {A B : Type 0} (f : A → B) (n : ℕ) (s : List A) (d : List B) (x : A) → n < length s → n < length d → set (take n (map f s) ++ drop n d) n (f (get_or s n x)) ≡ take (n + 1) (map f s) ++ drop (n + 1) d
-map_more f n s d x h k = rw add-one (map_suc f n s d x h k)
-
-all_suc : (i : ℕ) (ns : List ℕ) → all_flags (drop i ns) ≡ leb (get_or ns i 0) 1 && all_flags (drop (suc i) ns)
-unfolding all_flags
-all_suc zero [] = refl
-all_suc (suc i) [] = refl
-all_suc zero (n ∷ ns) = refl
-all_suc (suc i) (n ∷ ns) = all_suc i ns
-
-pub all_more : (i : ℕ) (ns : List ℕ) → 0 < i → all_flags (drop (i - 1) ns) ≡ leb (get_or ns (i - 1) 0) 1 && all_flags (drop i ns)
-all_more i ns h = let e : suc (i - 1) ≡ i = omega arith in all_suc (i - 1) ns ∙ ap (λ k. leb (get_or ns (i - 1) 0) 1 && all_flags (drop k ns)) e
+-- what the `map` of an array gives, where each call gives f of its element
+pub mapped : {F A B : Type 0} {g : Mut F (A × Unit {0}) B} {called : F} {n : ℕ} {xs : List A} {ys : List B} → IsMapOf g called xs ys n → (f : A → B) (d : A) → length xs ≡ n → ((p q : F) (x : A) (y : B) → Called g p (x, tt) y q → y ≡ f x) → ys ≡ map f xs
+mapped {F} {A} {B} {g} {called} {n} {xs} {ys} m f d l each =
+    let long : length ys ≡ n = m.long in
+    let kept : length (map f xs) ≡ length xs = length-map xs f in
+    ext_get_or (f d) ys (map f xs) (omega arith) (λ i h.
+    let below : i < n = omega arith in
+    let within : i < length xs = omega arith in
+    let call = m.at i d (f d) below in
+    each call.0 call.1 (get_or xs i d) (get_or ys i (f d)) call.2 ∙ sym (get_or-map f xs i d (f d) within))
 
 pub flags_back : (bs : List Bool) → map flag_of (map flag_number bs) ≡ bs
 flags_back [] = refl
 flags_back (b ∷ bs) = ap₂ (λ (x : Bool) (xs : List Bool). x ∷ xs) (flag_back b) (flags_back bs)
 
 pub flags_known : (bs : List Bool) → all_flags (map flag_number bs) ≡ true
-unfolding all_flags
 flags_known [] = refl
 flags_known (true ∷ bs) = flags_known bs
 flags_known (false ∷ bs) = flags_known bs
 
-pub length_of_map : {A B : Type 0} (f : A → B) (s : List A) → length (map f s) ≡ length s
-length_of_map f [] = refl
-length_of_map f (a ∷ s) = ap suc (length_of_map f s)
-
 pub flag_numbers : (ns : List ℕ) → all_flags ns ≡ true → map flag_number (map flag_of ns) ≡ ns
-unfolding all_flags
 flag_numbers [] h = refl
 flag_numbers (n ∷ ns) h = let both = and_true (is_flag n) (all_flags ns) h in ap₂ (λ (x : ℕ) (xs : List ℕ). x ∷ xs) (flag_number_lem n both.0) (flag_numbers ns both.1)

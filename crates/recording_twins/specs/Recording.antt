@@ -1,6 +1,10 @@
 -- A recording session as numbers.
-use Rattle.std.specs.Prelude.{Bool, ◌&&◌, map}
+use Rattle.std.specs.Prelude.{Bool, ◌&&◌, map, Result, Ok, Err}
+use Rattle.geometry.specs.Pick.{pick}
 use Rattle.geometry.specs.Place.{as_address, as_seq}
+use Rattle.geometry.specs.declared.refusal.Refusal.{Refusal}
+use Rattle.geometry.specs.declared.refusal.Refusal.TheVariants.{Phase}
+use Rattle.frame.specs.declared.header.Header.{Header}
 use Rattle.copies.specs.declared.copies.Copies.{Copies}
 use Rattle.elements.specs.declared.elements.Elements.{Elements}
 use Rattle.recording_state.specs.declared.state.Setup.{Setup}
@@ -8,28 +12,31 @@ use Rattle.recording_state.specs.declared.state.State.{State}
 use Rattle.exchange_twins.specs.Numbers.{is_flag, flag_of, flag_number, is_exchange, exchange_of, exchange_twin}
 use Rattle.exchange_twins.specs.Trails.{trail_of, trail_twin}
 use Rattle.recording_twins.specs.declared.recording_numbers.AdrSetup.{AdrSetup}
+use Rattle.recording_twins.specs.declared.recording_numbers.AdrHeader.{AdrHeader}
 use Rattle.recording_twins.specs.declared.recording_numbers.AdrCopies.{AdrCopies}
 use Rattle.recording_twins.specs.declared.recording_numbers.AdrElements.{AdrElements}
 use Rattle.recording_twins.specs.declared.recording_numbers.AdrRecording.{AdrRecording}
 use Rattle.recording_twins.specs.Stages.{is_stage, stage_of, stage_number}
 use Rattle.recording_twins.specs.Marks.{all_flags}
 
-abbrev setup_of : AdrSetup → Setup
+abbrev pub setup_of : AdrSetup → Setup
 setup_of n = record { depth = n.depth; highest = n.highest; tail = n.tail }
 
-abbrev setup_twin : Setup → AdrSetup
+abbrev pub setup_twin : Setup → AdrSetup
 setup_twin s = record { depth = s.depth; highest = s.highest; tail = s.tail }
+
+-- the fields of a header that have these numbers
+abbrev pub header_of : AdrHeader → Header
+header_of h = record { last = as_address h.last; pass = h.pass; eod = as_address h.eod; old = as_address h.old; update = h.update }
+
+-- their numbers
+abbrev pub header_twin : Header → AdrHeader
+header_twin h = record { last = h.last.0; eod = h.eod.0; old = h.old.0; update = h.update; pass = h.pass }
 
 -- the header copies that have these numbers
 abbrev pub copies_of : AdrCopies → Copies
 copies_of c = record {
-  header = record {
-    last = as_address c.header.last;
-    pass = c.header.pass;
-    eod = as_address c.header.eod;
-    old = as_address c.header.old;
-    update = c.header.update;
-  };
+  header = header_of c.header;
   group = c.group;
   copy = c.copy;
   outstanding = c.outstanding;
@@ -40,7 +47,7 @@ copies_of c = record {
 -- their numbers
 abbrev pub copies_twin : Copies → AdrCopies
 copies_twin c = record {
-  header = record { last = c.header.last.0; eod = c.header.eod.0; old = c.header.old.0; update = c.header.update; pass = c.header.pass };
+  header = header_twin c.header;
   group = c.group;
   copy = c.copy;
   outstanding = c.outstanding;
@@ -105,3 +112,7 @@ recording_state_twin s = record {
   copies = copies_twin s.copies;
   elements = elements_twin s.elements;
 }
+
+-- numbers that are no session's are refused with 7
+abbrev pub checked_recording : AdrRecording → Result State Refusal
+checked_recording s = pick (is_recording s) (Ok (recording_state_of s)) (Err Phase)

@@ -1,10 +1,10 @@
 // Stages as numbers.
 ghost use Rattle.std.specs.Prelude.{◌≡◌};
-ghost use Rattle.recording_twins.specs.Stages.{stage_of, stage_number};
+ghost use Rattle.recording_twins.specs.Stages.{stage_of};
 
 use recording_state::Stage;
 
-// The stage that has this number.
+// The stage that has this number, the last one for any other. No `From`, since neither type is of this crate.
 pub(crate) fn stage_of(n: u8) -> Stage
     ensures { result ≡ stage_of n }
 {
@@ -13,17 +13,5 @@ pub(crate) fn stage_of(n: u8) -> Stage
         1 => Stage::Elements,
         2 => Stage::ClosingHeaders,
         _ => Stage::Done,
-    }
-}
-
-// The number of a stage.
-pub(crate) fn stage_number(s: Stage) -> u8
-    ensures { result ≡ stage_number s }
-{
-    match s {
-        Stage::OpeningHeaders => 0,
-        Stage::Elements => 1,
-        Stage::ClosingHeaders => 2,
-        Stage::Done => 3,
     }
 }

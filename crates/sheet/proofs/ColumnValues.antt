@@ -1,5 +1,5 @@
 -- A column tells its number. Assumes nothing.
-use Rattle.std.proofs.Common.{◌≡◌, ℕ, zero, suc, ◌+◌, ◌-◌, ◌*◌, ◌/◌, ◌%◌, ◌^◌, ◌<◌, Bool, true, false, eqb, List, [], ◌∷◌, ◌++◌, length, sym, refl, ap, ◌∙◌, pow-suc, arith, eqb-true}
+use Rattle.std.proofs.Common.{◌≡◌, ℕ, zero, suc, ◌+◌, ◌-◌, ◌*◌, ◌/◌, ◌%◌, ◌^◌, ◌<◌, Bool, true, false, eqb, List, [], ◌∷◌, ◌++◌, sym, refl, ap, ◌∙◌, pow-suc, arith, eqb-true}
 use native.Mathlib.Nat.{pow-zero}
 use Rattle.sheet.specs.Line.{decimal, number_column}
 use Rattle.sheet.specs.Columns.{value_of, ColumnsTell}
@@ -24,11 +24,6 @@ lead_value (suc w) n h =
     let low : n < 10 ^ w * 10 = rw pow-suc at h in
     value_behind 0 (lead w (n / 10)) (leading n) ∙ rw (lead_value w (n / 10) (omega arith), leading_value n) (omega arith)
 
-wide : (w n : ℕ) → length (number_column w n) ≡ w
-unfolding number_column decimal
-wide zero n = refl
-wide (suc w) n = length_number w n
-
 tells : (w n : ℕ) → n < 10 ^ w → value_of 0 (number_column w n) ≡ n
 unfolding value_of number_column decimal
 tells zero n h = omega (arith, simp pow-zero at h)
@@ -38,4 +33,4 @@ tells (suc w) n h =
     rw (last_digit w n, value_behind 0 (lead w (n / 10)) (0x30 + n % 10), lead_value w (n / 10) (omega arith), digit) (omega arith)
 
 pub columns_tell : ColumnsTell
-columns_tell = record { wide = wide; tell = tells }
+columns_tell = record { wide = length_number; tell = tells }

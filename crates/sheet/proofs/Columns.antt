@@ -1,5 +1,6 @@
 -- A column's characters one by one, from the right. Assumes nothing.
-use Rattle.std.proofs.Common.{◌≡◌, ℕ, zero, suc, ◌+◌, ◌-◌, ◌/◌, ◌%◌, ◌<◌, ◌≤◌, Bool, true, false, eqb, ltb, List, [], ◌∷◌, ◌++◌, length, drop, set, replicate, sym, refl, ap, ◌∙◌, append_assoc, not-suc-le-zero, add-one, arith, length-append, length-set, drop_of_length-le, drop-cons, get_or-set_same, drop-set-lt, ltb-false, ltb-true, ne_eqb}
+use Rattle.std.proofs.Common.{◌≡◌, ℕ, zero, suc, ◌+◌, ◌-◌, ◌/◌, ◌%◌, ◌<◌, ◌≤◌, Bool, true, false, eqb, ltb, List, [], ◌∷◌, ◌++◌, length, drop, set, replicate, sym, refl, ap, ◌∙◌, append_assoc, not-suc-le-zero, add-one, arith, length-append, drop_of_length-le, ltb-false, ltb-true, ne_eqb}
+use Rattle.std.proofs.lemmas.List.{drop-set, replicate_more}
 use Rattle.geometry.specs.Pick.{pick}
 use Rattle.sheet.specs.Line.{blank, digit, decimal, right_aligned, number_column}
 
@@ -12,14 +13,10 @@ unfoldable pub lead : ℕ → ℕ → List ℕ
 lead zero n = []
 lead (suc w) n = lead w (n / 10) ++ (leading n ∷ [])
 
-blank_behind : (w : ℕ) → replicate w blank ++ (blank ∷ []) ≡ replicate (suc w) blank
-blank_behind zero = refl
-blank_behind (suc w) = ap (λ (l : List ℕ). blank ∷ l) (blank_behind w)
-
 lead_zero : (w : ℕ) → lead w 0 ≡ replicate w blank
 unfolding lead
 lead_zero zero = refl
-lead_zero (suc w) = rw (lead_zero w) (blank_behind w)
+lead_zero (suc w) = rw (lead_zero w) (replicate_more w blank ∙ ap (λ (k : ℕ). replicate k blank) (add-one w))
 
 -- a number with a digit in front of its last
 longer : (w : ℕ) (front : List ℕ) (d : ℕ) → right_aligned (suc w) (front ++ (d ∷ [])) ≡ right_aligned w front ++ (d ∷ [])
@@ -57,15 +54,10 @@ unfolding lead
 length_lead zero n = refl
 length_lead (suc w) n = rw (length-append, length_lead w (n / 10)) (add-one w)
 
-pub length_number : (w n : ℕ) → length (number_column (suc w) n) ≡ suc w
-length_number w n = rw (last_digit w n, length-append, length_lead w (n / 10)) (add-one w)
-
--- a list from the place of a store on
-stored_here : (l : List ℕ) (i v : ℕ) → i < length l → drop i (set l i v) ≡ v ∷ drop (i + 1) l
-stored_here l i v h =
-    drop-cons (set l i v) i 0 (rw length-set h)
-    ∙ ap (λ (x : ℕ). x ∷ drop (suc i) (set l i v)) (get_or-set_same l i v 0 h)
-    ∙ ap (λ (x : List ℕ). v ∷ x) (drop-set-lt (suc i) l i v (omega arith) ∙ ap (λ (k : ℕ). drop k l) (sym (add-one i)))
+pub length_number : (w n : ℕ) → length (number_column w n) ≡ w
+unfolding number_column decimal
+length_number zero n = refl
+length_number (suc w) n = rw (last_digit w n, length-append, length_lead w (n / 10)) (add-one w)
 
 -- a column is filled from the right: the last digit, a turn, and the end
 pub fill_last : (l : List ℕ) (n : ℕ) → 0 < length l → number_column (length l) n ≡ lead (length l - 1) (n / 10) ++ drop (length l - 1) (set l (length l - 1) (0x30 + n % 10))
@@ -73,14 +65,14 @@ fill_last [] n h = absurd (not-suc-le-zero h)
 fill_last (x ∷ xs) n h =
     let w : length (x ∷ xs) - 1 ≡ length xs = omega arith in
     let rest : drop (length xs + 1) (x ∷ xs) ≡ [] = drop_of_length-le (x ∷ xs) {i = length xs + 1} (omega arith) in
-    rw w (last_digit (length xs) n ∙ ap (λ (t : List ℕ). lead (length xs) (n / 10) ++ t) (sym (stored_here (x ∷ xs) (length xs) (0x30 + n % 10) (omega arith) ∙ ap (λ (t : List ℕ). (0x30 + n % 10) ∷ t) rest)))
+    rw w (last_digit (length xs) n ∙ ap (λ (t : List ℕ). lead (length xs) (n / 10) ++ t) (sym (drop-set (x ∷ xs) (length xs) (0x30 + n % 10) (omega arith) ∙ ap (λ (t : List ℕ). (0x30 + n % 10) ∷ t) rest)))
 
 pub fill_more : (l all : List ℕ) (i left : ℕ) → 0 < i → i < length l → all ≡ lead i left ++ drop i l → all ≡ lead (i - 1) (left / 10) ++ drop (i - 1) (set l (i - 1) (leading left))
 unfolding lead
 fill_more l all zero left p h e = absurd (not-suc-le-zero p)
 fill_more l all (suc i) left p h e =
     let w : suc i - 1 ≡ i = omega arith in
-    let f : drop i (set l i (leading left)) ≡ leading left ∷ drop (suc i) l = stored_here l i (leading left) (omega arith) ∙ ap (λ (k : ℕ). leading left ∷ drop k l) (add-one i) in
+    let f : drop i (set l i (leading left)) ≡ leading left ∷ drop (suc i) l = drop-set l i (leading left) (omega arith) ∙ ap (λ (k : ℕ). leading left ∷ drop k l) (add-one i) in
     rw (w, f) (e ∙ append_assoc (lead i (left / 10)) (leading left ∷ []) (drop (suc i) l))
 
 pub fill_end : (l all : List ℕ) (i left : ℕ) → i ≤ 0 → all ≡ lead i left ++ drop i l → l ≡ all

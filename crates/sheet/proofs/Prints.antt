@@ -1,12 +1,13 @@
 -- The calls on a dump print its sheet. Assumes nothing.
-use Rattle.std.proofs.Common.{◌≡◌, ℕ, zero, suc, ◌+◌, ◌-◌, ◌*◌, ◌/◌, ◌≤◌, Bool, true, false, ◌&&◌, eqb, ltb, leb, List, [], ◌∷◌, ◌++◌, length, take, drop, sym, refl, ap, ◌∙◌, subst, append_assoc, append-nil, arith, length-drop, length-take-le, ltb-false, ltb-true, le-ltb, lt-ltb, eq-eqb, le-leb, leb-false, leb-true}
+use Rattle.std.proofs.Common.{◌≡◌, ℕ, zero, suc, ◌+◌, ◌-◌, ◌*◌, ◌/◌, ◌≤◌, Bool, true, false, ◌&&◌, eqb, ltb, leb, List, [], ◌∷◌, ◌++◌, length, take, drop, sym, refl, ap, ◌∙◌, subst, append_assoc, append-nil, arith, length-drop, length-take-le, ltb-false, ltb-true, le-ltb, lt-ltb, eq-eqb, le-leb, Option, Some, None}
+use Rattle.std.proofs.Math.Dec.{leb-suc-suc}
 use borrow.Author.Tests.{lt-leb}
 use lib.Seq.{take-nil}
 use Rattle.geometry.specs.Pick.{pick}
 use Rattle.geometry.proofs.PickLaws.{pick_by}
 use Rattle.sheet.specs.declared.sheet.Sheet.{Sheet}
-use Rattle.sheet.specs.declared.sheet.Entry.{Entry}
-use Rattle.sheet.specs.declared.sheet.Entry.TheVariants.{Block, Filemark, End, Wrong}
+use Rattle.frame.specs.declared.element.Kind.{Kind}
+use Rattle.frame.specs.declared.element.Kind.TheVariants.{Data, Marker, Eod}
 use Rattle.sheet.specs.Line.{line_of, heading, asterisks}
 use Rattle.sheet.specs.Answer.{EnteredSaid, printing}
 use Rattle.sheet.specs.Step.{field_entry, step_of}
@@ -29,13 +30,6 @@ all_jobs : (job most : ℕ) → body job most true [] ≡ []
 unfolding lines_from
 all_jobs job most = rw (take-nil most, le-leb 0 most (omega arith))
 
-leb_suc : (m n : ℕ) → leb (suc m) (suc n) ≡ leb m n
-leb_suc m n = go (leb m n) refl
-  where
-    go : (b : Bool) → leb m n ≡ b → leb (suc m) (suc n) ≡ b
-    go true e = let h = leb-true m n e in le-leb (suc m) (suc n) (omega arith)
-    go false e = let h = leb-false m n e in lt-leb (suc m) (suc n) (omega arith)
-
 -- no job more has a line
 full : (job : ℕ) (whole : Bool) (j : Job) (js : List Job) → body job 0 whole (j ∷ js) ≡ asterisks
 unfolding lines_from
@@ -45,7 +39,7 @@ full job false j js = refl
 -- a job's line, and the rest
 one_line : (job most : ℕ) (whole : Bool) (j : Job) (js : List Job) → body job (suc most) whole (j ∷ js) ≡ line_of job j.first j.blocks ++ body (job + 1) most whole js
 unfolding lines_from
-one_line job most whole j js = rw (leb_suc (length js) most) (append_assoc (line_of job j.first j.blocks) (lines_from (job + 1) (take most js)) _)
+one_line job most whole j js = rw (leb-suc-suc (length js) most) (append_assoc (line_of job j.first j.blocks) (lines_from (job + 1) (take most js)) _)
 
 module _ (lines : ℕ → List ℕ) where
   -- what a call has printed, and the calls behind it
@@ -86,10 +80,10 @@ module _ (lines : ℕ → List ℕ) where
         → enter_all lines k (sheet_at job first next false) fs ≡ body job most (is_whole (entries_from next fs)) (jobs_from first (next - first) (entries_from next fs))
 
     module _ (fs : List (List ℕ)) (rest : Prints fs) (k job first next : ℕ) (low : first ≤ next) where
-      abbrev entries : List Entry
+      abbrev entries : List (Option Kind)
       entries = entries_from (next + 1) fs
 
-      abbrev At : ℕ → Entry → Type 0
+      abbrev At : ℕ → Option Kind → Type 0
       At most e =
           go_on k (step_of (sheet_at job first next false) e (lines k)) fs ≡ body job most (is_whole (e ∷ entries)) (jobs_from first (next - first) (e ∷ entries))
 
@@ -99,7 +93,7 @@ module _ (lines : ℕ → List ℕ) where
       broken : enter_all lines (k + 1) (sheet_at job first next true) fs ≡ []
       broken = all_ended job first next (k + 1) fs
 
-      at_end : (most : ℕ) → job + most ≡ 100000 → (b : Bool) → ltb first next ≡ b → At most End
+      at_end : (most : ℕ) → job + most ≡ 100000 → (b : Bool) → ltb first next ≡ b → At most (Some Eod)
       unfolding step_of is_whole jobs_from
       at_end zero room true e =
           let h = ltb-true first next e in
@@ -116,15 +110,15 @@ module _ (lines : ℕ → List ℕ) where
           let no_blocks : ltb 0 (next - first) ≡ false = le-ltb 0 (next - first) (omega arith) in
           rw (e, no_blocks, broken) (sym (all_jobs job most))
 
-      turn : (most : ℕ) (e : Entry) → job + most ≡ 100000 → At most e
+      turn : (most : ℕ) (e : Option Kind) → job + most ≡ 100000 → At most e
       unfolding step_of is_whole jobs_from
-      turn most Block room =
+      turn most (Some Data) room =
           let more : next + 1 - first ≡ next - first + 1 = omega arith in
           rest (k + 1) job most first (next + 1) room (omega arith) ∙ rw more
-      turn zero Filemark room =
+      turn zero (Some Marker) room =
           let above : leb job 99999 ≡ false = lt-leb job 99999 (omega arith) in
           rw (above, broken) (append-nil asterisks ∙ sym (full job (is_whole entries) this (jobs_from (first + (next - first) + 1) 0 entries)))
-      turn (suc most) Filemark room =
+      turn (suc most) (Some Marker) room =
           let within : leb job 99999 ≡ true = le-leb job 99999 (omega arith) in
           let begin : first + (next - first) + 1 ≡ next + 1 = omega arith in
           let none : next + 1 - (next + 1) ≡ 0 = omega arith in
@@ -134,8 +128,8 @@ module _ (lines : ℕ → List ℕ) where
           rw within
           (ap (λ (t : List ℕ). line_of job first (next - first) ++ t) others
           ∙ sym (one_line job most (is_whole entries) this (jobs_from (first + (next - first) + 1) 0 entries)))
-      turn most End room = at_end most room (ltb first next) refl
-      turn most Wrong room = rw broken (append-nil asterisks ∙ sym (no_jobs job most))
+      turn most (Some Eod) room = at_end most room (ltb first next) refl
+      turn most None room = rw broken (append-nil asterisks ∙ sym (no_jobs job most))
 
     prints : (n : ℕ) (bytes : List ℕ) → n * 512 ≤ length bytes → Prints (pieces n bytes)
     unfolding enter_all entries_from is_whole jobs_from

@@ -1,11 +1,11 @@
 -- 02, Card 9: what one field does to the sheet.
-use Rattle.std.specs.Prelude.{ℕ, ◌+◌, ◌-◌, true, ◌&&◌, ◌||◌, List, ◌==◌, nat_le, nat_lt}
+use Rattle.std.specs.Prelude.{ℕ, ◌+◌, ◌-◌, true, ◌&&◌, ◌||◌, List, ◌==◌, nat_le, nat_lt, Option, Some, None}
 use Rattle.geometry.specs.Pick.{pick}
 use Rattle.buffer.specs.Bytes.{get16, get32}
 use Rattle.frame.specs.Aux.{data_type, marker_type, eod_type}
 use Rattle.sheet.specs.declared.sheet.Sheet.{Sheet}
-use Rattle.sheet.specs.declared.sheet.Entry.{Entry}
-use Rattle.sheet.specs.declared.sheet.Entry.TheVariants.{Block, Filemark, End, Wrong}
+use Rattle.frame.specs.declared.element.Kind.{Kind}
+use Rattle.frame.specs.declared.element.Kind.TheVariants.{Data, Marker, Eod}
 use Rattle.sheet.specs.Line.{line_of, asterisks}
 use Rattle.sheet.specs.Answer.{EnteredSaid, silent, printing}
 
@@ -17,15 +17,15 @@ last_job = 99999
 abbrev pub highest_number : ℕ
 highest_number = 4294967295
 
--- what a field of this type and number is: data or marker of the next number, EOD of that or of the one below it, or none of these
-abbrev pub entry_of : ℕ → ℕ → ℕ → Entry
+-- what a field of this type and number is: data or marker of the next number, EOD of that or of the one below it, or `None` where it is none of these
+abbrev pub entry_of : ℕ → ℕ → ℕ → Option Kind
 entry_of next type number =
-    pick (type == data_type && number == next) Block
-    (pick (type == marker_type && number == next) Filemark
-    (pick (type == eod_type && (number == next || number + 1 == next)) End Wrong))
+    pick (type == data_type && number == next) (Some Data)
+    (pick (type == marker_type && number == next) (Some Marker)
+    (pick (type == eod_type && (number == next || number + 1 == next)) (Some Eod) None))
 
 -- what a field of 512 bytes is: 01, "AUX bytes", has the type at 16-17 and the sequence number at 44-47; no other byte is looked at
-abbrev pub field_entry : ℕ → List ℕ → Entry
+abbrev pub field_entry : ℕ → List ℕ → Option Kind
 field_entry next aux = entry_of next (get16 aux 16) (get32 aux 44)
 
 -- the elements of an open job are its blocks
@@ -34,7 +34,7 @@ blocks_of s = s.next - s.first
 
 -- a sheet that has ended
 abbrev pub ended_of : Sheet → Sheet
-ended_of s = record { job = s.job; first = s.first; next = s.next; ended = true }
+ended_of s = record s { ended = true }
 
 -- the sheet ends with asterisks
 abbrev pub broken_off : Sheet → EnteredSaid
@@ -49,8 +49,8 @@ abbrev pub closing : Sheet → Sheet → EnteredSaid
 closing s after = pick (nat_le s.job last_job) (printing after (job_line s)) (broken_off s)
 
 -- a field, while the sheet is not ended: a block adds to the open job, a filemark closes it and opens the next, EOD closes it if it has blocks
-unfoldable pub step_of : Sheet → Entry → List ℕ → EnteredSaid
-step_of s Block l = silent (record { job = s.job; first = s.first; next = s.next + 1; ended = s.ended }) l
-step_of s Filemark l = closing s (record { job = s.job + 1; first = s.next + 1; next = s.next + 1; ended = s.ended })
-step_of s End l = pick (nat_lt s.first s.next) (closing s (ended_of s)) (silent (ended_of s) l)
-step_of s Wrong l = broken_off s
+unfoldable pub step_of : Sheet → Option Kind → List ℕ → EnteredSaid
+step_of s (Some Data) l = silent (record s { next = s.next + 1 }) l
+step_of s (Some Marker) l = closing s (record s { job = s.job + 1; first = s.next + 1; next = s.next + 1 })
+step_of s (Some Eod) l = pick (nat_lt s.first s.next) (closing s (ended_of s)) (silent (ended_of s) l)
+step_of s None l = broken_off s

@@ -5,4 +5,4 @@ mod line;
 mod sheet;
 
 pub use line::LINE_LENGTH;
-pub use sheet::{Answer, Entered, Sheet};
+pub use sheet::{Answer, Sheet};

@@ -1,18 +1,15 @@
 // The sheet while a dump is read: which job is open, and which number comes next.
-ghost use Rattle.std.specs.Prelude.{◌≡◌, ◌≤◌, length};
-ghost use Rattle.sheet.specs.Line.{line_length};
+ghost use Rattle.std.specs.Prelude.{◌≡◌, ◌≤◌, Some};
 ghost use Rattle.sheet.specs.Answer.{entered_said};
 ghost use Rattle.sheet.specs.Step.{highest_number, entry_of, blocks_of, ended_of, broken_off, closing, step_of};
 ghost use Rattle.sheet.specs.Calls.{open_of, enter_of, finish_of};
-ghost use Rattle.geometry.specs.declared.refusal.Refusal.TheVariants.{Length};
-ghost use Rattle.sheet.specs.declared.sheet.Answer.TheVariants.{Nothing, Refused};
-ghost use Rattle.sheet.specs.declared.sheet.Entry.TheVariants.{Filemark, End};
+ghost use Rattle.frame.specs.declared.element.Kind.TheVariants.{Marker, Eod};
 ghost use Rattle.sheet.specs.Promises.{Promises};
 
-use crate::line::{LINE_LENGTH, put_asterisks, put_heading, put_line};
+use crate::line::{ASTERISKS, HEADING, LINE_LENGTH, put_line};
 use buffer::{be16_at, be32_at};
-use frame::{AUX_LENGTH, DATA_TYPE, EOD_TYPE, MARKER_TYPE};
-use geometry::Refusal;
+use frame::{AUX_LENGTH, DATA_TYPE, EOD_TYPE, Kind, MARKER_TYPE};
+use geometry::{Outcome, Refusal};
 
 // The highest job that has a line.
 const LAST_JOB: u32 = 99999;
@@ -22,7 +19,7 @@ const TYPE_AT: u16 = 16;
 
 const NUMBER_AT: u16 = 44;
 
-// A sheet between two fields.
+// A sheet between two fields. C hands in an ended one with every number.
 #[derive(Clone, Copy)]
 pub struct Sheet {
     // The open job, from 1.
@@ -33,49 +30,25 @@ pub struct Sheet {
     pub ended: bool,
 }
 
-// Nothing is to be printed, or the lent line is, or the call is refused.
+// Nothing is to be printed, or the lent line is.
 #[derive(Clone, Copy)]
 pub enum Answer {
     Nothing,
     Line,
-    Refused(Refusal),
 }
 
-// The sheet after a call, and the call's answer.
-#[derive(Clone, Copy)]
-pub struct Entered {
-    pub sheet: Sheet,
-    pub answer: Answer,
-}
-
-// What a field is to the sheet.
-#[derive(Clone, Copy)]
-pub enum Entry {
-    Block,
-    Filemark,
-    End,
-    Wrong,
-}
-
-// A field of this type and number, where this number comes next.
-fn entry_at(next: u64, kind: u16, number: u32) -> Entry
+// What a field of this type and number is, where this number comes next; `None` where it is wrong. Type and number decide together, so the type
+// alone is not made a kind first.
+fn entry_at(next: u64, kind: u16, number: u32) -> Option<Kind>
     ensures { result ≡ entry_of next kind number }
 {
     let n = number as u64;
-    if n == next {
-        return match kind {
-            DATA_TYPE => Entry::Block,
-            MARKER_TYPE => Entry::Filemark,
-            EOD_TYPE => Entry::End,
-            _ => Entry::Wrong,
-        };
+    match kind {
+        DATA_TYPE if n == next => Some(Kind::Data),
+        MARKER_TYPE if n == next => Some(Kind::Marker),
+        EOD_TYPE if n == next || n + 1 == next => Some(Kind::Eod),
+        _ => None,
     }
-    if n + 1 == next {
-        if kind == EOD_TYPE {
-            return Entry::End;
-        }
-    }
-    Entry::Wrong
 }
 
 impl Sheet {
@@ -83,115 +56,89 @@ impl Sheet {
     fn blocks(self) -> u64
         ensures { result ≡ blocks_of self }
     {
-        if self.first < self.next {
-            return self.next - self.first;
-        }
-        0
+        self.next.saturating_sub(self.first)
     }
 
     // The sheet, ended.
-    fn end(mut self) -> Sheet
+    fn end(self) -> Sheet
         ensures { result ≡ ended_of self }
     {
-        self.ended = true;
-        self
-    }
-
-    // Nothing is printed.
-    fn silent(self) -> Entered
-        ensures { (result.sheet ≡ self) × (result.answer ≡ Nothing) }
-    {
-        Entered {
-            sheet: self,
-            answer: Answer::Nothing,
-        }
-    }
-
-    // A lent buffer has the wrong length.
-    fn refuse(self) -> Entered
-        ensures { (result.sheet ≡ self) × (result.answer ≡ Refused Length) }
-    {
-        Entered {
-            sheet: self,
-            answer: Answer::Refused(Refusal::Length),
+        Sheet {
+            ended: true,
+            ..self
         }
     }
 
     // The sheet ends with a line of asterisks.
-    fn break_off(self, line: &mut [u8]) -> Entered
-        requires { length line.old ≡ line_length }
+    #[tactic(auto, unfolding(crate::specs::Line::asterisks))]
+    fn break_off(self, line: &mut [u8; LINE_LENGTH]) -> Outcome<Sheet, Answer>
         ensures { entered_said result line.new ≡ broken_off self }
     {
-        put_asterisks(line);
-        Entered {
-            sheet: self.end(),
-            answer: Answer::Line,
-        }
+        *line = ASTERISKS;
+        (self.end(), Ok(Answer::Line))
     }
 
     // The open job is closed: its line, and the sheet as it then is.
-    fn close(self, after: Sheet, line: &mut [u8]) -> Entered
-        requires { length line.old ≡ line_length }
+    fn close(self, after: Sheet, line: &mut [u8; LINE_LENGTH]) -> Outcome<Sheet, Answer>
         ensures { entered_said result line.new ≡ closing self after }
     {
-        if LAST_JOB < self.job {
+        if self.job > LAST_JOB {
             return self.break_off(line);
         }
         put_line(line, self.job as u64, self.first, self.blocks());
-        Entered {
-            sheet: after,
-            answer: Answer::Line,
-        }
+        (after, Ok(Answer::Line))
     }
 
     // A filemark closes the open job. Behind a job above the last no other is opened, so its number may wrap.
-    fn enter_filemark(self, line: &mut [u8]) -> Entered
-        requires line_len { length line.old ≡ line_length }
-        requires next_le_highest_number { self.next ≤ highest_number }
-        ensures { entered_said result line.new ≡ step_of self Filemark line.old }
+    #[tactic(auto, unfolding(crate::specs::Step::step_of))]
+    fn enter_filemark(self, line: &mut [u8; LINE_LENGTH]) -> Outcome<Sheet, Answer>
+        requires { self.next ≤ highest_number }
+        ensures { entered_said result line.new ≡ step_of self (Some Marker) line.old }
     {
         let next = self.next + 1;
         let after = Sheet {
-            job: std::num::wrapping_add_u32(self.job, 1),
+            job: self.job.wrapping_add(1),
             first: next,
-            next: next,
-            ended: self.ended,
+            next,
+            ..self
         };
         self.close(after, line)
     }
 
     // EOD ends the sheet, and closes the open job if it has blocks.
-    fn enter_end(self, line: &mut [u8]) -> Entered
-        requires { length line.old ≡ line_length }
-        ensures { entered_said result line.new ≡ step_of self End line.old }
+    #[tactic(auto, unfolding(crate::specs::Step::step_of))]
+    fn enter_end(self, line: &mut [u8; LINE_LENGTH]) -> Outcome<Sheet, Answer>
+        ensures { entered_said result line.new ≡ step_of self (Some Eod) line.old }
     {
-        let mut after = self;
-        after.ended = true;
+        let after = self.end();
         if self.next <= self.first {
-            return after.silent();
+            return (after, Ok(Answer::Nothing));
         }
         self.close(after, line)
     }
 
     // A field of this type and number, while the sheet is not ended.
-    fn step(mut self, kind: u16, number: u32, line: &mut [u8]) -> Entered
-        requires { length line.old ≡ line_length }
+    #[tactic(auto, unfolding(crate::specs::Step::step_of))]
+    fn step(self, kind: u16, number: u32, line: &mut [u8; LINE_LENGTH]) -> Outcome<Sheet, Answer>
         ensures { entered_said result line.new ≡ step_of self (entry_of self.next kind number) line.old }
     {
-        let e = entry_at(self.next, kind, number);
-        match e {
-            Entry::Block => {
-                self.next += 1;
-                self.silent()
+        match entry_at(self.next, kind, number) {
+            Some(Kind::Data) => {
+                let after = Sheet {
+                    next: self.next + 1,
+                    ..self
+                };
+                (after, Ok(Answer::Nothing))
             }
-            Entry::Filemark => self.enter_filemark(line),
-            Entry::End => self.enter_end(line),
-            Entry::Wrong => self.break_off(line),
+            Some(Kind::Marker) => self.enter_filemark(line),
+            Some(Kind::Eod) => self.enter_end(line),
+            None => self.break_off(line),
         }
     }
 
     // A new sheet, and its heading. What the calls print of every dump stands in its contract, so that no change of the code can lose it unnoticed.
-    pub fn open(line: &mut [u8]) -> Entered
+    #[tactic(auto, using(crate::proofs::Promises::promises), unfolding(crate::specs::Calls::open_of, crate::specs::Line::heading))]
+    pub fn open(line: &mut [u8]) -> Outcome<Sheet, Answer>
         ensures { (entered_said result line.new ≡ open_of line.old) × Promises }
     {
         let s = Sheet {
@@ -200,41 +147,40 @@ impl Sheet {
             next: 0,
             ended: false,
         };
-        if line.len() != LINE_LENGTH {
-            return s.end().refuse();
-        }
-        put_heading(line);
-        Entered {
-            sheet: s,
-            answer: Answer::Line,
-        }
+        let Some(line) = line.as_mut_array() else {
+            return (s.end(), Err(Refusal::Length));
+        };
+        *line = HEADING;
+        (s, Ok(Answer::Line))
     }
 
     // The next AUX field of the dump.
-    pub fn enter(self, aux: &[u8], line: &mut [u8]) -> Entered
+    #[tactic(auto, unfolding(crate::specs::Calls::enter_of))]
+    pub fn enter(self, aux: &[u8], line: &mut [u8]) -> Outcome<Sheet, Answer>
         ensures { entered_said result line.new ≡ enter_of self aux.now line.old }
     {
         if aux.len() != AUX_LENGTH {
-            return self.refuse();
+            return (self, Err(Refusal::Length));
         }
-        if line.len() != LINE_LENGTH {
-            return self.refuse();
-        }
+        let Some(line) = line.as_mut_array() else {
+            return (self, Err(Refusal::Length));
+        };
         if self.ended {
-            return self.silent();
+            return (self, Ok(Answer::Nothing));
         }
         self.step(be16_at(aux, TYPE_AT), be32_at(aux, NUMBER_AT), line)
     }
 
     // The end of the dump: the sheet breaks off unless it has ended.
-    pub fn finish(self, line: &mut [u8]) -> Entered
+    #[tactic(auto, unfolding(crate::specs::Calls::finish_of))]
+    pub fn finish(self, line: &mut [u8]) -> Outcome<Sheet, Answer>
         ensures { entered_said result line.new ≡ finish_of self line.old }
     {
-        if line.len() != LINE_LENGTH {
-            return self.refuse();
-        }
+        let Some(line) = line.as_mut_array() else {
+            return (self, Err(Refusal::Length));
+        };
         if self.ended {
-            return self.silent();
+            return (self, Ok(Answer::Nothing));
         }
         self.break_off(line)
     }

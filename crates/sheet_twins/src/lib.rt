@@ -5,4 +5,4 @@ mod sheet_answers;
 mod sheet_numbers;
 
 pub use sheet_answers::AdrSheetEntered;
-pub use sheet_numbers::{AdrSheet, is_sheet, sheet_of};
+pub use sheet_numbers::AdrSheet;

@@ -2,12 +2,12 @@
 ghost use Rattle.std.specs.Prelude.{◌≡◌};
 ghost use Rattle.sheet.specs.Answer.{answer_said};
 ghost use Rattle.sheet_twins.specs.Sheet.{sheet_twin};
-ghost use Rattle.sheet_twins.specs.Answers.{with_answer, unknown, entered_twin};
+ghost use Rattle.sheet_twins.specs.Answers.{unknown, entered_twin};
 
-use crate::sheet_numbers::{AdrSheet, sheet_twin};
-use geometry::number;
+use crate::sheet_numbers::AdrSheet;
+use geometry::{Outcome, Refusal};
 use numbers::{LINE, NOTHING, REFUSED};
-use sheet::{Answer, Entered};
+use sheet::{Answer, Sheet};
 
 // What a call answers: the lent line, nothing, or refused with a number.
 #[repr(C)]
@@ -18,36 +18,33 @@ pub struct AdrSheetEntered {
     pub number: u8,
 }
 
-impl AdrSheetEntered {
-    // An answer beside the sheet.
-    fn with(s: AdrSheet, answer: u8, number: u8) -> AdrSheetEntered
-        ensures { result ≡ with_answer s answer number }
-    {
+impl From<Outcome<Sheet, Answer>> for AdrSheetEntered {
+    ghost from_gives = { λ e n. n ≡ entered_twin (answer_said e.1) (sheet_twin e.0) };
+
+    fn from(e: Outcome<Sheet, Answer>) -> AdrSheetEntered {
+        let (sheet, answered) = e;
+        let (answer, number) = match answered {
+            Ok(Answer::Nothing) => (NOTHING, 0),
+            Ok(Answer::Line) => (LINE, 0),
+            Err(r) => (REFUSED, r.number()),
+        };
         AdrSheetEntered {
-            sheet: s,
-            answer: answer,
-            number: number,
+            sheet: sheet.into(),
+            answer,
+            number,
         }
     }
+}
 
-    // What a call returned, as numbers.
-    pub fn of(e: Entered) -> AdrSheetEntered
-        ensures { result ≡ entered_twin (answer_said e.answer) (sheet_twin e.sheet) }
-    {
-        let sheet = e.sheet;
-        let answer = e.answer;
-        let s = sheet_twin(sheet);
-        match answer {
-            Answer::Nothing => AdrSheetEntered::with(s, NOTHING, 0),
-            Answer::Line => AdrSheetEntered::with(s, LINE, 0),
-            Answer::Refused(r) => AdrSheetEntered::with(s, REFUSED, number(r)),
-        }
-    }
-
+impl AdrSheetEntered {
     // Numbers that are no sheet's.
     pub fn unknown(s: AdrSheet) -> AdrSheetEntered
         ensures { result ≡ unknown s }
     {
-        AdrSheetEntered::with(s, REFUSED, 7)
+        AdrSheetEntered {
+            sheet: s,
+            answer: REFUSED,
+            number: Refusal::Phase.number(),
+        }
     }
 }

@@ -6,7 +6,3 @@ use Rattle.sheet.specs.Step.{highest_number}
 -- the sheet has ended, or one number is gone
 abbrev pub Onward : Sheet → Sheet → Type 0
 Onward s r = (r.ended ≡ true) ⊎ ((r.next ≡ s.next + 1) × (r.next ≤ highest_number + 1))
-
--- a sheet that could not be written ends there
-abbrev pub Printed : Sheet → Sheet → Type 0
-Printed s r = (r.ended ≡ true) ⊎ (r ≡ s)

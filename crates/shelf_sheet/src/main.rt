@@ -1,12 +1,13 @@
 // Reads a dump of AUX fields, those of the deliveries and of EOD in order, from standard input and prints its shelf sheet.
 #![tactic(auto)]
 
-ghost use Rattle.std.specs.Prelude.{◌≡◌, ◌≤◌, false, length, IfOk};
+ghost use Rattle.std.specs.Prelude.{◌≡◌, ◌≤◌, length, IfOk};
 ghost use Rattle.frame.specs.Lengths.{aux_length};
-ghost use Rattle.shelf_sheet.specs.Onward.{Onward, Printed};
+ghost use Rattle.shelf_sheet.specs.Onward.{Onward};
 
 use frame::AUX_LENGTH;
-use sheet::{Answer, Entered, LINE_LENGTH, Sheet};
+use geometry::Outcome;
+use sheet::{Answer, LINE_LENGTH, Sheet};
 use std::io;
 use std::io::{Input, Read};
 
@@ -14,48 +15,50 @@ use std::io::{Input, Read};
 fn write(rt: &(impl Print + Eprint), line: &[u8]) -> io::Result<()> {
     let written = rt.write_all(line);
     if written.is_err() {
-        let _ = rt.eprint(
-            "shelf_sheet: standard output can't be written and the sheet is not whole: make room or name another file, and print it again\n",
+        let _ = eprintln!(rt;
+            "shelf_sheet: standard output can't be written and the sheet is not whole: make room or name another file, and print it again"
         );
     }
     written
 }
 
-// Prints what an answer tells to print. A sheet that can't be written ends there.
-fn print(rt: &(impl Print + Eprint), r: Entered, line: &[u8]) -> (Sheet, io::Result<()>)
-    ensures { Printed r.sheet result.0 }
+// Prints what a call's answer tells to print, and gives the sheet back.
+fn print(
+    rt: &(impl Print + Eprint),
+    called: Outcome<Sheet, Answer>,
+    line: &[u8],
+) -> io::Result<Sheet>
+    ensures { IfOk result (λ s. s ≡ called.0) }
 {
-    let answer = r.answer;
-    let mut s = r.sheet;
-    let mut written = Ok(());
-    if let Answer::Line = answer {
-        written = write(rt, line);
-        s.ended = s.ended | written.is_err();
+    let (s, answer) = called;
+    if let Ok(Answer::Line) = answer {
+        write(rt, line)?;
     }
-    (s, written)
+    Ok(s)
 }
 
 // A field of the dump.
-fn enter(rt: &(impl Print + Eprint), s: Sheet, aux: &[u8]) -> (Sheet, io::Result<()>)
-    requires ended_value { s.ended ≡ false }
-    requires aux_len { length aux.now ≡ aux_length }
-    ensures { Onward s result.0 }
+#[tactic(auto, using(crate::proofs::Onward::enter_onward))]
+fn enter(rt: &(impl Print + Eprint), s: Sheet, aux: &[u8]) -> io::Result<Sheet>
+    requires { length aux.now ≡ aux_length }
+    ensures { IfOk result (Onward s) }
 {
     let mut line = [0u8; LINE_LENGTH];
-    let r = s.enter(aux, &mut line);
-    print(rt, r, &line)
+    let entered = s.enter(aux, &mut line);
+    print(rt, entered, &line)
 }
 
 // The end of the dump.
-fn finish(rt: &(impl Print + Eprint), s: Sheet) -> (Sheet, io::Result<()>)
-    ensures { Onward s result.0 }
+#[tactic(auto, using(crate::proofs::Onward::finish_onward))]
+fn finish(rt: &(impl Print + Eprint), s: Sheet) -> io::Result<Sheet>
+    ensures { IfOk result (Onward s) }
 {
     let mut line = [0u8; LINE_LENGTH];
-    let r = s.finish(&mut line);
-    print(rt, r, &line)
+    let finished = s.finish(&mut line);
+    print(rt, finished, &line)
 }
 
-// Reads until buf is full or the input ends, and tells how many bytes it put at buf's start.
+// Reads until buf is full or the input ends, and tells how many bytes it put at buf's start, which `read_exact` does not of a field that is cut short.
 fn read_full(reader: &mut impl Read, buf: &mut [u8]) -> io::Result<usize>
     ensures { IfOk result (λ n. n ≤ length buf.new) }
 {
@@ -71,16 +74,15 @@ fn read_full(reader: &mut impl Read, buf: &mut [u8]) -> io::Result<usize>
 }
 
 // What comes next on standard input. Where that can't be read, the sheet ends as at the dump's end.
-fn turn(rt: &(impl Print + Eprint), reader: &mut impl Read, s: Sheet) -> (Sheet, io::Result<()>)
-    requires { s.ended ≡ false }
-    ensures { Onward s result.0 }
+fn turn(rt: &(impl Print + Eprint), reader: &mut impl Read, s: Sheet) -> io::Result<Sheet>
+    ensures { IfOk result (Onward s) }
 {
     let mut aux = [0u8; AUX_LENGTH];
     let n = match read_full(reader, &mut aux) {
         Ok(n) => n,
         Err(e) => {
-            let (ended, written) = finish(rt, s);
-            return (ended, written.and(Err(e)));
+            finish(rt, s)?;
+            return Err(e);
         }
     };
     if n < AUX_LENGTH {
@@ -92,13 +94,10 @@ fn turn(rt: &(impl Print + Eprint), reader: &mut impl Read, s: Sheet) -> (Sheet,
 fn main(rt: HostRuntime) -> io::Result<()> {
     let mut reader = rt.reader();
     let mut line = [0u8; LINE_LENGTH];
-    let r = Sheet::open(&mut line);
-    let (mut s, opened) = print(&rt, r, &line);
-    opened?;
+    let opened = Sheet::open(&mut line);
+    let mut s = print(&rt, opened, &line)?;
     while !s.ended {
-        let (next, written) = turn(&rt, &mut reader, s);
-        written?;
-        s = next;
+        s = turn(&rt, &mut reader, s)?;
     }
     Ok(())
 }

@@ -8,7 +8,7 @@ use Rattle.geometry.proofs.NumberTests.{is_unless}
 use Rattle.drive.specs.Command.{command_code}
 use Rattle.drive.specs.declared.command.Command.{Command}
 use Rattle.drive.specs.declared.reply.Reply.{Reply}
-use Rattle.judgement.specs.declared.told.Told.{Told}
+use Rattle.frame.specs.declared.header.Header.{Header}
 use Rattle.reading_state.specs.Reply as reply
 use Rattle.reading_state.specs.declared.state.State.{State as Reading}
 use Rattle.reading_state.proofs.ReplyView.{TakenIn}
@@ -39,7 +39,7 @@ number_8 reply.filemark e = absurd (omega arith)
 number_8 reply.end e = absurd (omega arith)
 number_8 (reply.refused n) e = ap reply.refused e
 
-module _ {told : Told} {t : Tape} (w : World) (c : Command) (lent : List ℕ) (q : w.flight ≡ readings.sent c) (long : length lent ≡ 33280) where
+module _ {told : Header} {t : Tape} (w : World) (c : Command) (lent : List ℕ) (q : w.flight ≡ readings.sent c) (long : length lent ≡ 33280) where
   agreed_issued : Under told t w.session w.notes.deliveries → Agreed told.last.0 t w.session w.at w.notes.replies (readings.sent c) → Issued w.session lent c
   agreed_issued u (under_way _ a g e o st) = record {
     takes = record { phase = record { running = u.going_on; awaited = a }; long = long };

@@ -23,7 +23,7 @@ use Rattle.frame.specs.declared.trail.Trail.{Trail}
 use Rattle.header.specs.Valid.{update_of, header_of}
 use Rattle.judgement.specs.Judgement as judgement
 use Rattle.judgement.specs.Judgement.{JudgementSaid, ends_from, judge_frame}
-use Rattle.judgement.specs.declared.told.Told.{Told}
+use Rattle.frame.specs.declared.header.Header.{Header}
 use Rattle.judgement.proofs.Facts.{Typed, FoundAs}
 use Rattle.judgement.proofs.JudgeView as view
 use Rattle.judgement.proofs.JudgeView.{JudgeView, judge_view}
@@ -32,9 +32,8 @@ use Rattle.carried_headers.specs.Carried.{is_counted_out, added_to}
 use Rattle.recording_state.specs.State.{OutcomeSaid, accepting}
 use Rattle.recording_state.specs.Open.{setup_of, is_misfit}
 use Rattle.recording_state.specs.declared.state.State.{State}
-use Rattle.recording_state.proofs.Sizes.{Fitting, sizes_fit}
+use Rattle.recording_state.proofs.KeptSizes.{Fitting, sizes_fit}
 use Rattle.reading_state.specs.State.{is_at_end, end_of}
-use Rattle.reading_state.specs.Open.{told_of}
 use Rattle.reading_state.specs.declared.state.State.{State as Reading}
 use Rattle.adding_opening.specs.AtEnd.{ends_elsewhere, added_session, open_at_end_of}
 use Rattle.archive_lists.specs.Tape.{Tape, Cartridge, SameFrames}
@@ -117,7 +116,7 @@ added_clean {end = end} none = record { old = end; old_low = le_refl end; none =
 
 -- ---- at the end of a reading of a tape t, which delivered earlier
 
-module _ (told : Told) (last : ℕ) (t : Tape) (r : Reading) (earlier : List Element) (large : 3000 ≤ last) (last_is : told.last.0 ≡ last) (ended : Ended told t r earlier) where
+module _ (told : Header) (last : ℕ) (t : Tape) (r : Reading) (earlier : List Element) (large : 3000 ≤ last) (last_is : told.last.0 ≡ last) (ended : Ended told t r earlier) where
   abbrev end_at : ℕ
   end_at = (end_of r).0
 
@@ -144,7 +143,7 @@ module _ (told : Told) (last : ℕ) (t : Tape) (r : Reading) (earlier : List Ele
 
   module _ (depth blocks tail : ℕ) (s : State) (v : AddedView r depth blocks tail s) where
     told_update : r.told.update ≡ told.update
-    told_update = ap (λ (x : Told). x.update) ended.told_is
+    told_update = ap (λ (x : Header). x.update) ended.told_is
 
     count_up : (r.told.update + 1) % 2 ^ 32 ≡ r.told.update + 1
     count_up = mod-eq_of_lt (let y = v.counts in omega arith)
@@ -158,8 +157,8 @@ module _ (told : Told) (last : ℕ) (t : Tape) (r : Reading) (earlier : List Ele
       trail = r.trail;
       is = v.is;
       narrow = let y = v.sizes.few in omega arith;
-      last_is = ap (λ (x : Told). x.last.0) ended.told_is ∙ last_is;
-      pass_low = subst (λ (n : ℕ). n ≤ 65534) (sym (ap (λ (x : Told). x.pass) ended.told_is)) low;
+      last_is = ap (λ (x : Header). x.last.0) ended.told_is ∙ last_is;
+      pass_low = subst (λ (n : ℕ). n ≤ 65534) (sym (ap (λ (x : Header). x.pass) ended.told_is)) low;
       eod_zero = refl;
       old_low = end_low;
       count_fits = let y = v.counts in omega (arith, count_up);
@@ -171,7 +170,7 @@ module _ (told : Told) (last : ℕ) (t : Tape) (r : Reading) (earlier : List Ele
     }
 
     pub added_pass : s.copies.header.pass ≡ told.pass
-    added_pass = sym (ap (λ (x : State). x.copies.header.pass) v.is) ∙ ap (λ (x : Told). x.pass) ended.told_is
+    added_pass = sym (ap (λ (x : State). x.copies.header.pass) v.is) ∙ ap (λ (x : Header). x.pass) ended.told_is
 
     -- it goes on from the filemarks that the reading delivered, which are on a tape whose user frames are those that were read
     pub added_traced : last + 65 < 2 ^ 32 → (u : Tape) → Traces earlier (Marked (prior_of last s.copies.header earlier end_at u (SameFrames last t u)) last s.copies.header.pass end_at u) (length earlier) s.elements.trail
@@ -201,14 +200,14 @@ module _ (told : Told) (last : ℕ) (t : Tape) (r : Reading) (earlier : List Ele
         }
 
     -- the header that was read counts less than its own
-    pub added_count : (h : List ℕ) → told ≡ told_of (header_of h) → update_of h < s.copies.header.update
+    pub added_count : (h : List ℕ) → told ≡ (header_of h) → update_of h < s.copies.header.update
     added_count h of_header =
         let is : (r.told.update + 1) % 2 ^ 32 ≡ s.copies.header.update = ap (λ (x : State). x.copies.header.update) v.is in
-        let count : told.update ≡ update_of h = ap (λ (x : Told). x.update) of_header in
+        let count : told.update ≡ update_of h = ap (λ (x : Header). x.update) of_header in
         omega (arith, count_up, is, count, told_update)
 
     -- and so does every valid one that the cartridge holds
-    pub added_below : (h : List ℕ) → told ≡ told_of (header_of h) → (u : Tape) → Newest last u h → Below last s.copies.header u
+    pub added_below : (h : List ℕ) → told ≡ (header_of h) → (u : Tape) → Newest last u h → Below last s.copies.header u
     added_below h of_header u n a f at = inl (omega (arith, n.highest a f at, added_count h of_header))
 
     -- ---- what a reading sees at the start
@@ -216,7 +215,7 @@ module _ (told : Told) (last : ℕ) (t : Tape) (r : Reading) (earlier : List Ele
     ends_is : ends_from told ≡ end_at
     unfolding ends_from
     ends_is =
-        let same : r.told.eod.0 ≡ told.eod.0 = ap (λ (x : Told). x.eod.0) ended.told_is in
+        let same : r.told.eod.0 ≡ told.eod.0 = ap (λ (x : Header). x.eod.0) ended.told_is in
         pick_by (λ (n : ℕ). n ≡ end_at) (eqb told.eod.0 0) (λ z. absurd (v.some_end (same ∙ eqb-true told.eod.0 0 z))) (λ _. sym same ∙ v.named)
 
     -- in the open view all that was delivered is there below the old end

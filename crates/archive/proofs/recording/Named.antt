@@ -13,7 +13,6 @@ use Rattle.frame.specs.Header.{header_frame}
 use Rattle.frame.specs.declared.header.Header.{Header}
 use Rattle.header.specs.Valid.{header_of}
 use Rattle.header.proofs.Facts.{valid_last}
-use Rattle.reading_state.specs.Open.{told_of}
 use Rattle.drive.specs.declared.command.Command.{Command}
 use Rattle.drive.specs.declared.command.Command.TheVariants.{Read, Write, Locate, ReadPosition}
 use Rattle.recording_state.specs.Answer.{command}
@@ -41,7 +40,7 @@ ends_at {last} {pass} {n} h last_is pass_is x = record {
   frame = x.frame;
   user = subst (λ (m : ℕ). is_user m h.eod.0 ≡ true) (sym last_is) x.user;
   reads = x.reads;
-  judged = eod_ends (told_of h) h.eod.0 last_is pass_is x.stands (omega (arith, ends_named h (user_some last h.eod.0 x.user)));
+  judged = eod_ends h h.eod.0 last_is pass_is x.stands (omega (arith, ends_named h (user_some last h.eod.0 x.user)));
 }
 
 -- ---- the header that a fetch gives with a WRITE

@@ -9,7 +9,7 @@ use Rattle.geometry.proofs.PickLaws.{pick_by}
 use Rattle.drive.specs.Senses.{meaning_of, busy}
 use Rattle.drive.specs.declared.command.Command.{Command}
 use Rattle.drive.specs.declared.reply.Reply.{Reply}
-use Rattle.judgement.specs.declared.told.Told.{Told}
+use Rattle.frame.specs.declared.header.Header.{Header}
 use Rattle.reading_state.specs.declared.state.State.{State as Reading}
 use Rattle.archive_lists.specs.Tape.{Tape}
 use Rattle.archive_lists.specs.Readings as readings
@@ -46,7 +46,7 @@ module _ {last : ℕ} {s : Reading} {replies : ℕ} (large : 3000 ≤ last) wher
   answered_few : {t : Tape} {at : ℕ} {r : Reply} {given : Option (List ℕ)} → Agreed last t s at replies (readings.answered r given) → replies + 1 ≤ reply_bound last
   answered_few (served _ _ _ _ v) = served_few v
 
-module _ {told : Told} {t : Tape} (k : ReadTape told t) where
+module _ {told : Header} {t : Tape} (k : ReadTape told t) where
   abbrev Few : World → Type 0
   Few w = w.notes.replies ≤ reply_bound told.last.0
 

@@ -11,7 +11,7 @@ use lib.ListN.{length}
 use Rattle.geometry.proofs.PickLaws.{pick_f}
 use Rattle.geometry.proofs.TestLaws.{neither}
 use Rattle.drive.specs.declared.reply.Reply.{Reply}
-use Rattle.judgement.specs.declared.told.Told.{Told}
+use Rattle.frame.specs.declared.header.Header.{Header}
 use Rattle.reading_state.specs.Fetch as fetch
 use Rattle.reading_state.specs.Reply as reply
 use Rattle.reading_state.specs.declared.state.State.{State as Reading}
@@ -40,7 +40,7 @@ right_length s r frame e a te = go (eqb (length frame) 33280) refl
     go true h = eqb-true (length frame) 33280 h
     go false h = no_effect (omega arith) (omega arith) (subst (λ (x : reply.RepliedSaid). TakesEffect (reply_number x.said)) (short s r frame e a h) te)
 
-module _ {told : Told} {t : Tape} (k : ReadTape told t) where
+module _ {told : Header} {t : Tape} (k : ReadTape told t) where
   reply_flight : (w : World) (r : Reply) (given : Option (List ℕ)) (frame : List ℕ) → w.notes.refused ≡ 0 → w.notes.end ≡ false → Under told t w.session w.notes.deliveries
       → Agreed told.last.0 t w.session w.at w.notes.replies (readings.answered r given) → LentWith given frame → TakesEffect (readings.refusal w.session (readings.replying r frame)) → ReadInv told t (after_reply w r frame)
   reply_flight w r given frame n m u (served r2 given2 a g v) lent te =

@@ -19,7 +19,7 @@ use Rattle.judgement.specs.Judgement.{JudgementSaid, judge_frame}
 use Rattle.geometry.proofs.PastReserved.{past_reserved_least}
 use Rattle.geometry.proofs.UserFrames.{User, user_ranges}
 use Rattle.geometry.proofs.Landing.{past_skips}
-use Rattle.judgement.specs.declared.told.Told.{Told}
+use Rattle.frame.specs.declared.header.Header.{Header}
 use Rattle.archive_lists.specs.Tape.{Tape, Cartridge}
 use Rattle.archive_lists.specs.Recordings.{Element}
 use Rattle.archive_lists.proofs.tape.Basics.{none_some}
@@ -47,14 +47,14 @@ more_counts a (going n got trail) c = (c.0, omega (arith, c.1))
 more_counts a (finished got e) c = tt
 more_counts a (stopped m) c = tt
 
-look_counts : (told : Told) (at a : ℕ) (v : Option (List ℕ)) (r : Reader) → Counts a r → Counts (suc a) (look told at v r)
+look_counts : (told : Header) (at a : ℕ) (v : Option (List ℕ)) (r : Reader) → Counts a r → Counts (suc a) (look told at v r)
 unfolding look
 look_counts told at a none r c = more_counts a r c
 look_counts told at a (some f) (going n got trail) c = advance_counts at a (judge_frame told (record { 0 = at }) (record { 0 = n }) f) f n got trail c
 look_counts told at a (some f) (finished got e) c = tt
 look_counts told at a (some f) (stopped m) c = tt
 
-pub fold_counts : (told : Told) (t : Tape) (a : ℕ) → Counts a (fold_of told t a)
+pub fold_counts : (told : Header) (t : Tape) (a : ℕ) → Counts a (fold_of told t a)
 unfolding fold_of
 fold_counts told t zero = (refl, le_refl 0)
 fold_counts told t (suc a) =
@@ -79,7 +79,7 @@ advance_spread at a l judgement.block f n got trail c = omega arith
 advance_spread at a l judgement.filemark f n got trail c = omega arith
 advance_spread at a l judgement.end f n got trail c = tt
 
-look_spread : (told : Told) (at a : ℕ) → 10 ≤ a → (v : Option (List ℕ)) (r : Reader) → Spread a r → Spread (suc a) (look told at v r)
+look_spread : (told : Header) (at a : ℕ) → 10 ≤ a → (v : Option (List ℕ)) (r : Reader) → Spread a r → Spread (suc a) (look told at v r)
 unfolding look
 look_spread told at a l none r c = more_spread a r c
 look_spread told at a l (some f) (going n got trail) c = advance_spread at a l (judge_frame told (record { 0 = at }) (record { 0 = n }) f) f n got trail c
@@ -89,7 +89,7 @@ look_spread told at a l (some f) (stopped m) c = tt
 user_high : (last a : ℕ) → is_user last a ≡ true → 10 ≤ a
 user_high last a u = ⊎_elim (λ h. h.0) (λ h. let x = h.0 in omega arith) (user_ranges last a u)
 
-pub fold_spread : (told : Told) (t : Tape) (a : ℕ) → Spread a (fold_of told t a)
+pub fold_spread : (told : Header) (t : Tape) (a : ℕ) → Spread a (fold_of told t a)
 unfolding fold_of
 fold_spread told t zero = le_refl 0
 fold_spread told t (suc a) =
@@ -123,18 +123,18 @@ advance_back xs at a judgement.end f n got trail c h =
     let e : length xs ≡ n = ap length (sym h) ∙ c.0 in
     (h ∙ sym (take-length xs) ∙ ap (λ (k : ℕ). take k xs) e, omega arith)
 
-look_back : (told : Told) (xs : List Element) (at a : ℕ) (v : Option (List ℕ)) (r : Reader) → Counts a r → Fits xs (look told at v r) → Fits xs r
+look_back : (told : Header) (xs : List Element) (at a : ℕ) (v : Option (List ℕ)) (r : Reader) → Counts a r → Fits xs (look told at v r) → Fits xs r
 unfolding look
 look_back told xs at a none r c h = h
 look_back told xs at a (some f) (going n got trail) c h = advance_back xs at a (judge_frame told (record { 0 = at }) (record { 0 = n }) f) f n got trail c h
 look_back told xs at a (some f) (finished got e) c h = h
 look_back told xs at a (some f) (stopped m) c h = absurd h
 
-step_back : (told : Told) (t : Tape) (xs : List Element) (a : ℕ) → Fits xs (fold_of told t (suc a)) → Fits xs (fold_of told t a)
+step_back : (told : Header) (t : Tape) (xs : List Element) (a : ℕ) → Fits xs (fold_of told t (suc a)) → Fits xs (fold_of told t a)
 unfolding fold_of
 step_back told t xs a = pick_by (λ (r : Reader). Fits xs r → Fits xs (fold_of told t a)) (is_user told.last.0 a) (λ _ h. look_back told xs a a (t a) (fold_of told t a) (fold_counts told t a) h) (λ _ h. h)
 
-pub fold_back : (told : Told) (t : Tape) (xs : List Element) (a n : ℕ) → Fits xs (fold_of told t (n + a)) → Fits xs (fold_of told t a)
+pub fold_back : (told : Header) (t : Tape) (xs : List Element) (a n : ℕ) → Fits xs (fold_of told t (n + a)) → Fits xs (fold_of told t a)
 fold_back told t xs a zero h = let e : zero + a ≡ a = omega arith in subst (λ (k : ℕ). Fits xs (fold_of told t k)) e h
 fold_back told t xs a (suc n) h =
     let e : suc n + a ≡ suc (n + a) = omega arith in
@@ -142,7 +142,7 @@ fold_back told t xs a (suc n) h =
 
 -- ---- the cartridge that is read, whoever wrote it
 
-pub record ReadTape (told : Told) (t : Tape) : Type 0 where
+pub record ReadTape (told : Header) (t : Tape) : Type 0 where
   pub large : 3000 ≤ told.last.0
   pub small : told.last.0 + 65 < 4294967296
   pub cartridge : Cartridge told.last.0 t
@@ -157,11 +157,11 @@ pub going_finished : {A : Type 0} {n e : ℕ} {got xs : List Element} {trail : T
 going_finished e = never (cc)
 
 -- nothing of the user's is below 10
-pub fold_low : (told : Told) (t : Tape) (a : ℕ) → a ≤ 10 → fold_of told t a ≡ going 0 [] no_trail
+pub fold_low : (told : Header) (t : Tape) (a : ℕ) → a ≤ 10 → fold_of told t a ≡ going 0 [] no_trail
 unfolding fold_of
 fold_low told t a low = fold_none told t 0 a (omega arith) (λ c f l u w _. let high = user_high told.last.0 c w in omega arith)
 
-module _ {told : Told} {t : Tape} (k : ReadTape told t) where
+module _ {told : Header} {t : Tape} (k : ReadTape told t) where
   -- nor from 2,990 to 2,999 or above LAST
   none_between : (c : ℕ) → 2990 ≤ c → c < 3000 → User told.last.0 c → ⊥
   none_between c l h (inl x) = let y = x.1 in omega arith

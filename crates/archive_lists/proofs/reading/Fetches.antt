@@ -15,7 +15,7 @@ use Rattle.drive.specs.Command.{CommandSaid, command_code, command_for, read, lo
 use Rattle.drive.specs.declared.command.Command.{Command}
 use Rattle.drive.specs.declared.command.Command.TheVariants.{Read, Write, Locate, ReadPosition}
 use Rattle.drive.proofs.CaseLaws.{command_by_lem}
-use Rattle.judgement.specs.declared.told.Told.{Told}
+use Rattle.frame.specs.declared.header.Header.{Header}
 use Rattle.reading_state.specs.Fetch as fetch
 use Rattle.reading_state.specs.declared.state.State.{State as Reading}
 use Rattle.reading_state.specs.State.{ended_of}
@@ -38,13 +38,13 @@ pub fetch_awaited : (s : Reading) → s.exchange.awaiting ≡ true → fetch.fet
 unfolding fetch.fetch_of
 fetch_awaited s a = pick_t _ (either_right s.ended _ a)
 
-module _ {told : Told} {t : Tape} (k : ReadTape told t) where
+module _ {told : Header} {t : Tape} (k : ReadTape told t) where
   fetched_as : (w : World) {x : fetch.FetchedSaid} → fetch.fetch_of w.session ≡ x → ReadInv told t (after_fetching w x) → ReadInv told t (after_fetch w)
   fetched_as w e i = subst (λ x. ReadInv told t (after_fetching w x)) (sym e) i
 
   module _ (w : World) (u : Under told t w.session w.notes.deliveries) where
     last_is : w.session.told.last.0 ≡ told.last.0
-    last_is = ap (λ (x : Told). x.last.0) u.told_is
+    last_is = ap (λ (x : Header). x.last.0) u.told_is
 
     sends_again : w.session.exchange.awaiting ≡ false → w.session.exchange.again ≡ true → fetch.fetch_of w.session ≡ fetch.sending w.session w.session.exchange.command
     unfolding fetch.fetch_of

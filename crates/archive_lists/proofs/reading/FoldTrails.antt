@@ -14,7 +14,7 @@ use Rattle.frame.specs.declared.element.Kind.TheVariants.{Marker}
 use Rattle.frame.specs.declared.trail.Trail.{Trail}
 use Rattle.judgement.specs.Judgement as judgement
 use Rattle.judgement.specs.Judgement.{JudgementSaid, judge_frame}
-use Rattle.judgement.specs.declared.told.Told.{Told}
+use Rattle.frame.specs.declared.header.Header.{Header}
 use Rattle.judgement.proofs.JudgeLaws.{found_told}
 use Rattle.judgement.proofs.JudgeView.{JudgeView, judge_view, found_known}
 use Rattle.archive_lists.specs.Tape.{Tape}
@@ -28,7 +28,7 @@ use Rattle.archive_lists.proofs.reading.Facts.{Counts, fold_counts}
 use Rattle.archive_lists.proofs.recording.Trailing.{MarkerBelow, Traces}
 use Rattle.archive_lists.proofs.recording.TrailingLaws.{below_moves, traces_map, traces_alike}
 
-module _ (told : Told) (t : Tape) (small : told.last.0 + 65 < 2 ^ 32) where
+module _ (told : Header) (t : Tape) (small : told.last.0 + 65 < 2 ^ 32) where
   abbrev Below : ℕ → ℕ → ℕ → Type 0
   Below a j b = MarkerBelow told.last.0 told.pass a t j b
 

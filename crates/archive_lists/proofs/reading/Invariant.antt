@@ -13,7 +13,7 @@ use Rattle.drive.specs.Senses.{good, busy, recovered, unreadable, end_of_data, e
 use Rattle.drive.specs.declared.command.Command.{Command}
 use Rattle.drive.specs.declared.command.Command.TheVariants.{Read, Write, Locate, ReadPosition}
 use Rattle.drive.specs.declared.reply.Reply.{Reply}
-use Rattle.judgement.specs.declared.told.Told.{Told}
+use Rattle.frame.specs.declared.header.Header.{Header}
 use Rattle.reading_state.specs.State.{end_of}
 use Rattle.reading_state.specs.declared.state.State.{State as Reading}
 use Rattle.archive_lists.specs.Tape.{Tape}
@@ -25,7 +25,7 @@ use Rattle.archive_lists.specs.Fold.{going, finished, stopped, fold_of, whole_of
 use Rattle.archive_lists.proofs.reading.Bound.{Spent}
 
 -- what was delivered is what the fold has at the next address
-pub record Under (told : Told) (t : Tape) (s : Reading) (got : List Element) : Type 0 where
+pub record Under (told : Header) (t : Tape) (s : Reading) (got : List Element) : Type 0 where
   pub told_is : s.told ≡ told
   pub going_on : s.ended ≡ false
   pub unfinished : s.finished ≡ false
@@ -72,17 +72,17 @@ pub data Agreed (last : ℕ) (t : Tape) (s : Reading) (at replies : ℕ) : Fligh
   served : (r : Reply) (given : Option (List ℕ)) → s.exchange.awaiting ≡ true → s.exchange.again ≡ false → Served last t s at replies r given s.exchange.command → Agreed last t s at replies (readings.answered r given)
 
 -- a reading that was refused: what the fold over the whole tape is
-pub data Halted (told : Told) (t : Tape) (s : Reading) (n : Notes) : Type 0 where
+pub data Halted (told : Header) (t : Tape) (s : Reading) (n : Notes) : Type 0 where
   stops : (n.refused ≡ 10) ⊎ (n.refused ≡ 11) → whole_of told t ≡ stopped n.refused → Halted told t s n
   finds_no_end : n.refused ≡ 12 → whole_of told t ≡ going s.expected.0 n.deliveries s.trail → Halted told t s n
 
 -- a reading at its end: the fold has what was delivered at EOD's address, and ends there
-pub record Ended (told : Told) (t : Tape) (s : Reading) (got : List Element) : Type 0 where
+pub record Ended (told : Header) (t : Tape) (s : Reading) (got : List Element) : Type 0 where
   pub told_is : s.told ≡ told
   pub so_far : fold_of told t (end_of s).0 ≡ going s.expected.0 got s.trail
   pub whole : whole_of told t ≡ finished got (end_of s).0
 
-pub data ReadInv (told : Told) (t : Tape) (w : World) : Type 0 where
+pub data ReadInv (told : Header) (t : Tape) (w : World) : Type 0 where
   under : w.notes.refused ≡ 0 → w.notes.end ≡ false → Under told t w.session w.notes.deliveries
       → Agreed told.last.0 t w.session w.at w.notes.replies w.flight → ReadInv told t w
   over : w.notes.refused ≡ 0 → w.notes.end ≡ true → w.session.finished ≡ true → w.session.ended ≡ false → w.session.exchange.awaiting ≡ false → w.session.exchange.again ≡ false

@@ -5,7 +5,7 @@ use mathlib.Core.Bool.{true, false}
 use mathlib.Core.List.{List}
 use mathlib.Core.Logic.{inl, inr, ⊎_elim}
 use Rattle.geometry.proofs.Impossible.{clash}
-use Rattle.judgement.specs.declared.told.Told.{Told}
+use Rattle.frame.specs.declared.header.Header.{Header}
 use Rattle.archive_lists.specs.Tape.{Tape}
 use Rattle.archive_lists.specs.Recordings.{Element}
 use Rattle.archive_lists.specs.Readings.{World}
@@ -18,7 +18,7 @@ use Rattle.archive_lists.proofs.reading.Steady.{Only12, Steady, steady}
 
 -- ---- how far it has come
 
-module _ {told : Told} {t : Tape} {w : World} where
+module _ {told : Header} {t : Tape} {w : World} where
   pub standing : ReadInv told t w → Standing told t w
   standing (under n m u a) = goes_on n m u.so_far
   standing (over n m f e a g q d b) = at_end n m d.so_far d.whole
@@ -27,7 +27,7 @@ module _ {told : Told} {t : Tape} {w : World} where
 
 -- ---- where the fold ends, every list goes on to that end
 
-module _ {told : Told} {t : Tape} {xs : List Element} {end_at : ℕ} (k : ReadTape told t) (all : whole_of told t ≡ finished xs end_at) where
+module _ {told : Header} {t : Tape} {xs : List Element} {end_at : ℕ} (k : ReadTape told t) (all : whole_of told t ≡ finished xs end_at) where
   faithful : (w : World) → w.notes.replies ≤ reply_bound told.last.0 → ReadInv told t w → Faithful told.last.0 xs w
   faithful w few i = record {
     count = s.count;
@@ -55,16 +55,16 @@ module _ {told : Told} {t : Tape} {xs : List Element} {end_at : ℕ} (k : ReadTa
       complete e (stops _ m _) = clash e m
       complete e (finds_no_end _ m _) = clash e m
 
-pub is_fold : {told : Told} {t : Tape} → ReadTape told t → (w : World) → w.notes.replies ≤ reply_bound told.last.0 → ReadInv told t w → IsFold told t w
+pub is_fold : {told : Header} {t : Tape} → ReadTape told t → (w : World) → w.notes.replies ≤ reply_bound told.last.0 → ReadInv told t w → IsFold told t w
 is_fold k w few i = record { standing = standing i; faithful = λ xs e all. faithful k all w few i }
 
 -- ---- a session that has come to its end
 
-pub record AtEnd (told : Told) (t : Tape) (w : World) : Type 0 where
+pub record AtEnd (told : Header) (t : Tape) (w : World) : Type 0 where
   pub noted : w.notes.end ≡ true
   pub ended : Ended told t w.session w.notes.deliveries
 
-pub at_end_so : {told : Told} {t : Tape} (w : World) → ReadInv told t w → w.session.finished ≡ true → w.session.ended ≡ false → AtEnd told t w
+pub at_end_so : {told : Header} {t : Tape} (w : World) → ReadInv told t w → w.session.finished ≡ true → w.session.ended ≡ false → AtEnd told t w
 at_end_so w (under n m u a) f e = clash f u.unfinished
 at_end_so w (over n m _ _ a g q d b) f e = record { noted = m; ended = d }
 at_end_so w (halted m x q h) f e = clash x e

@@ -22,7 +22,7 @@ use Rattle.drive.specs.declared.command.Command.TheVariants.{Read, Write, Locate
 use Rattle.drive.specs.declared.reply.Reply.{Reply}
 use Rattle.judgement.specs.Judgement as judgement
 use Rattle.judgement.specs.Judgement.{JudgementSaid, judge_frame}
-use Rattle.judgement.specs.declared.told.Told.{Told}
+use Rattle.frame.specs.declared.header.Header.{Header}
 use Rattle.judgement.proofs.JudgeView.{JudgeView, judge_view, refused_known}
 use Rattle.reading_state.specs.Reply as reply
 use Rattle.frame.specs.Trail.{marked}
@@ -54,7 +54,7 @@ land_low large l (before h e) = omega arith
 land_low large l (across h g e) = omega arith
 land_low large l (behind h e) = omega arith
 
-module _ {told : Told} {t : Tape} (k : ReadTape told t) (w : World) (u : Under told t w.session w.notes.deliveries)
+module _ {told : Header} {t : Tape} (k : ReadTape told t) (w : World) (u : Under told t w.session w.notes.deliveries)
     (r : Reply) (frame : List ℕ) (a : w.session.exchange.awaiting ≡ true) (long : length frame ≡ 33280) where
   taken_in : TakenIn w.session frame
   taken_in = record { phase = record { running = u.going_on; awaited = a }; long = long }
@@ -86,7 +86,7 @@ module _ {told : Told} {t : Tape} (k : ReadTape told t) (w : World) (u : Under t
     unfolding reply.reply_by reply.judged_of
     replied_frame means =
         ⊎_elim (λ m. answers e m) (λ m. answers e m) means
-        ∙ ap (λ (x : Told). reply.judged_by (judge_frame x (reply.address_of w.session) w.session.expected frame) w.session) u.told_is
+        ∙ ap (λ (x : Header). reply.judged_by (judge_frame x (reply.address_of w.session) w.session.expected frame) w.session) u.told_is
         ∙ ap (λ (x : Address). reply.judged_by (judge_frame told x w.session.expected frame) w.session) read_here
 
   module _ (n : w.notes.refused ≡ 0) (m : w.notes.end ≡ false) (g : w.session.exchange.again ≡ false) where

@@ -10,7 +10,7 @@ use Rattle.geometry.proofs.UserFrames.{ranges_user}
 use Rattle.drive.specs.declared.command.Command.{Command}
 use Rattle.drive.specs.declared.command.Command.TheVariants.{Locate}
 use Rattle.drive.specs.declared.reply.Reply.{Reply}
-use Rattle.judgement.specs.declared.told.Told.{Told}
+use Rattle.frame.specs.declared.header.Header.{Header}
 use Rattle.reading_state.specs.Open as reading
 use Rattle.reading_state.specs.declared.state.State.{State as Reading}
 use Rattle.archive_lists.specs.Tape.{Tape}
@@ -44,7 +44,7 @@ module _ {last : ℕ} {t : Tape} where
   agreed_serves {s} {next = next} {replies} {r = r} {given} (under_way c a g e o st) v =
       served r given a g (subst (λ x. Served (last) t s next replies r given x) (sym e) (serves_so o st v))
 
-module _ {told : Told} {t : Tape} where
+module _ {told : Header} {t : Tape} where
   pub read_begins : ReadTape told t → (at : ℕ) → ReadInv told t (readings.started (reading.fresh told) at)
   read_begins k at =
       under refl refl (record { told_is = refl; going_on = refl; unfinished = refl; so_far = fold_begins k })

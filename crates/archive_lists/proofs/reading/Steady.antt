@@ -16,7 +16,7 @@ use Rattle.drive.specs.declared.command.Command.{Command}
 use Rattle.drive.specs.declared.reply.Reply.{Reply}
 use Rattle.judgement.specs.Judgement as judgement
 use Rattle.judgement.specs.Judgement.{JudgementSaid, judge_frame}
-use Rattle.judgement.specs.declared.told.Told.{Told}
+use Rattle.frame.specs.declared.header.Header.{Header}
 use Rattle.reading_state.specs.Fetch as fetch
 use Rattle.reading_state.specs.Reply as reply
 use Rattle.reading_state.specs.declared.state.State.{State as Reading}
@@ -36,14 +36,14 @@ use Rattle.archive_lists.proofs.reading.Invariant as invariant
 use Rattle.archive_lists.proofs.reading.Invariant.{Under, Ordered, locates, crosses, reads, Served, located, brought, missed, blank, no_more, waits, Agreed, to_seek, to_read, again, under_way, served, ReadInv, under, over, halted}
 
 -- the fold does not end
-abbrev pub NoEnd : Told → Tape → Type 0
+abbrev pub NoEnd : Header → Tape → Type 0
 NoEnd told t = (xs : List Element) (e : ℕ) → whole_of told t ≡ finished xs e → ⊥
 
 -- a refusal's number, 0 for none: of 8 and above only 12 comes, and only where there is no end
-abbrev pub Only12 : Told → Tape → ℕ → Type 0
+abbrev pub Only12 : Header → Tape → ℕ → Type 0
 Only12 told t n = (n ≡ 0) ⊎ ((n ≡ 12) × NoEnd told t)
 
-pub record Steady (told : Told) (t : Tape) (ys : List Element) (w : World) : Type 0 where
+pub record Steady (told : Header) (t : Tape) (ys : List Element) (w : World) : Type 0 where
   pub count : ℕ
   pub in_order : w.notes.deliveries ≡ take count ys
   pub only_12 : Only12 told t w.notes.refused
@@ -55,7 +55,7 @@ pub record Steady (told : Told) (t : Tape) (ys : List Element) (w : World) : Typ
   pub alone : (w.flight ≡ readings.no_command → ⊥) → readings.refusal w.session readings.fetching ≡ 7
   pub says_again : w.notes.end ≡ true → (fetch.fetch_of w.session).said ≡ fetch.end
 
-module _ {told : Told} {t : Tape} (k : ReadTape told t) (ys : List Element) (all : Fits ys (whole_of told t)) where
+module _ {told : Header} {t : Tape} (k : ReadTape told t) (ys : List Element) (all : Fits ys (whole_of told t)) where
   fits_at : (a : ℕ) → Fits ys (fold_of told t a)
   fits_at a = go (dec_le a (told.last.0 + 1))
     where

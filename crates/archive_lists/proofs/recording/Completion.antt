@@ -211,7 +211,7 @@ reported_rests w (over _ o) reported = absurd (true≢false (sym reported ∙ o.
 pub user_some : (last a : ℕ) → is_user last a ≡ true → a ≡ 0 → ⊥
 user_some last a u z = ⊎_elim (λ h. let x = h.0 in omega arith) (λ h. let x = h.0 in omega arith) (user_ranges last a u)
 
-pub ends_named : (h : Header) → (h.eod.0 ≡ 0 → ⊥) → ends_from (reading.told_of h) ≡ h.eod.0
+pub ends_named : (h : Header) → (h.eod.0 ≡ 0 → ⊥) → ends_from h ≡ h.eod.0
 unfolding ends_from
 ends_named h some = pick_f _ (ne_eqb h.eod.0 0 some)
 

@@ -16,7 +16,6 @@ use Rattle.geometry.proofs.UserFrames.{user_ranges}
 use Rattle.drive.specs.Command.{command_address}
 use Rattle.drive.specs.Cases.{locate_good, locate_busy, write_good, write_busy, write_failed, write_overflow, position_good, position_busy, position_failed}
 use Rattle.drive.specs.Listed.{Means}
-use Rattle.reading_state.specs.Open.{told_of}
 use Rattle.archive_lists.specs.Conduct.{AtRest, Within}
 use Rattle.drive.specs.Senses.{busy}
 use Rattle.archive_lists.specs.Tape.{Tape}
@@ -202,7 +201,7 @@ module _ {last pass : ℕ} {on_newest none_bears : Type 0} {prior : Prior} (w : 
               eod_fits = either_right (eqb (e.course.next.0 - 1) 0) (is_user last (e.course.next.0 - 1)) on_tape.2;
               old_low = omega arith;
               count_fits = let h = l.carried.count_fits in omega (arith, count_up, ap spare_of st);
-              late = inr (subst (λ (n : ℕ). prior.start ≤ n) (sym (from_named (told_of (closing_header stepped)) (user_some last (e.course.next.0 - 1) on_tape.2))) end_late);
+              late = inr (subst (λ (n : ℕ). prior.start ≤ n) (sym (from_named (closing_header stepped) (user_some last (e.course.next.0 - 1) on_tape.2))) end_late);
               newer = omega (arith, l.carried.newer, count_up);
               counts = omega (arith, l.carried.counts, count_up, ap spare_of st);
               unnamed = λ spare. absurd (omega arith);

@@ -12,14 +12,13 @@ use Rattle.frame.specs.Sent.{ReadsAs}
 use Rattle.frame.specs.declared.header.Header.{Header}
 use Rattle.header.specs.Valid.{update_of}
 use Rattle.judgement.specs.Judgement.{ends_from}
-use Rattle.reading_state.specs.Open.{told_of}
 use Rattle.archive_lists.specs.Tape.{Tape}
 use Rattle.archive_lists.specs.Headers.{HeaderAt}
 use Rattle.archive_lists.proofs.recording.Trailing.{Prior}
 
 -- under this header no EOD below that address ends reading
 abbrev pub Late : ℕ → Header → Type 0
-Late start h = (start ≤ 10) ⊎ (start ≤ ends_from (told_of h))
+Late start h = (start ≤ 10) ⊎ (start ≤ ends_from h)
 
 -- what a session's header carries; so many counts are spare
 pub record Carried (last pass : ℕ) (prior : Prior) (spare : ℕ) (h : Header) : Type 0 where

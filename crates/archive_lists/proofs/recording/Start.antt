@@ -37,7 +37,7 @@ use Rattle.carried_headers.specs.Carried.{is_exhausted, renewed, opening_header}
 use Rattle.recording_state.specs.Open.{setup_of, started_at, fresh, open_refused, is_misfit, open_with, open_for, open_of, open_blank_for, open_blank_of}
 use Rattle.recording_state.specs.declared.state.Setup.{Setup}
 use Rattle.recording_state.specs.declared.state.State.{State}
-use Rattle.recording_state.proofs.Sizes.{Fitting, sizes_fit}
+use Rattle.recording_state.proofs.KeptSizes.{Fitting, sizes_fit}
 use Rattle.recording_state.specs.declared.state.Stage.TheVariants as S
 use Rattle.archive_lists.specs.Recordings as recordings
 use Rattle.archive_lists.specs.Recordings.{Element}

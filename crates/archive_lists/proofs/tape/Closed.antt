@@ -18,7 +18,7 @@ use Rattle.geometry.proofs.PickLaws.{pick_f}
 use Rattle.frame.specs.declared.trail.Trail.{Trail}
 use Rattle.judgement.specs.Judgement as judgement
 use Rattle.judgement.specs.Judgement.{ends_from, judge_frame}
-use Rattle.judgement.specs.declared.told.Told.{Told}
+use Rattle.frame.specs.declared.header.Header.{Header}
 use Rattle.archive_lists.specs.Tape.{Tape}
 use Rattle.archive_lists.specs.Recordings.{Element}
 use Rattle.archive_lists.specs.Fold.{Reader, going, finished, stopped, advance, look, fold_of}
@@ -41,7 +41,7 @@ final_going {r = stopped m} f q = never (cc)
 pub user_some : (last a : ℕ) → is_user last a ≡ true → a ≡ 0 → ⊥
 user_some last a u z = ⊎_elim (λ h. let x = h.0 in omega arith) (λ h. let x = h.0 in omega arith) (user_ranges last a u)
 
-pub from_named : (told : Told) → (told.eod.0 ≡ 0 → ⊥) → ends_from told ≡ told.eod.0
+pub from_named : (told : Header) → (told.eod.0 ≡ 0 → ⊥) → ends_from told ≡ told.eod.0
 unfolding ends_from
 from_named told other = pick_f _ (ne_eqb told.eod.0 0 other)
 
@@ -61,7 +61,7 @@ module _ (last pass n : ℕ) (ys : List Element) (t : Tape) (large : 3000 ≤ la
   unfolding look
   refuses j got tr less = ap (λ x. advance x f e j got tr) (stands_above (unending last pass) e refl refl s j less)
 
-  ends_here : (told : Told) → told.last.0 ≡ last → told.pass ≡ pass → told.eod.0 ≡ e → ends_from told ≡ e → (j : ℕ) (got : List Element) (tr : Trail) → (j ≡ n) ⊎ (j ≡ n + 1) → look told e (some f) (going j got tr) ≡ finished got e
+  ends_here : (told : Header) → told.last.0 ≡ last → told.pass ≡ pass → told.eod.0 ≡ e → ends_from told ≡ e → (j : ℕ) (got : List Element) (tr : Trail) → (j ≡ n) ⊎ (j ≡ n + 1) → look told e (some f) (going j got tr) ≡ finished got e
   unfolding look
   ends_here told last_is pass_is eod_is from j got tr at = ap (λ x. advance x f e j got tr) (judged at)
     where

@@ -17,7 +17,7 @@ use Rattle.frame.specs.declared.element.Kind.TheVariants.{Data, Marker, Eod}
 use Rattle.frame.specs.declared.trail.Trail.{Trail}
 use Rattle.judgement.specs.Judgement as judgement
 use Rattle.judgement.specs.Judgement.{JudgementSaid, found_said, ends_from, is_earlier_end, judge_frame}
-use Rattle.judgement.specs.declared.told.Told.{Told}
+use Rattle.frame.specs.declared.header.Header.{Header}
 use Rattle.judgement.proofs.Facts.{Typed, FoundAs}
 use Rattle.judgement.proofs.JudgeLaws.{above_so, found_so}
 use Rattle.judgement.proofs.JudgeView.{JudgeView, judge_view, end_known}
@@ -27,7 +27,7 @@ use Rattle.archive_lists.specs.Fold.{Reader, going, finished, stopped, advance, 
 use Rattle.archive_lists.proofs.tape.FoldLaws.{fold_user, fold_final}
 use Rattle.archive_lists.proofs.reading.Facts.{Fits, fold_back}
 
-pub record EndsHere (told : Told) (t : Tape) (got : List Element) (e : ℕ) : Type 0 where
+pub record EndsHere (told : Header) (t : Tape) (got : List Element) (e : ℕ) : Type 0 where
   pub number : ℕ
   pub trail : Trail
   pub frame : List ℕ
@@ -36,7 +36,7 @@ pub record EndsHere (told : Told) (t : Tape) (got : List Element) (e : ℕ) : Ty
   pub reads : t e ≡ some frame
   pub judged : judge_frame told (record { 0 = e }) (record { 0 = number }) frame ≡ judgement.end
 
-module _ (told : Told) (t : Tape) (got : List Element) (e : ℕ) where
+module _ (told : Header) (t : Tape) (got : List Element) (e : ℕ) where
   advanced : (a : ℕ) (f : List ℕ) (n : ℕ) (g : List Element) (tr : Trail) → is_user told.last.0 a ≡ true → t a ≡ some f → fold_of told t a ≡ going n g tr
       → (j : JudgementSaid) → judge_frame told (record { 0 = a }) (record { 0 = n }) f ≡ j → advance j f a n g tr ≡ finished got e → EndsHere told t got e
   advanced a f n g tr u v r judgement.passed_over j q = never (cc)
@@ -62,14 +62,14 @@ module _ (told : Told) (t : Tape) (got : List Element) (e : ℕ) where
       pick_by (λ (x : Reader). x ≡ finished got e → EndsHere told t got e) (is_user told.last.0 a) (λ u q. looked a (fold_ended a) u (t a) refl (fold_of told t a) refl q) (λ _ q. fold_ended a q)
 
 -- the EOD that ends it, from where EODs end reading on
-pub ends_known : {told : Told} {t : Tape} {got : List Element} {e : ℕ} (x : EndsHere told t got e) → Typed told Eod x.frame × (get32 (drop 32768 x.frame) 44 ≤ x.number) × (ends_from told ≤ e)
+pub ends_known : {told : Header} {t : Tape} {got : List Element} {e : ℕ} (x : EndsHere told t got e) → Typed told Eod x.frame × (get32 (drop 32768 x.frame) 44 ≤ x.number) × (ends_from told ≤ e)
 ends_known {told} {e = e} x =
     let y = end_known (subst (JudgeView told (record { 0 = e }) (record { 0 = x.number }) x.frame) x.judged (judge_view told (record { 0 = e }) (record { 0 = x.number }) x.frame)) in
     (y.0, y.1, ltb-false e (ends_from told) y.2)
 
 -- ---- where the fold over the whole tape has ended
 
-module _ (told : Told) (t : Tape) (xs : List Element) (e : ℕ) (ends : whole_of told t ≡ finished xs e) where
+module _ (told : Header) (t : Tape) (xs : List Element) (e : ℕ) (ends : whole_of told t ≡ finished xs e) where
   fits_at : (a : ℕ) → a ≤ told.last.0 + 1 → Fits xs (fold_of told t a)
   fits_at a l =
       let n : told.last.0 + 1 ≡ told.last.0 + 1 - a + a = omega arith in

@@ -18,7 +18,7 @@ use Rattle.frame.specs.declared.element.Kind.TheVariants.{Eod}
 use Rattle.frame.specs.declared.trail.Trail.{Trail}
 use Rattle.judgement.specs.Judgement.{passed_over, ends_from, judge_frame}
 use Rattle.judgement.proofs.JudgeLaws.{unnamed, judge_alike}
-use Rattle.judgement.specs.declared.told.Told.{Told}
+use Rattle.frame.specs.declared.header.Header.{Header}
 use Rattle.archive_lists.specs.Tape.{Tape, SameFrames, put}
 use Rattle.archive_lists.specs.Recordings.{Element, filemark}
 use Rattle.archive_lists.specs.Fold.{Reader, going, finished, stopped, advance, look, fold_of}
@@ -41,22 +41,22 @@ put_other t a v b h = pick_f _ (ne_eqb b a h)
 -- ---- one address
 
 -- a frame that is passed over
-pub look_passed : (told : Told) (a : ℕ) (f : List ℕ) (n : ℕ) (got : List Element) (trail : Trail) → judge_frame told (record { 0 = a }) (record { 0 = n }) f ≡ passed_over → look told a (some f) (going n got trail) ≡ going n got trail
+pub look_passed : (told : Header) (a : ℕ) (f : List ℕ) (n : ℕ) (got : List Element) (trail : Trail) → judge_frame told (record { 0 = a }) (record { 0 = n }) f ≡ passed_over → look told a (some f) (going n got trail) ≡ going n got trail
 unfolding look
 look_passed told a f n got trail e = ap (λ j. advance j f a n got trail) e
 
 -- nothing that reads
-pub look_none : (told : Told) (a : ℕ) (v : Option (List ℕ)) (r : Reader) → ((f : List ℕ) → v ≡ some f → ⊥) → look told a v r ≡ r
+pub look_none : (told : Header) (a : ℕ) (v : Option (List ℕ)) (r : Reader) → ((f : List ℕ) → v ≡ some f → ⊥) → look told a v r ≡ r
 unfolding look
 look_none told a none r h = refl
 look_none told a (some f) r h = absurd (h f refl)
 
 -- whatever reads is passed over
-pub look_quiet : (told : Told) (a : ℕ) (v : Option (List ℕ)) (xs : List Element) (m : ℕ) {r : Reader} → ((f : List ℕ) → v ≡ some f → judge_frame told (record { 0 = a }) (record { 0 = m }) f ≡ passed_over) → Has xs m r → Has xs m (look told a v r)
+pub look_quiet : (told : Header) (a : ℕ) (v : Option (List ℕ)) (xs : List Element) (m : ℕ) {r : Reader} → ((f : List ℕ) → v ≡ some f → judge_frame told (record { 0 = a }) (record { 0 = m }) f ≡ passed_over) → Has xs m r → Has xs m (look told a v r)
 look_quiet told a none xs m {r} h x = subst (Has xs m) (sym (look_none told a none r (λ f e. none_some e))) x
 look_quiet told a (some f) xs m h (has trail e) = has trail (ap (look told a (some f)) e ∙ look_passed told a f m (take m xs) trail (h f refl))
 
-module _ {last pass : ℕ} (told : Told) (a : ℕ) (last_is : told.last.0 ≡ last) (pass_is : told.pass ≡ pass) (xs : List Element) (k : ℕ) (f : List ℕ) (s : Stands last pass (item_at xs k) k f) {r : Reader} where
+module _ {last pass : ℕ} (told : Header) (a : ℕ) (last_is : told.last.0 ≡ last) (pass_is : told.pass ≡ pass) (xs : List Element) (k : ℕ) (f : List ℕ) (s : Stands last pass (item_at xs k) k f) {r : Reader} where
   -- the next element is delivered
   pub look_next : k < length xs → Has xs k r → Has xs (k + 1) (look told a (some f) r)
   unfolding look
@@ -74,7 +74,7 @@ module _ {last pass : ℕ} (told : Told) (a : ℕ) (last_is : told.last.0 ≡ la
   look_again early n h x = look_quiet told a (some f) xs n (λ g e. subst (λ (y : List ℕ). judge_frame told (record { 0 = a }) (record { 0 = n }) y ≡ passed_over) (some_same e) (stands_below told a last_is pass_is s (unnamed told (record { 0 = a }) early (kind_for (item_at xs k))) n h)) x
 
 -- EOD with the next number or one below, where it does not end reading
-pub look_eod : {last pass : ℕ} (told : Told) (a : ℕ) → told.last.0 ≡ last → told.pass ≡ pass → (xs : List Element) (k m : ℕ) (f : List ℕ) → Stands last pass eod k f → {r : Reader} → a < ends_from told → (k ≡ m) ⊎ (k < m) → Has xs m r → Has xs m (look told a (some f) r)
+pub look_eod : {last pass : ℕ} (told : Header) (a : ℕ) → told.last.0 ≡ last → told.pass ≡ pass → (xs : List Element) (k m : ℕ) (f : List ℕ) → Stands last pass eod k f → {r : Reader} → a < ends_from told → (k ≡ m) ⊎ (k < m) → Has xs m r → Has xs m (look told a (some f) r)
 look_eod told a last_is pass_is xs k m f s early at x =
     look_quiet told a (some f) xs m (λ g e. subst (λ (y : List ℕ). judge_frame told (record { 0 = a }) (record { 0 = m }) y ≡ passed_over) (some_same e) (passed at)) x
   where
@@ -84,7 +84,7 @@ look_eod told a last_is pass_is xs k m f s early at x =
 
 -- ---- the fold
 
-pub fold_user : (told : Told) (t : Tape) (a : ℕ) → is_user told.last.0 a ≡ true → fold_of told t (a + 1) ≡ look told a (t a) (fold_of told t a)
+pub fold_user : (told : Header) (t : Tape) (a : ℕ) → is_user told.last.0 a ≡ true → fold_of told t (a + 1) ≡ look told a (t a) (fold_of told t a)
 unfolding fold_of
 fold_user told t a u = ap (fold_of told t) (add-one a) ∙ pick_t _ u
 
@@ -94,14 +94,14 @@ Final (going n got trail) = ⊥
 Final (finished got e) = Unit {0}
 Final (stopped m) = Unit {0}
 
-look_final : (told : Told) (a : ℕ) (v : Option (List ℕ)) (r : Reader) → Final r → look told a v r ≡ r
+look_final : (told : Header) (a : ℕ) (v : Option (List ℕ)) (r : Reader) → Final r → look told a v r ≡ r
 unfolding look
 look_final told a none r h = refl
 look_final told a (some f) (going n got trail) h = absurd h
 look_final told a (some f) (finished got e) h = refl
 look_final told a (some f) (stopped m) h = refl
 
-fold_final_by : (told : Told) (t : Tape) (a n : ℕ) {r : Reader} → Final r → fold_of told t a ≡ r → fold_of told t (n + a) ≡ r
+fold_final_by : (told : Header) (t : Tape) (a n : ℕ) {r : Reader} → Final r → fold_of told t a ≡ r → fold_of told t (n + a) ≡ r
 unfolding fold_of
 fold_final_by told t a zero h e = let z : zero + a ≡ a = omega arith in ap (fold_of told t) z ∙ e
 fold_final_by told t a (suc n) {r} h e =
@@ -110,17 +110,17 @@ fold_final_by told t a (suc n) {r} h e =
     ap (fold_of told t) z
     ∙ pick_by (λ (x : Reader). x ≡ r) (is_user told.last.0 (n + a)) (λ _. ap (look told (n + a) (t (n + a))) before ∙ look_final told (n + a) (t (n + a)) r h) (λ _. before)
 
-pub fold_final : (told : Told) (t : Tape) (a b : ℕ) {r : Reader} → a ≤ b → Final r → fold_of told t a ≡ r → fold_of told t b ≡ r
+pub fold_final : (told : Header) (t : Tape) (a b : ℕ) {r : Reader} → a ≤ b → Final r → fold_of told t a ≡ r → fold_of told t b ≡ r
 fold_final told t a b l h e = let z : b ≡ b - a + a = omega arith in ap (fold_of told t) z ∙ fold_final_by told t a (b - a) h e
 
 -- an address above changes nothing
-pub fold_put : (told : Told) (t : Tape) (a : ℕ) (v : Option (List ℕ)) (b : ℕ) → b ≤ a → fold_of told (put t a v) b ≡ fold_of told t b
+pub fold_put : (told : Header) (t : Tape) (a : ℕ) (v : Option (List ℕ)) (b : ℕ) → b ≤ a → fold_of told (put t a v) b ≡ fold_of told t b
 unfolding fold_of
 fold_put told t a v zero h = refl
 fold_put told t a v (suc b) h = rw (put_other t a v b (λ e. omega arith), fold_put told t a v b (omega arith))
 
 -- user frames that read alike are read alike
-pub fold_users : (told : Told) (t u : Tape) → SameFrames told.last.0 t u → (b : ℕ) → fold_of told t b ≡ fold_of told u b
+pub fold_users : (told : Header) (t u : Tape) → SameFrames told.last.0 t u → (b : ℕ) → fold_of told t b ≡ fold_of told u b
 unfolding fold_of
 fold_users told t u same zero = refl
 fold_users told t u same (suc b) = go (fold_users told t u same b) (is_user told.last.0 b) refl
@@ -130,14 +130,14 @@ fold_users told t u same (suc b) = go (fold_users told t u same b) (is_user told
     go rest false e = pick_f _ e ∙ rest ∙ sym (pick_f _ e)
 
 -- an address that is no user frame changes nothing
-pub fold_put_other : (told : Told) (t : Tape) (a : ℕ) (v : Option (List ℕ)) → is_user told.last.0 a ≡ false → (b : ℕ) → fold_of told (put t a v) b ≡ fold_of told t b
+pub fold_put_other : (told : Header) (t : Tape) (a : ℕ) (v : Option (List ℕ)) → is_user told.last.0 a ≡ false → (b : ℕ) → fold_of told (put t a v) b ≡ fold_of told t b
 fold_put_other told t a v u = fold_users told (put t a v) t (λ b w. put_other t a v b (λ e. true≢false (sym w ∙ ap (is_user told.last.0) e ∙ u)))
 
-pub fold_put_at : (told : Told) (t : Tape) (a : ℕ) (v : Option (List ℕ)) → is_user told.last.0 a ≡ true → fold_of told (put t a v) (a + 1) ≡ look told a v (fold_of told t a)
+pub fold_put_at : (told : Header) (t : Tape) (a : ℕ) (v : Option (List ℕ)) → is_user told.last.0 a ≡ true → fold_of told (put t a v) (a + 1) ≡ look told a v (fold_of told t a)
 fold_put_at told t a v u = fold_user told (put t a v) a u ∙ rw (put_same t a v, fold_put told t a v a (le_refl a))
 
 -- addresses at which nothing reads are passed over
-module _ (told : Told) (t : Tape) where
+module _ (told : Header) (t : Tape) where
   fold_none_by : (a n : ℕ) → ((b : ℕ) (f : List ℕ) → a ≤ b → b < n + a → is_user told.last.0 b ≡ true → t b ≡ some f → ⊥) → fold_of told t (n + a) ≡ fold_of told t a
   unfolding fold_of
   fold_none_by a zero h = let e : zero + a ≡ a = omega arith in rw e
@@ -173,7 +173,7 @@ module _ (told : Told) (t : Tape) where
 
 -- ---- what is told counts only by LAST and by the pass, below where EODs end reading
 
-module _ (one two : Told) (same_last : one.last.0 ≡ two.last.0) (same_pass : one.pass ≡ two.pass) (t : Tape) where
+module _ (one two : Header) (same_last : one.last.0 ≡ two.last.0) (same_pass : one.pass ≡ two.pass) (t : Tape) where
   look_alike : (a : ℕ) → a < ends_from one → a < ends_from two → (v : Option (List ℕ)) (r : Reader) → look one a v r ≡ look two a v r
   unfolding look
   look_alike a early_one early_two none r = refl

@@ -9,7 +9,7 @@ use lib.ListN.{length, take}
 use Rattle.geometry.specs.Cartridge.{is_user}
 use Rattle.frame.specs.declared.trail.Trail.{Trail}
 use Rattle.judgement.specs.Judgement.{passed_over, judge_frame}
-use Rattle.judgement.specs.declared.told.Told.{Told}
+use Rattle.frame.specs.declared.header.Header.{Header}
 use Rattle.archive_lists.specs.Tape.{Tape, Bears}
 use Rattle.archive_lists.specs.Fold.{Reader, going, finished, fold_of, whole_of}
 use Rattle.archive_lists.specs.Recordings.{Element}
@@ -52,4 +52,4 @@ pub record Seen (last pass : ℕ) (ps xs : List Element) (k edge : ℕ) (t : Tap
 
 -- what a done recording leaves and a reading needs, on a header that names e
 abbrev pub Recorded : ℕ → ℕ → Tape → List Element → ℕ → Type 0
-Recorded last pass t xs e = (told : Told) → told.last.0 ≡ last → told.pass ≡ pass → told.eod.0 ≡ e → whole_of told t ≡ finished xs e
+Recorded last pass t xs e = (told : Header) → told.last.0 ≡ last → told.pass ≡ pass → told.eod.0 ≡ e → whole_of told t ≡ finished xs e

@@ -5,7 +5,7 @@ use mathlib.Core.Bool.{Bool, true, false}
 use mathlib.Core.List.{List, [], ◌∷◌}
 use lib.ListN.{get_or, take}
 use Rattle.judgement.proofs.Facts.{FoundAs}
-use Rattle.judgement.specs.declared.told.Told.{Told}
+use Rattle.frame.specs.declared.header.Header.{Header}
 use Rattle.recording_state.specs.Window.{block_at}
 use Rattle.archive_lists.specs.Recordings.{Element, block, filemark}
 use Rattle.archive_lists.specs.Filemarks.{Item, element, eod, item_at, kind_for}
@@ -16,11 +16,11 @@ Carries (element filemark) f = Unit {0}
 Carries eod f = Unit {0}
 
 -- what a header of this LAST and pass tells under which an EOD ends reading from an address on
-abbrev pub telling : ℕ → ℕ → ℕ → Told
+abbrev pub telling : ℕ → ℕ → ℕ → Header
 telling last pass from = record { last = record { 0 = last }; pass = pass; eod = record { 0 = from }; old = record { 0 = 0 }; update = 0 }
 
 -- the open view: no EOD ends reading
-abbrev pub unending : ℕ → ℕ → Told
+abbrev pub unending : ℕ → ℕ → Header
 unending last pass = telling last pass (last + 1)
 
 -- a frame, sent or read, that stands for item number i

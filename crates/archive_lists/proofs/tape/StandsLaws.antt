@@ -14,7 +14,7 @@ use Rattle.frame.specs.declared.trail.Trail.{Trail}
 use Rattle.frame.specs.Sent.{ReadsAs}
 use Rattle.frame.proofs.AsSent.{data_as_sent}
 use Rattle.judgement.specs.Judgement.{passed_over, refused, end, found_said, ends_from, is_earlier_end, is_named_end, judge_frame}
-use Rattle.judgement.specs.declared.told.Told.{Told}
+use Rattle.frame.specs.declared.header.Header.{Header}
 use Rattle.judgement.proofs.Facts.{FoundAs}
 use Rattle.judgement.proofs.JudgeLaws.{below_so, one_below_so, above_so, earlier_so, found_so, found_told}
 use Rattle.judgement.proofs.Unread.{found_as_sent}
@@ -78,7 +78,7 @@ unfolding ends_from
 ends_telling last pass from = pick_by (λ (n : ℕ). n ≡ from) (eqb from 0) (λ e. sym (eqb-true from 0 e)) (λ _. refl)
 
 -- under whatever a header of this LAST and pass tells
-module _ {last pass i : ℕ} {x : Item} {f : List ℕ} (told : Told) (a : ℕ) (last_is : told.last.0 ≡ last) (pass_is : told.pass ≡ pass) (s : Stands last pass x i f) where
+module _ {last pass i : ℕ} {x : Item} {f : List ℕ} (told : Header) (a : ℕ) (last_is : told.last.0 ≡ last) (pass_is : told.pass ≡ pass) (s : Stands last pass x i f) where
   found_here : FoundAs told (record { 0 = i }) (kind_for x) f
   found_here = found_told (telling last pass 0) told (sym last_is) (sym pass_is) s.found
 
@@ -93,7 +93,7 @@ module _ {last pass i : ℕ} {x : Item} {f : List ℕ} (told : Told) (a : ℕ) (
   stands_found late = found_so told (record { 0 = a }) (record { 0 = i }) f (kind_for x) late found_here
 
 -- an EOD below where EODs end reading, and from there on
-module _ {last pass i : ℕ} {f : List ℕ} (told : Told) (a : ℕ) (last_is : told.last.0 ≡ last) (pass_is : told.pass ≡ pass) (s : Stands last pass eod i f) where
+module _ {last pass i : ℕ} {f : List ℕ} (told : Header) (a : ℕ) (last_is : told.last.0 ≡ last) (pass_is : told.pass ≡ pass) (s : Stands last pass eod i f) where
   pub eod_passed : a < ends_from told → judge_frame told (record { 0 = a }) (record { 0 = i }) f ≡ passed_over
   eod_passed h = let x = found_here told a last_is pass_is s in earlier_so told (record { 0 = a }) (record { 0 = i }) f x.typed x.number h
 
@@ -105,7 +105,7 @@ module _ {last pass i : ℕ} {f : List ℕ} (told : Told) (a : ℕ) (last_is : t
   eod_one_below some here = one_below_so told (record { 0 = a }) (record { 0 = i + 1 }) f some here (record { 0 = i }) refl (found_here told a last_is pass_is s)
 
 -- an element is never an earlier end
-pub element_late : (x : Element) (told : Told) (a : Address) → is_earlier_end (kind_for (element x)) told a ≡ false
+pub element_late : (x : Element) (told : Header) (a : Address) → is_earlier_end (kind_for (element x)) told a ≡ false
 element_late (block b) told a = refl
 element_late filemark told a = refl
 
