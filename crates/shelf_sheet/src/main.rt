@@ -22,40 +22,42 @@ fn write(rt: &(impl Print + Eprint), line: &[u8]) -> io::Result<()> {
     written
 }
 
-// Prints what a call's answer tells to print, and gives the sheet back.
+// Takes the sheet that a call gave, and prints what its answer tells to print.
 fn print(
     rt: &(impl Print + Eprint),
+    s: &mut Sheet,
     called: Outcome<Sheet, Answer>,
     line: &[u8],
-) -> io::Result<Sheet>
-    ensures { IfOk result (λ s. s ≡ called.0) }
+) -> io::Result<()>
+    ensures { s.new ≡ called.0 }
 {
-    let (s, answer) = called;
+    let (after, answer) = called;
+    *s = after;
     if let Ok(Answer::Line) = answer {
         write(rt, line)?;
     }
-    Ok(s)
+    Ok(())
 }
 
 // A field of the dump.
 #[tactic(auto, using(crate::proofs::Onward::enter_onward))]
-fn enter(rt: &(impl Print + Eprint), s: Sheet, aux: &[u8]) -> io::Result<Sheet>
+fn enter(rt: &(impl Print + Eprint), s: &mut Sheet, aux: &[u8]) -> io::Result<()>
     requires { length aux.now ≡ aux_length }
-    ensures { IfOk result (Onward s) }
+    ensures { Onward s.old s.new }
 {
     let mut line = [0u8; LINE_LENGTH];
     let entered = s.enter(aux, &mut line);
-    print(rt, entered, &line)
+    print(rt, s, entered, &line)
 }
 
 // The end of the dump.
 #[tactic(auto, using(crate::proofs::Onward::finish_onward))]
-fn finish(rt: &(impl Print + Eprint), s: Sheet) -> io::Result<Sheet>
-    ensures { IfOk result (Onward s) }
+fn finish(rt: &(impl Print + Eprint), s: &mut Sheet) -> io::Result<()>
+    ensures { Onward s.old s.new }
 {
     let mut line = [0u8; LINE_LENGTH];
     let finished = s.finish(&mut line);
-    print(rt, finished, &line)
+    print(rt, s, finished, &line)
 }
 
 // Reads until buf is full or the input ends, and tells how many bytes it put at buf's start, which `read_exact` does not of a field that is cut short.
@@ -73,9 +75,10 @@ fn read_full(reader: &mut impl Read, buf: &mut [u8]) -> io::Result<usize>
     Ok(done)
 }
 
-// What comes next on standard input. Where that can't be read, the sheet ends as at the dump's end.
-fn turn(rt: &(impl Print + Eprint), reader: &mut impl Read, s: Sheet) -> io::Result<Sheet>
-    ensures { IfOk result (Onward s) }
+// What comes next on standard input. Where that can't be read, the sheet ends as at the dump's end. What is promised of the sheet holds beside an
+// error, too.
+fn turn(rt: &(impl Print + Eprint), reader: &mut impl Read, s: &mut Sheet) -> io::Result<()>
+    ensures { Onward s.old s.new }
 {
     let mut aux = [0u8; AUX_LENGTH];
     let n = match read_full(reader, &mut aux) {
@@ -95,9 +98,10 @@ fn main(rt: HostRuntime) -> io::Result<()> {
     let mut reader = rt.reader();
     let mut line = [0u8; LINE_LENGTH];
     let opened = Sheet::open(&mut line);
-    let mut s = print(&rt, opened, &line)?;
+    let (mut s, _) = opened;
+    print(&rt, &mut s, opened, &line)?;
     while !s.ended {
-        s = turn(&rt, &mut reader, s)?;
+        turn(&rt, &mut reader, &mut s)?;
     }
     Ok(())
 }
