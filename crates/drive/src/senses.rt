@@ -103,8 +103,10 @@ impl Reply {
         s.key == self.key && s.asc == self.asc && s.ascq == self.ascq
     }
 
-    // The meaning of its triple: that of the first entry of the table which has it, or `OTHER`.
+    // The meaning of its triple: that of the first entry of the table which has it, or `OTHER`. In line: of a reply from C it is asked
+    // twice, for the skip and for the match, and then looked up once.
     #[tactic(auto, unfolding(crate::specs::Senses::meaning_in), using(crate::proofs::SenseLaws::meaning_step))]
+    #[inline(always)]
     pub fn meaning(self) -> u8
         ensures { result ≡ meaning_of self.key self.asc self.ascq }
     {

@@ -42,8 +42,8 @@ impl Queue {
     }
 
     // Where it is told whether the element n behind the oldest is a filemark.
-    fn mark_place(self, n: u16) -> usize
-        ensures { result ≡ mark_place self.first n }
+    fn mark_place(&self, n: u16) -> usize
+        ensures { result ≡ mark_place self.now.first n }
     {
         ((self.first.0 % (MARKS as u32) + (n as u32)) % (MARKS as u32)) as usize
     }
@@ -58,9 +58,10 @@ impl Queue {
         self
     }
 
-    // Whether the element n behind the oldest is a filemark.
-    pub(crate) fn is_mark(self, n: u16) -> bool
-        ensures { result ≡ mark_at self n }
+    // Whether the element n behind the oldest is a filemark. The queue is lent: `trail_after` asks for each element in turn, and would copy all marks
+    // for each.
+    pub(crate) fn is_mark(&self, n: u16) -> bool
+        ensures { result ≡ mark_at self.now n }
     {
         self.marks[self.mark_place(n)]
     }

@@ -127,6 +127,8 @@ impl TryFrom<AdrReading> for State {
 
     ghost try_from_gives = { λ n r. r ≡ checked_reading n };
 
+    // In line: every call on a session from C goes through it, and would copy the session into the result and out of it.
+    #[inline(always)]
     fn try_from(n: AdrReading) -> Result<State, Refusal> {
         if !n.is_reading() {
             return Err(Refusal::Phase);

@@ -147,10 +147,11 @@ impl Sheet {
             next: 0,
             ended: false,
         };
-        let Some(line) = line.as_mut_array() else {
+        let Some(line) = line.as_mut_array::<LINE_LENGTH>() else {
             return (s.end(), Err(Refusal::Length));
         };
-        *line = HEADING;
+        // Assigned, it would be stored in a dozen pieces.
+        line.copy_from_slice(&HEADING);
         (s, Ok(Answer::Line))
     }
 
