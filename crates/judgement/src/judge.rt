@@ -94,6 +94,7 @@ fn judge_number(
 }
 
 // A frame of the right length: one that is no element of this pass is passed over.
+#[tactic(auto, using(crate::proofs::Cases::judged))]
 fn judge_aux(told: Header, at: Address, expected: Seq, aux: &[u8]) -> Result<Option<Kind>, Refusal>
     requires { length aux.now ≡ aux_length }
     ensures { judgement_said result ≡ judge_aux told at expected aux.now }
